@@ -1,0 +1,5 @@
+pub mod Loop
+pub mod Region
+pub mod Vector
+pub mod Each
+pub mod Turns

@@ -1,0 +1,3 @@
+pub mod Loop
+pub mod Region
+pub mod Vector
