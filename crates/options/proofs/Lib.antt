@@ -1,0 +1,2 @@
+mod Refusal
+pub mod Outcome

@@ -1,0 +1,5 @@
+pub mod Refusal
+pub mod Outcome
+pub mod Options
+pub mod Solver
+pub mod Sweeps

@@ -1,0 +1,72 @@
+-- The controls' defaults and ranges, and the two questions on them (options.rs). Definitions only.
+use mathlib.Core.Bool.{Bool, true, false, not, _&&_}
+use Prim.Native.Nat.{ℕ, _^_}
+use lib.Dec.{leb}
+use lib.Ieee.{Float, binary64, ofBits, round, lt}
+use Rattle.float.specs.Float.{isFinite}
+use Rattle.options.specs.declared.MultigridSmoother.{MultigridSmoother}
+use Rattle.options.specs.declared.MultigridResidualNorm.{MultigridResidualNorm}
+use Rattle.options.specs.declared.MultigridCoarseSolver.{MultigridCoarseSolver}
+use Rattle.options.specs.declared.MultigridOptions.{MultigridOptions}
+use Rattle.options.specs.declared.questions.Refusal.{Refusal}
+use Rattle.options.specs.Outcome.{Outcome, passed, ask, _>>_}
+
+-- the f64 nearest to n / d
+abbrev pub ratio : ℕ → ℕ → Float
+ratio n d = round binary64 false n d
+
+-- `Default` of options.rs
+unfoldable pub defaultOptions : MultigridOptions
+defaultOptions = record {
+  smoother = MultigridSmoother.DicGaussSeidel;
+  «residual_norm» = MultigridResidualNorm.NormalizedL1;
+  «pre_sweeps» = 0;
+  «post_sweeps» = 2;
+  «finest_sweeps» = 1;
+  «sweep_level_multiplier» = 1;
+  «max_sweeps» = 4;
+  «coarsest_cells» = 10;
+  «max_levels» = 64;
+  «merge_levels» = 2;
+  «krylov_dimension» = 4;
+  «coarse_solver» = MultigridCoarseSolver.PcgDic;
+  «coarse_absolute_tolerance» = ratio 1 (10 ^ 12);
+  «coarse_relative_tolerance» = ratio 1 100;
+  «coarse_max_iterations» = 500;
+  «scale_correction» = true;
+}
+
+-- low ≤ n ≤ high
+abbrev pub within : ℕ → ℕ → ℕ → Bool
+within low n high = leb low n && leb n high
+
+-- finite and not below zero; minus zero passes
+abbrev pub tolerable : Float → Bool
+tolerable t = isFinite t && not (lt t (ofBits binary64 0))
+
+-- `validate` of options.rs
+unfoldable pub validOf : MultigridOptions → Bool
+validOf o =
+    within 1 (o .«max_sweeps») 64
+    && leb (o .«pre_sweeps») (o .«max_sweeps»)
+    && leb (o .«post_sweeps») (o .«max_sweeps»)
+    && within 1 (o .«finest_sweeps») 64
+    && within 1 (o .«coarsest_cells») 256
+    && within 1 (o .«max_levels») 128
+    && within 1 (o .«merge_levels») 4
+    && leb (o .«krylov_dimension») 16
+    && tolerable (o .«coarse_absolute_tolerance»)
+    && tolerable (o .«coarse_relative_tolerance»)
+    && leb 1 (o .«coarse_max_iterations»)
+
+-- the coarse solver that question 7 asks for
+abbrev pub isCholesky : MultigridCoarseSolver → Bool
+isCholesky MultigridCoarseSolver.PcgDic = false
+isCholesky MultigridCoarseSolver.Cholesky = true
+
+-- questions 6 and 7 of document 01
+abbrev pub controlsAsked : MultigridOptions → Outcome Unit
+controlsAsked o = do
+  ask (validOf o) Refusal.InvalidControls
+  ask (isCholesky (o .«coarse_solver»)) Refusal.NotCholesky
+  passed

@@ -1,0 +1,43 @@
+-- `vector::all_finite` meets its contract. The loop's invariant: each element passed is finite.
+-- Assumes nothing.
+use Prim.Native.Nat.{_-_}
+use native.Mathlib.Omega.{arith}
+use borrow.Author.Needs.{needs}
+use Rattle.vector.proofs.Laws.{Finites, finites-start, finites-on, finites-no, finites-yes}
+use Rattle.vector.proofs.all_finite.Statement.{statement}
+use Rattle.vector.proofs.all_finite.Tie as tie
+
+abbrev Inv-loop : tie.InvT-loop
+Inv-loop f n x k₀ k = Finites f x n k
+
+abbrev μ-loop : tie.MeasureT-loop
+μ-loop f n x k₀ k = n - k
+
+loop-holds : tie.Need-loop-holds Inv-loop μ-loop
+loop-holds c = finites-start _ _ _
+
+loop-again : tie.Need-loop-again Inv-loop μ-loop
+loop-again c = search (finites-on)
+
+returns : tie.Need-returns Inv-loop μ-loop
+returns c = search (finites-no)
+
+returns-2 : tie.Need-returns-2 Inv-loop μ-loop
+returns-2 c = search (finites-yes)
+
+pub all-finite-spec : {M : Type 1} → statement M
+all-finite-spec =
+    tie.close
+    (tie.spec
+    Inv-loop
+    μ-loop
+    loop-holds
+    (λ c. omega arith)
+    (λ c. omega arith)
+    (λ c. omega arith)
+    (λ c κs. search needs)
+    (λ c. omega arith)
+    (λ c. omega arith)
+    loop-again
+    returns
+    returns-2)

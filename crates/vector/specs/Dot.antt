@@ -1,0 +1,45 @@
+-- `dot`, `norm_l2` and the finiteness tests of vector.rs, over lists. Definitions only.
+use mathlib.Core.Bool.{Bool, cond}
+use mathlib.Core.List.{List}
+use Prim.Native.Nat.{ℕ, _+_, _*_, _/_, min}
+use lib.Ieee.{Float}
+use Rattle.float.specs.Float.{add64, mul64, negZero, isFinite}
+use Rattle.float.specs.Sqrt.{sqrtOf}
+use Rattle.store.specs.Loop.{for}
+use Rattle.store.specs.Region.{at}
+use Rattle.store.specs.Vector.{each}
+use Rattle.vector.specs.declared.Product.{Product}
+use Rattle.vector.specs.declared.Product.the-variants.{Finite, NotFinite}
+
+-- one product more
+unfoldable pub termOf : List Float → List Float → ℕ → Float → Float
+termOf u v k sum = add64 sum (mul64 (at u k) (at v k))
+
+-- `chunk`: the products from lo to hi, added up from −0
+unfoldable pub blockOf : List Float → List Float → ℕ → ℕ → Float
+blockOf u v lo hi = for (termOf u v) lo hi negZero
+
+-- block i more: 1,024 products, or what is left of the n
+unfoldable pub blockTurn : ℕ → List Float → List Float → ℕ → Float → Float
+blockTurn n u v i sum = add64 sum (blockOf u v (i * 1024) (min (i * 1024 + 1024) n))
+
+-- `dot` of n elements, before its finiteness test: the block sums, added up from −0
+unfoldable pub dotOf : ℕ → List Float → List Float → Float
+dotOf n u v = for (blockTurn n u v) 0 ((n + 1023) / 1024) negZero
+
+-- `Ok(value)` where the value is finite
+unfoldable pub productOf : Float → Product
+productOf x = cond (isFinite x) (Finite x) NotFinite
+
+-- the root of a product that is finite
+unfoldable pub rootOf : Product → Product
+rootOf (Finite squared) = productOf (sqrtOf squared)
+rootOf NotFinite = NotFinite
+
+-- `norm_l2` of n elements
+unfoldable pub normOf : ℕ → List Float → Product
+normOf n u = rootOf (productOf (dotOf n u u))
+
+-- `!v.iter().any(|x| !x.is_finite())`, of n elements
+unfoldable pub allFinite : ℕ → List Float → Bool
+allFinite n v = each (λ k. isFinite (at v k)) n

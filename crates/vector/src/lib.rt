@@ -1,0 +1,99 @@
+// vector.rs: dot product and norm over regions of the store, and its finiteness tests.
+ghost use mathlib.Core.Path.{_≡_};
+ghost use Prim.Native.Nat.{_+_, _≤_, min};
+ghost use lib.ListN.{length};
+ghost use Rattle.store.specs.Region.{part};
+ghost use Rattle.vector.specs.Dot.{blockOf, dotOf, productOf, normOf, allFinite};
+
+// What a reduction gives: the source's `Ok(value)`, or its refusal of a value that is not finite.
+pub enum Product {
+    Finite(f64),
+    NotFinite,
+}
+
+fn finite(x: f64) -> Product
+    ensures { λ r. ⌜ r ≡ productOf x ⌝ }
+{
+    if float::is_finite(x) {
+        Product::Finite(x)
+    } else {
+        Product::NotFinite
+    }
+}
+
+// The products from lo to hi, added up.
+fn dot_block(f: &[f64], a: usize, b: usize, n: usize, lo: usize, hi: usize) -> f64
+    requires { ⌜ a + n ≤ length (now f) ⌝ }
+    requires { ⌜ b + n ≤ length (now f) ⌝ }
+    requires { ⌜ hi ≤ n ⌝ }
+    ensures { λ r. ⌜ r ≡ blockOf (part a n (now (f .entry))) (part b n (now (f .entry))) lo hi ⌝ }
+{
+    let mut sum = -0.0;
+    let mut k = lo;
+    while k < hi {
+        sum = sum + f[a + k] * f[b + k];
+        k += 1;
+    }
+    sum
+}
+
+fn least(a: usize, b: usize) -> usize
+    ensures { λ r. ⌜ r ≡ min a b ⌝ }
+    ensures { λ r. ⌜ r ≤ b ⌝ }
+{
+    if a < b { a } else { b }
+}
+
+// The block sums, added up.
+fn dot_sum(f: &[f64], a: usize, b: usize, n: usize) -> f64
+    requires { ⌜ a + n ≤ length (now f) ⌝ }
+    requires { ⌜ b + n ≤ length (now f) ⌝ }
+    ensures { λ r. ⌜ r ≡ dotOf n (part a n (now (f .entry))) (part b n (now (f .entry))) ⌝ }
+{
+    let blocks = (n + 1023) / 1024;
+    let mut sum = -0.0;
+    let mut i = 0;
+    while i < blocks {
+        let lo = i * 1024;
+        let hi = least(lo + 1024, n);
+        sum = sum + dot_block(f, a, b, n, lo, hi);
+        i += 1;
+    }
+    sum
+}
+
+// The dot product of the n elements at a by those at b.
+pub fn dot(f: &[f64], a: usize, b: usize, n: usize) -> Product
+    requires { ⌜ a + n ≤ length (now f) ⌝ }
+    requires { ⌜ b + n ≤ length (now f) ⌝ }
+    ensures { λ r. ⌜ r ≡ productOf (dotOf n (part a n (now (f .entry))) (part b n (now (f .entry)))) ⌝ }
+{
+    finite(dot_sum(f, a, b, n))
+}
+
+// The root of the dot product of the n elements at a by themselves.
+pub fn norm_l2(f: &[f64], a: usize, n: usize) -> Product
+    requires { ⌜ a + n ≤ length (now f) ⌝ }
+    ensures { λ r. ⌜ r ≡ normOf n (part a n (now (f .entry))) ⌝ }
+{
+    match dot(f, a, a, n) {
+        Product::Finite(squared) => finite(float::sqrt(squared)),
+        Product::NotFinite => Product::NotFinite,
+    }
+}
+
+// Whether each of the n elements at x is finite.
+pub fn all_finite(f: &[f64], n: usize, x: usize) -> bool
+    requires { ⌜ x + n ≤ length (now f) ⌝ }
+    ensures { λ r. ⌜ r ≡ allFinite n (part x n (now (f .entry))) ⌝ }
+{
+    let mut k = 0;
+    while k < n {
+        if float::is_finite(f[x + k]) {
+            k += 1;
+        } else {
+            return false;
+        }
+    }
+    true
+}
