@@ -31,9 +31,11 @@ start m h = record {
 pub bounded : {m root rest a i : ℕ} → Digits m root rest a i → root < 2 ^ 54
 bounded d = lt-of-lt-of-le (d .small) (pow-mono (d .turns))
 
+-- A turn doubles 2 ^ i,
 one-more : (i : ℕ) → 2 ^ (i + 1) ≡ 2 * 2 ^ i
 one-more i = ap (λ (k : ℕ). 2 ^ k) (add-one i) ∙ pow-succ' 2 i
 
+-- and multiplies 2 ^ (i + i) by four.
 pair-more : (i : ℕ) → 2 ^ (i + 1 + (i + 1)) ≡ 4 * 2 ^ (i + i)
 pair-more i = ap (λ (k : ℕ). 2 ^ k) (moved i) ∙ pow-add 2 2 (i + i)
   where
@@ -74,11 +76,13 @@ module _ {m root rest a i : ℕ} (d : Digits m root rest a i) (h : i < 54) where
 
 -- After the last turn.
 module _ {m root rest a i : ℕ} (d : Digits m root rest a i) (h : 54 ≤ i) where
+  -- The last turn was the 54th,
   all : (i : ℕ) → 54 ≤ i → i ≤ 54 → m * 1024 * 2 ^ (i + i) ≡ m * 2 ^ 54 * 2 ^ 64
   all i x y =
       let is : i ≡ 54 = omega arith in
       ap (λ (k : ℕ). m * 1024 * 2 ^ (k + k)) is ∙ omega arith
 
+  -- so that all pairs have been brought down.
   square : root * root + rest ≡ m * 2 ^ 54
   square = let e = d .total ∙ all i h (d .turns) in let w = d .word in omega arith
 
@@ -89,6 +93,6 @@ module _ {m root rest a i : ℕ} (d : Digits m root rest a i) (h : 54 ≤ i) whe
     high = let e = square in let s = d .short in let n = sq-next root in omega arith;
   }
 
--- The same for equal numbers.
+-- Equal numbers keep it.
 pub same : {m r s r′ s′ a i : ℕ} → r ≡ r′ → s ≡ s′ → Digits m r′ s′ a i → Digits m r s a i
 same p q d = rw (p, q) d

@@ -44,6 +44,7 @@ digit n r R false e = record {
   high = leb-false ((r * 2 + 1) * (r * 2 + 1)) n e;
 }
 
+-- Below 4 ^ k, k steps give the whole root.
 cut : (k n : ℕ) → n < 4 ^ k → Root n (cutRoot k n)
 unfolding cutRoot
 cut zero n h = record { low = omega arith; high = h }
@@ -52,6 +53,7 @@ cut (suc k) n h = let r = cutRoot k (n / 4) in digit n r (cut k (n / 4) less) (l
     less : n / 4 < 4 ^ k
     less = let e = pow-succ' 4 k in omega arith
 
+-- A number of k binary digits is below 4 ^ k.
 four : (k : ℕ) → 2 ^ k ≤ 4 ^ k
 four zero = pow-pos 0
 four (suc k) = let a = pow-succ' 2 k in let b = pow-succ' 4 k in let i = four k in omega arith
@@ -61,14 +63,16 @@ pub whole : (n : ℕ) → Root n (wholeRoot n)
 unfolding wholeRoot
 whole n = cut (size n) n (lt-of-lt-of-le (size-lt n) (four (size n)))
 
--- The whole root s of n * p * p lies from r * p up to (r + 1) * p, r being that of n.
+-- The whole root s of n * p * p, by the whole root r of n.
 module _ {n r s : ℕ} (p : ℕ) (R : Root n r) (S : Root (n * (p * p)) s) (pos : 0 < p) where
+  -- It is r * p at least,
   pub scaled-low : r * p ≤ s
   scaled-low = let l = sq-lt-back (r * p) (s + 1) (lt-of-le-of-lt below (S .high)) in omega arith
     where
       below : r * p * (r * p) ≤ n * (p * p)
       below = rw (mul-mul-mul-comm r p r p) (mul-le-mul (R .low) (le-refl (p * p)))
 
+  -- and below (r + 1) * p.
   pub scaled-high : s < (r + 1) * p
   scaled-high = sq-lt-back s ((r + 1) * p) (lt-of-le-of-lt (S .low) above)
     where

@@ -2,8 +2,8 @@
 use mathlib.Core.Path.{_≡_, refl, sym, ap, _∙_, subst}
 use mathlib.Core.Bool.{true, false}
 use Prim.Native.Nat.{ℕ, zero, suc, _+_, _-_, _*_, _/_, _%_, _^_, _≤_, _<_}
-use native.Mathlib.Nat.{lt-of-lt-of-le, mul-le-mul, mul-le-mul-right, mul-lt-mul-of-pos-right, mul-assoc, mul-left-comm, mul-mul-mul-comm, mul-pos}
-use native.Mathlib.Nat.{pow-succ'}
+use native.Mathlib.Nat.{lt-of-lt-of-le, mul-le-mul, mul-le-mul-right, mul-lt-mul-of-pos-right, mul-assoc, mul-left-comm}
+use native.Mathlib.Nat.{mul-mul-mul-comm, mul-pos, pow-succ'}
 use native.Mathlib.Omega.{arith}
 use lib.Dec.{T}
 use lib.Pow.{pow-pos}
@@ -15,12 +15,13 @@ use Rattle.float.proofs.Floor.{whole, sq-next}
 use Rattle.float.proofs.Pack.{Packs, Even, twice, once, no-odd-square, digits, nearest-is}
 use Rattle.float.proofs.Split.{Split, split-root, at-top, at-sub, at-normal}
 
--- ---- half of the whole root r of an even n, rounded up, against √n
+-- ---- q, half of the whole root r of an even n, rounded up, against √n
 
 module _ (n r : ℕ) (e : n % 2 ≡ 0) (R : Root n r) where
   abbrev q : ℕ
   q = (r + 1) / 2
 
+  -- For an even r, half-way below q lies under √n.
   over-even : r % 2 ≡ 0 → 0 < r → (2 * q - 1) * (2 * q - 1) < n
   over-even o p =
       let i : r ≡ 2 * q - 1 + 1 = omega arith in
@@ -29,6 +30,7 @@ module _ (n r : ℕ) (e : n % 2 ≡ 0) (R : Root n r) where
       let l = R .low in
       omega arith
 
+  -- For an odd r too, since √n is not r itself.
   over-odd : r % 2 ≡ 1 → (2 * q - 1) * (2 * q - 1) < n
   over-odd o =
       let i : 2 * q - 1 ≡ r = omega arith in
@@ -37,7 +39,7 @@ module _ (n r : ℕ) (e : n % 2 ≡ 0) (R : Root n r) where
       let l = R .low in
       omega arith
 
-  -- Half-way below it lies under √n,
+  -- So half-way below q lies under √n,
   over : 0 < r → (2 * q - 1) * (2 * q - 1) < n
   over p = go (r % 2) refl
     where
@@ -45,12 +47,13 @@ module _ (n r : ℕ) (e : n % 2 ≡ 0) (R : Root n r) where
       go zero o = over-even o p
       go (suc o) i = over-odd (omega arith)
 
-  -- and half-way above it over √n.
+  -- and half-way above q lies over it.
   under : n < (2 * q + 1) * (2 * q + 1)
   under = let l : r + 1 ≤ 2 * q + 1 = omega arith in lt-of-lt-of-le (R .high) (mul-le-mul l l)
 
 -- ---- the same after a shift by g pairs of digits
 
+-- A power of 4 is the square of a power of 2.
 four-pow : (g : ℕ) → 4 ^ g ≡ 2 ^ g * 2 ^ g
 four-pow zero = refl
 four-pow (suc g) =
@@ -59,6 +62,7 @@ four-pow (suc g) =
     ∙ mul-mul-mul-comm 2 2 (2 ^ g) (2 ^ g)
     ∙ ap (λ (x : ℕ). x * x) (sym (pow-succ' 2 g))
 
+-- One pair of digits more is a factor of 4.
 shifted : (E g j N : ℕ) → j ≡ suc g → E * (2 ^ g * 2 ^ g) ≡ N → E * 4 ^ j ≡ 4 * N
 shifted E g j N i e =
     ap (λ (k : ℕ). E * 4 ^ k) i
@@ -66,11 +70,13 @@ shifted E g j N i e =
     ∙ mul-left-comm E 4 (2 ^ g * 2 ^ g)
     ∙ ap (λ (x : ℕ). 4 * x) e
 
+-- A power of 4 is above zero.
 four-pos : (j : ℕ) → 0 < 4 ^ j
 four-pos j = subst (λ (x : ℕ). 0 < x) (sym (four-pow j)) (mul-pos (pow-pos j) (pow-pos j))
 
 -- ---- the theorem
 
+-- E is there for every m and n.
 even-of : (m n : ℕ) → Packs m n → (E : ℕ) × Even m n E
 even-of m n p = go (n % 2) refl
   where
@@ -78,6 +84,7 @@ even-of m n p = go (n % 2) refl
     go zero o = (m, once m n m p (omega arith) refl)
     go (suc o) i = (m * 2, twice m n (m * 2) p (omega arith) refl)
 
+-- The theorem for an x as `packed` takes it.
 of-split : {x : Float} {m n : ℕ} → Split x m n → NearestRoot x (sqrtOf x)
 of-split {x} {m} {n} s =
     let P = s .packs in
@@ -110,6 +117,7 @@ of-split {x} {m} {n} s =
       under = rw is at (mul-lt-mul-of-pos-right (under N r even R) (four-pos j));
     }
 
+-- What is finite and above zero is above zero.
 positive-above : (x : Float) → T (positive x) → T (above x)
 positive-above nan p = p
 positive-above (inf s) p = absurd p

@@ -16,6 +16,7 @@ use Rattle.float.specs.Sqrt.{Root, wholeRoot, nearestRoot}
 use Rattle.float.proofs.Floor.{whole, sq-next, sq-twice, sq-lt-back, scaled-low, scaled-high}
 use Rattle.float.proofs.Round.{rounds-down, rounds-up, round-at, units-is, odd-more, pattern-is, odd-no-nan}
 
+-- r * p by the half of r and its last digit.
 halves : (r p o : ℕ) → r ≡ 2 * (r / 2) + o → r * p ≡ 2 * (r / 2 * p) + o * p
 halves r p o e = ap (λ (x : ℕ). x * p) e ∙ add-mul (2 * (r / 2)) o p ∙ ap (λ (x : ℕ). x + o * p) (mul-assoc 2 (r / 2) p)
 
@@ -48,6 +49,7 @@ no-odd-square n r e o k =
     let d = sq-twice h in
     omega arith
 
+-- What is added is 1 at most.
 bit : (b : Bool) → cond b 0 1 ≤ 1
 bit true = omega arith
 bit false = omega arith
@@ -58,9 +60,11 @@ module _ (n r s p : ℕ) (R : Root n r) (S : Root (n * (p * p)) s) (P : 0 < p) w
   abbrev doubled : ℕ
   doubled = 2 * s + cond (eqb (s * s) (n * (p * p))) 0 1
 
+  -- It is 2rp at least,
   doubled-low : 2 * (r * p) ≤ doubled
   doubled-low = let a = scaled-low p R S P in omega arith
 
+  -- below 2(r + 1)p,
   doubled-high : doubled < 2 * (r * p) + 2 * p
   doubled-high =
       let a = scaled-high p R S P in
@@ -68,14 +72,17 @@ module _ (n r s p : ℕ) (R : Root n r) (S : Root (n * (p * p)) s) (P : 0 < p) w
       let e = add-mul r 1 p in
       omega arith
 
+  -- and its half is s.
   doubled-half : doubled / 2 ≡ s
   doubled-half = let b = bit (eqb (s * s) (n * (p * p))) in omega arith
 
+  -- Where s is r * p and nothing was cut, r is the root of n itself.
   exact : s ≡ r * p → s * s ≡ n * (p * p) → r * r ≡ n
   exact i j =
       eq-of-mul-eq-mul-right (p * p) (mul-pos P P) (r * r) n
       (sym (mul-mul-mul-comm r p r p) ∙ ap (λ (x : ℕ). x * x) (sym i) ∙ j)
 
+  -- For an even n and an odd r it is above 2rp.
   doubled-odd : n % 2 ≡ 0 → r % 2 ≡ 1 → 2 * (r * p) < doubled
   doubled-odd e o = go (eqb (s * s) (n * (p * p))) (eqb→eq (s * s) (n * (p * p)))
     where
@@ -94,6 +101,7 @@ module _ (n r s p : ℕ) (R : Root n r) (S : Root (n * (p * p)) s) (P : 0 < p) w
       go zero o = at-even doubled r p o doubled-low doubled-high
       go (suc o) i = let j : r % 2 ≡ 1 = omega arith in at-odd doubled r p j (doubled-odd e j) doubled-high
 
+-- The definition, opened.
 nearestRoot-is : (n : ℕ)
     → nearestRoot n ≡ round binary64 false (2 * wholeRoot n + cond (eqb (wholeRoot n * wholeRoot n) n) 0 1) (2 ^ 1075)
 unfolding nearestRoot
@@ -103,17 +111,20 @@ nearestRoot-is n = refl
 pub pow-lt-back : (i p : ℕ) → 2 ^ i < 2 ^ p → i < p
 pow-lt-back i p h = lt-of-not-le (λ (g : p ≤ i). lt-irrefl (2 ^ i) (lt-of-lt-of-le h (pow-mono g)))
 
+-- A number from 2 ^ a up to 2 ^ (a + 1) has a + 1 digits.
 size-exact : (a n : ℕ) → 2 ^ a ≤ n → n < 2 ^ suc a → size n ≡ suc a
 size-exact a n lo hi = le-antisymm (size-le n (suc a) hi) (pow-lt-back a (size n) (lt-of-le-of-lt lo (size-lt n)))
 
 -- The nearest root of E * 2 ^ 54 * 4 ^ g, for an E of 53 or 54 digits, by the whole root r of E * 2 ^ 54.
 module _ (E g r : ℕ) (lo : 2 ^ 52 ≤ E) (hi : E + 2 ≤ 2 ^ 54) (G : g ≤ 1532) (R : Root (E * 2 ^ 54) r) where
+  -- r has 54 digits,
   root-low : 2 ^ 53 ≤ r
   root-low = let l = sq-lt-back (2 ^ 53) (r + 1) (lt-of-le-of-lt least (R .high)) in omega arith
     where
       least : 2 ^ 53 * 2 ^ 53 ≤ E * 2 ^ 54
       least = omega arith
 
+  -- not all of them ones.
   root-high : r < 2 ^ 54 - 1
   root-high = sq-lt-back r (2 ^ 54 - 1) (lt-of-le-of-lt (R .low) most)
     where
@@ -123,6 +134,7 @@ module _ (E g r : ℕ) (lo : 2 ^ 52 ≤ E) (hi : E + 2 ≤ 2 ^ 54) (G : g ≤ 15
   abbrev q : ℕ
   q = (r + 1) / 2
 
+  -- Half of it, rounded up, has 53.
   q-low : 2 ^ 52 ≤ q
   q-low = let a = root-low in omega arith
 
@@ -132,6 +144,7 @@ module _ (E g r : ℕ) (lo : 2 ^ 52 ≤ E) (hi : E + 2 ≤ 2 ^ 54) (G : g ≤ 15
   abbrev X : ℕ
   X = E * 2 ^ 54 * (2 ^ g * 2 ^ g)
 
+  -- The whole root of all of it has g digits more than r.
   X-size : size (wholeRoot X) ≡ 53 + suc g
   X-size = size-exact (53 + g) (wholeRoot X) low high ∙ omega arith
     where
@@ -147,6 +160,7 @@ module _ (E g r : ℕ) (lo : 2 ^ 52 ≤ E) (hi : E + 2 ≤ 2 ^ 54) (G : g ≤ 15
           lt-of-lt-of-le (scaled-high (2 ^ g) R (whole X) (pow-pos g))
           (le-trans (mul-le-mul-right (2 ^ g) a) (le-of-eq (sym (pow-add 2 54 g) ∙ ap (λ (x : ℕ). 2 ^ x) e)))
 
+  -- The digits q at that exponent are the nearest root.
   value-is : odd 53 false q (suc g) 1074 ≡ nearestRoot X
   value-is =
       let d = doubled (E * 2 ^ 54) r (wholeRoot X) (2 ^ g) R (whole X) (pow-pos g) in
@@ -172,6 +186,7 @@ pub record Even (m n E : ℕ) : Type 0 where
   pub high : E + 2 ≤ 2 ^ 54
   pub value : E * 2 ^ 54 * (2 ^ (n / 2 - 2) * 2 ^ (n / 2 - 2)) ≡ m * 2 ^ (n + 50)
 
+-- The powers of two, gathered.
 scale : (m n a g : ℕ) → a + (54 + (g + g)) ≡ n + 50 → m * 2 ^ a * 2 ^ 54 * (2 ^ g * 2 ^ g) ≡ m * 2 ^ (n + 50)
 scale m n a g e =
     mul-assoc (m * 2 ^ a) (2 ^ 54) (2 ^ g * 2 ^ g)
@@ -202,9 +217,11 @@ once m n E p o e = record {
 
 -- What `packed` makes of the whole root r of E * 2 ^ 54.
 module _ {m n E r : ℕ} (e : Even m n E) (R : Root (E * 2 ^ 54) r) where
+  -- The exponent is in range,
   gap : n / 2 - 2 ≤ 1532
   gap = let p = e .packs in omega arith
 
+  -- and its field is one more than g.
   field : n / 2 - 1 ≡ suc (n / 2 - 2)
   field = let p = e .packs in omega arith
 

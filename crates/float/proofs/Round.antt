@@ -15,6 +15,7 @@ use lib.Ieee.Nearest.{closest, closest-same}
 use borrow.Author.Tests.{lt-ltb, ne-eqb}
 use Rattle.float.proofs.Sign.{plus-is}
 
+-- `compare` of a smaller number with a larger.
 less : (a b : ℕ) → a < b → compare a b ≡ Ordering·lt
 less a b h = go (compare a b) (le→leb a b (le-of-lt h)) (λ t. lt-irrefl b (subst (λ (x : ℕ). x < b) (eqb→eq a b t) h))
   where
@@ -23,6 +24,7 @@ less a b h = go (compare a b) (le→leb a b (le-of-lt h)) (λ t. lt-irrefl b (su
     go Ordering·eq x y = absurd (y tt)
     go Ordering·gt x y = absurd x
 
+-- `compare` of a larger number with a smaller.
 more : (a b : ℕ) → b < a → compare a b ≡ Ordering·gt
 more a b h = go (compare a b) (λ t. not-le-of-lt h (leb→le a b t))
   where
@@ -31,6 +33,7 @@ more a b h = go (compare a b) (λ t. not-le-of-lt h (leb→le a b t))
     go Ordering·eq x = absurd (x tt)
     go Ordering·gt x = refl
 
+-- h and t / b round by how twice t compares with b.
 at : (h b t : ℕ) → t < b → closest (h * b + t) b ≡ nearest h (compare (t * 2) b)
 at h b t l =
     ap (λ (q : ℕ). nearest q (compare ((h * b + t) % b * 2) b)) (digits-div h l)
@@ -44,7 +47,7 @@ rounds-down h b t l = at h b t (omega arith) ∙ ap (nearest h) (less (t * 2) b 
 pub rounds-up : (h b t : ℕ) → t < b → b < t * 2 → closest (h * b + t) b ≡ h + 1
 rounds-up h b t l m = at h b t l ∙ ap (nearest h) (more (t * 2) b m) ∙ omega arith
 
--- a half units, where a / 2 has 53 + k digits, round to a multiple of 2 ^ k units.
+-- A number a of half units, where a / 2 has 53 + k digits, rounds to a multiple of 2 ^ k units.
 pub round-at : (a k : ℕ) → size (a / 2) ≡ 53 + k
     → round binary64 false a (2 ^ 1075) ≡ units binary64 false (closest a (2 ^ suc k)) k
 round-at a k h =
@@ -73,9 +76,11 @@ pub units-is : (q k : ℕ) → q * 2 ^ k < 2 ^ 2098 → units binary64 false q k
 unfolding units
 units-is q k h = ap (λ (b : Bool). cond b (odd 54 false q k 1074) (inf false)) (lt-ltb (q * 2 ^ k) (2 ^ 2098) h)
 
+-- No number lies between 0 and 1.
 none-below-one : (q : ℕ) → 0 < q → q < 1 → ⊥
 none-below-one q h k = omega arith
 
+-- The trailing zeros of a number of d digits are found among them.
 zeros-more : (d q : ℕ) → 0 < q → q < 2 ^ d → trailingZeros (suc d) q ≡ trailingZeros d q
 unfolding trailingZeros
 zeros-more zero q p h = absurd (none-below-one q p h)

@@ -23,6 +23,7 @@ plus-is b h =
     ∙ ap (λ (s : Bool). ofFields binary64 s (b % 2 ^ 63 / 2 ^ 52) (b % 2 ^ 52)) (lt-leb (2 ^ 63) b h)
     ∙ ap (λ (x : ℕ). ofFields binary64 false (x / 2 ^ 52) (b % 2 ^ 52)) (mod-eq-of-lt h)
 
+-- |x| by its digits and exponent.
 abs-odd : (d : ℕ) (s : Bool) (q k l : ℕ) → absOf (odd d s q k l) ≡ odd d false q k l
 unfolding absOf odd
 abs-odd d s zero k l = refl
@@ -40,6 +41,7 @@ abs-fields s (suc x) t = go (eqb (suc x) 2047) (eqb t 0)
     go true false = refl
     go false b = abs-odd 53 s (2 ^ 52 + t) x 1074
 
+-- A pattern without its sign bit is that of the magnitude.
 cleared : (b : ℕ) → ofBits binary64 (b % 2 ^ 63) ≡ absOf (ofBits binary64 b)
 cleared b =
     plus-is (b % 2 ^ 63) (mod-lt b (pow-pos 63))
@@ -47,6 +49,7 @@ cleared b =
     ∙ sym (abs-fields (leb (2 ^ 63) b) (b % 2 ^ 63 / 2 ^ 52) (b % 2 ^ 52))
     ∙ ap absOf (sym (ofBits-is b))
 
+-- |x| is a NaN where x is.
 abs-nan : (x : Float) → isNan (absOf x) ≡ isNan x
 unfolding isNan absOf
 abs-nan nan = refl

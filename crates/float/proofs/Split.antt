@@ -49,6 +49,11 @@ of-rest (fin false (suc m) e) h k =
     (let l = ltb-false (0 * down e) (suc m * up e * 1) k in
     omega (arith, mul-pos (zero-lt-suc m) (up-pos e), zero-mul (down e)))
 
+-- So is the infinity above zero.
+pub of-inf : (x : Float) → x ≡ inf false → x ≡ sqrtOf x
+unfolding sqrtOf
+of-inf x e = e ∙ ap sqrtOf (sym e)
+
 -- `x > 0.0` says that x is above zero.
 pub is-above : (x : Float) → lt zero64 x ≡ true → T (above x)
 unfolding lt ofBits
@@ -69,11 +74,13 @@ above-no-nan (fin s m e) h = tt
 
 -- ---- the bits of a value above zero
 
+-- A value with a minus sign is not above zero,
 odd-minus : (d q k l : ℕ) → T (above (odd d true q k l)) → ⊥
 unfolding odd
 odd-minus d zero k l p = p
 odd-minus d (suc q) k l p = p
 
+-- whatever its fields.
 fields-minus : (x t : ℕ) → T (above (ofFields binary64 true x t)) → ⊥
 unfolding ofFields
 fields-minus zero t p = odd-minus 53 t 0 1074 p
@@ -101,14 +108,12 @@ inf-is t h = go (eqb t 0) h
     go true q = refl
     go false q = absurd q
 
-inf-root : inf false ≡ sqrtOf (inf false)
-unfolding sqrtOf
-inf-root = refl
-
+-- A field of 0 has no leading digit.
 sub-is : (t : ℕ) → ofFields binary64 false 0 t ≡ odd 53 false t 0 1074
 unfolding ofFields
 sub-is t = refl
 
+-- Digits of a value above zero are above zero.
 odd-above : (t : ℕ) → T (above (odd 53 false t 0 1074)) → 0 < t
 unfolding odd
 odd-above zero h = absurd h
@@ -121,9 +126,11 @@ pub record Split (x : Float) (m n : ℕ) : Type 0 where
   pub packs : Packs m n
   pub value : HasValue x false (m * 2 ^ (n + 50)) (2 ^ 2148)
 
+-- Zero has no size above zero.
 no-zero : (a d u : ℕ) → 0 < a * d → 0 * u * 2 ^ 2148 ≡ a * d → ⊥
 no-zero a d u h e = lt-irrefl 0 (subst (λ (x : ℕ). 0 < x) (sym e ∙ ap (λ (x : ℕ). x * 2 ^ 2148) (zero-mul u)) h)
 
+-- The root of x by its size a * 2 ^ −2148.
 root-of : (x : Float) (a : ℕ) → 0 < a → HasValue x false a (2 ^ 2148) → sqrtOf x ≡ nearestRoot a
 unfolding sqrtOf
 root-of nan a p h = absurd h
@@ -170,6 +177,7 @@ pub record Shift (x : Float) (t : ℕ) : Type 0 where
   pub few : leadingZeros 64 t - 11 ≤ 52
   pub split : Split x (t * 2 ^ (leadingZeros 64 t - 11) % 2 ^ 64) (1024 - (leadingZeros 64 t - 11))
 
+-- t of j + 1 digits, shifted up to 53.
 shift : (t z j : ℕ) → z + suc j ≡ 64 → j < 52 → 2 ^ j ≤ t → t < 2 ^ suc j
     → Split (ofFields binary64 false 0 t) (t * 2 ^ (z - 11) % 2 ^ 64) (1024 - (z - 11))
 shift t z j s J lo hi =
@@ -195,6 +203,7 @@ shift t z j s J lo hi =
           ∙ ap (λ (x : ℕ). x * 2 ^ (1024 - u + 50)) (sym m));
     }
 
+-- That is what the leading zeros give.
 subnormal : (t : ℕ) → 0 < t → t < 2 ^ 52 → Shift (ofFields binary64 false 0 t) t
 subnormal t p h =
     let word : 52 ≤ 64 = omega arith in
@@ -214,12 +223,15 @@ module _ (x : Float) (F : T (fits binary64 x)) (A : T (above x)) where
   abbrev b : ℕ
   b = toBits binary64 x
 
+  -- Its sign is clear,
   small : b < 2 ^ 63
   small = plus b (subst (λ (w : Float). T (above w)) (sym (ofBits-toBits binary64 x F)) A)
 
+  -- so that its fields are f and the digits,
   is : (f : ℕ) → b / 2 ^ 52 ≡ f → ofFields binary64 false f (b % 2 ^ 52) ≡ x
   is f e = rw (← e, ← (plus-is b small)) (ofBits-toBits binary64 x F)
 
+  -- and what they say is above zero.
   over-zero : (f : ℕ) → b / 2 ^ 52 ≡ f → T (above (ofFields binary64 false f (b % 2 ^ 52)))
   over-zero f e = subst (λ (w : Float). T (above w)) (sym (is f e)) A
 
@@ -243,7 +255,3 @@ module _ (x : Float) (F : T (fits binary64 x)) (A : T (above x)) where
   at-normal p q =
       subst (λ (w : Float). Split w (2 ^ 52 + b % 2 ^ 52) (b / 2 ^ 52 + 1023)) (is (b / 2 ^ 52) refl)
       (normal (b / 2 ^ 52) (b % 2 ^ 52) (omega arith) (let a = field-lt in omega arith) (mod-lt b (pow-pos 52)))
-
--- An infinity is its own root.
-pub of-inf : (x : Float) → x ≡ inf false → x ≡ sqrtOf x
-of-inf x e = e ∙ inf-root ∙ ap sqrtOf (sym e)

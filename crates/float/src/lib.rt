@@ -1,4 +1,4 @@
-// The methods of f64 and u64 that the solver calls, as functions. None asks anything of its arguments.
+// The methods of f64 and u64 that the solver calls, as functions. No public one asks anything of its arguments.
 ghost use mathlib.Core.Path.{_≡_};
 ghost use Prim.Native.Nat.{_+_, _*_, _^_, _<_, _≤_, min};
 ghost use lib.Ieee.{binary64, toBits, ofBits};
@@ -64,11 +64,8 @@ pub fn square(x: f64) -> f64
 pub fn saturating_add(a: u64, b: u64) -> u64
     ensures { λ r. ⌜ r ≡ min (a + b) 18446744073709551615 ⌝ }
 {
-    if b <= 18446744073709551615 - a {
-        a + b
-    } else {
-        18446744073709551615
-    }
+    let room = u64::MAX - a;
+    if b <= room { a + b } else { u64::MAX }
 }
 
 // a * b, or the largest u64 where the product does not fit.
@@ -78,11 +75,8 @@ pub fn saturating_mul(a: u64, b: u64) -> u64
     if a == 0 {
         return 0;
     }
-    if b <= 18446744073709551615 / a {
-        a * b
-    } else {
-        18446744073709551615
-    }
+    let most = u64::MAX / a;
+    if b <= most { a * b } else { u64::MAX }
 }
 
 // √(m * 2^54) cut to a whole number, digit by digit: each turn brings down two more digits of m * 2^54 into `rest`.
@@ -108,8 +102,8 @@ fn root(m: u64) -> u64
     root
 }
 
-// The f64 nearest to √(m * 2^(n - 2098)), for an m of 53 digits. The root of m, or of 2m where n is odd, has 54 digits:
-// the last of them rounds. It is never a tie, since no odd number's square is m * 2^54.
+// The f64 nearest to √(m * 2^(n - 2098)), for an m of 53 digits: `root` of m, or of 2m where n is odd, has one digit
+// more than an f64 keeps, and that one rounds. There is no tie: m * 2^54 is even, and so no odd number's square.
 fn packed(m: u64, n: u64) -> f64
     requires { ⌜ (2 ^ 52 ≤ m) × (m < 2 ^ 53) × (972 ≤ n) × (n < 3070) ⌝ }
     ensures { λ r. ⌜ r ≡ nearestRoot (m * 2 ^ (n + 50)) ⌝ }
@@ -137,6 +131,7 @@ pub fn sqrt(x: f64) -> f64
     let field: u64 = bits / 0x10_0000_0000_0000;
     let digits: u64 = bits % 0x10_0000_0000_0000;
     if field == 2047 {
+        // an infinity
         return x;
     }
     if field == 0 {

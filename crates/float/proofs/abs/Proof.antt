@@ -12,17 +12,17 @@ use Rattle.float.proofs.abs.Tie as tie
 held : (c : tie.Start) → T (fits binary64 (c .args .x))
 held c = subst T (sym (c .good .0 .1)) tt
 
-float-to-bits-result : tie.Need-float-to-bits-result
-float-to-bits-result c = no-nan (c .before .args .x) (c .if1 .left)
-
-float-from-bits-result : tie.Need-float-from-bits-result
-float-from-bits-result c = abs-bits (c .before .args .x) (held (c .before)) (float-to-bits-result c)
-
 returns : tie.Need-returns
 returns c = abs-of-nan (c .before .args .x) (is-nan (c .before .args .x) (c .if1 .taken))
 
 returns-2 : tie.Need-returns-2
 returns-2 c = abs-is (c .before .args .x) (held (c .before))
+
+float-to-bits-result : tie.Need-float-to-bits-result
+float-to-bits-result c = no-nan (c .before .args .x) (c .if1 .left)
+
+float-from-bits-result : tie.Need-float-from-bits-result
+float-from-bits-result c = abs-bits (c .before .args .x) (held (c .before)) (float-to-bits-result c)
 
 pub abs-spec : {M : Type 1} → statement M
 abs-spec = tie.close (tie.spec float-to-bits-result float-from-bits-result returns returns-2)

@@ -3,6 +3,7 @@
 use mathlib.Core.Path.{_≡_, refl, sym, _∙_}
 use mathlib.Core.Bool.{not}
 use Prim.Native.Nat.{ℕ, _%_, _^_, _≤_, _<_}
+use native.Mathlib.Omega.{arith}
 use lib.Dec.{T}
 use lib.Ieee.{binary64, nan, ofBits, div, nanBits}
 use lib.Ieee.Bits.{nanBits-is, nanBits-above}
@@ -21,10 +22,10 @@ below b h = rw (nanBits-above, le-ltb 0x7ff0_0000_0000_0000 (b % 2 ^ 63) h) tt
 
 returns : tie.Need-returns
 unfolding div ofBits
-returns c = above (c .before .args .b) (c .if1 .taken)
+returns c = above (c .before .args .b) (omega arith)
 
 float-from-bits-result : tie.Need-float-from-bits-result
-float-from-bits-result c = below (c .before .args .b) (c .if1 .left)
+float-from-bits-result c = below (c .before .args .b) (omega arith)
 
 pub of-bits-spec : {M : Type 1} → statement M
 of-bits-spec = tie.close (tie.spec float-from-bits-result returns (λ c. refl))

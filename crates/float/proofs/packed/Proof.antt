@@ -17,6 +17,9 @@ even c =
       | inr w ↦ once m n (c .if1 .even) (c .before .pre) (w .0 .left) (w .1)
     ]
 
+returns : tie.Need-returns
+returns c = bits-are (even (c .before)) (c .root .ensures) ∙ nearest-is (even (c .before)) (c .root .ensures)
+
 root-requires : tie.Need-root-requires
 root-requires c κs = let e = even c .high in omega arith
 
@@ -28,9 +31,6 @@ add-result c = let a = short (even (c .before)) (c .root .ensures) in search nee
 
 float-from-bits-result : tie.Need-float-from-bits-result
 float-from-bits-result c = no-nan (even (c .before)) (c .root .ensures)
-
-returns : tie.Need-returns
-returns c = bits-are (even (c .before)) (c .root .ensures) ∙ nearest-is (even (c .before)) (c .root .ensures)
 
 pub packed-spec : {M : Type 1} → statement M
 packed-spec =

@@ -1,7 +1,7 @@
 -- `float::root` meets its contract: the loop keeps `Digits`, and the turns left fall.
 -- Assumes nothing.
 use mathlib.Core.Logic.{inl, inr}
-use Prim.Native.Nat.{_-_}
+use Prim.Native.Nat.{_-_, _<_}
 use native.Mathlib.Omega.{arith}
 use Rattle.float.proofs.Digit.{Digits, start, bounded, one, none, floor, same}
 use Rattle.float.proofs.root.Statement.{statement}
@@ -37,14 +37,14 @@ add-root c = omega (arith, bounded (c .before .before .loop .inv))
 loop-again : tie.Need-loop-again Inv-loop μ-loop
 loop-again c =
     let at = c .before .before .loop .inv in
-    let on = c .before .loop-test .taken in
+    let on : c .before .before .loop .i < 54 = omega arith in
     elim (c .if1 .came) [
       | inl w ↦ same (w .1) (w .2) (one at on (w .0 .taken))
       | inr w ↦ same (w .1) (w .2) (none at on (w .0 .left))
     ]
 
 returns : tie.Need-returns Inv-loop μ-loop
-returns c = floor (c .before .loop .inv) (c .loop-test .left)
+returns c = floor (c .before .loop .inv) (omega arith)
 
 pub root-spec : {M : Type 1} → statement M
 root-spec =

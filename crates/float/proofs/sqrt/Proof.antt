@@ -41,11 +41,14 @@ returns-3 c = of-inf (x (c .before)) (at-top (x (c .before)) (held (c .before)) 
 shift : (c : tie.Then4) → Shift (x (c .before .before)) (toBits binary64 (x (c .before .before)) % 2 ^ 52)
 shift c = let s = c .before .before in at-sub (x s) (held s) (over s) (c .if4 .taken)
 
+returns-4 : tie.Need-returns-4
+returns-4 c = c .packed .ensures ∙ sym (split-root (shift (c .before) .split))
+
 cast-up : tie.Need-cast-up
 cast-up c = let h = shift c .word in omega arith
 
 sub-up : tie.Need-sub-up
-sub-up c = shift c .over
+sub-up c = let h = shift c .over in omega arith
 
 shl-packed : tie.Need-shl-packed
 shl-packed c = let h = shift c .few in omega arith
@@ -56,22 +59,19 @@ sub-packed c = let h = shift c .few in omega arith
 packed-requires : tie.Need-packed-requires
 packed-requires c κs = shift c .split .packs
 
-returns-4 : tie.Need-returns-4
-returns-4 c = c .packed .ensures ∙ sym (split-root (shift (c .before) .split))
-
 -- A normal value has its leading digit put back.
 normal : (c : tie.Else4) → let b = toBits binary64 (x (c .before .before)) in
     Split (x (c .before .before)) (2 ^ 52 + b % 2 ^ 52) (b / 2 ^ 52 + 1023)
 normal c = let s = c .before .before in at-normal (x s) (held s) (over s) (c .before .if3 .left) (c .if4 .left)
+
+returns-5 : tie.Need-returns-5
+returns-5 c = c .packed2 .ensures ∙ sym (split-root (normal (c .before)))
 
 add-packed-2 : tie.Need-add-packed-2
 add-packed-2 c = let s = c .before .before in let h = field-lt (x s) (held s) (over s) in omega arith
 
 packed-requires-2 : tie.Need-packed-requires-2
 packed-requires-2 c κs = normal c .packs
-
-returns-5 : tie.Need-returns-5
-returns-5 c = c .packed2 .ensures ∙ sym (split-root (normal (c .before)))
 
 pub sqrt-spec : {M : Type 1} → statement M
 sqrt-spec =

@@ -1,0 +1,180 @@
+//! What `crates/probe` exports, declared once for Rust; `../probe.h` is the same for C, and
+//! `agreement.rs` holds the two against the exports. The proofs cover every call that meets what a function
+//! requires, so the wrappers test that first: a comparison that breaks it is wrong and stops.
+
+use oracle::{MultigridCoarseSolver, MultigridOptions, MultigridResidualNorm, MultigridSmoother};
+
+#[link(name = "probe", kind = "static")]
+unsafe extern "C" {
+    safe fn probe_is_finite(x: f64) -> u8;
+    safe fn probe_abs(x: f64) -> f64;
+    safe fn probe_max_num(a: f64, b: f64) -> f64;
+    safe fn probe_square(x: f64) -> f64;
+    safe fn probe_sqrt(x: f64) -> f64;
+    safe fn probe_to_bits(x: f64) -> u64;
+    safe fn probe_of_bits(bits: u64) -> f64;
+    safe fn probe_saturating_add(a: u64, b: u64) -> u64;
+    safe fn probe_saturating_mul(a: u64, b: u64) -> u64;
+    safe fn probe_validate(
+        smoother: u8,
+        residual_norm: u8,
+        pre_sweeps: u64,
+        post_sweeps: u64,
+        finest_sweeps: u64,
+        sweep_level_multiplier: u64,
+        max_sweeps: u64,
+        coarsest_cells: u64,
+        max_levels: u64,
+        merge_levels: u64,
+        krylov_dimension: u64,
+        coarse_solver: u8,
+        coarse_absolute_tolerance: f64,
+        coarse_relative_tolerance: f64,
+        coarse_max_iterations: u64,
+        scale_correction: u8,
+    ) -> u8;
+    fn probe_dot(
+        f: *const f64,
+        f_length: usize,
+        a: usize,
+        b: usize,
+        n: usize,
+        out: *mut f64,
+        out_length: usize,
+    ) -> u8;
+    fn probe_norm_l2(
+        f: *const f64,
+        f_length: usize,
+        a: usize,
+        n: usize,
+        out: *mut f64,
+        out_length: usize,
+    ) -> u8;
+    fn probe_all_finite(f: *const f64, f_length: usize, n: usize, x: usize) -> u8;
+}
+
+pub fn is_finite(x: f64) -> bool {
+    yes(probe_is_finite(x))
+}
+
+pub fn abs(x: f64) -> f64 {
+    probe_abs(x)
+}
+
+pub fn max_num(a: f64, b: f64) -> f64 {
+    probe_max_num(a, b)
+}
+
+pub fn square(x: f64) -> f64 {
+    probe_square(x)
+}
+
+pub fn sqrt(x: f64) -> f64 {
+    probe_sqrt(x)
+}
+
+pub fn to_bits(x: f64) -> u64 {
+    probe_to_bits(x)
+}
+
+pub fn of_bits(bits: u64) -> f64 {
+    probe_of_bits(bits)
+}
+
+pub fn saturating_add(a: u64, b: u64) -> u64 {
+    probe_saturating_add(a, b)
+}
+
+pub fn saturating_mul(a: u64, b: u64) -> u64 {
+    probe_saturating_mul(a, b)
+}
+
+/// Whether the controls pass `validate`. Enums cross as their number in source order.
+pub fn validate(options: &MultigridOptions) -> bool {
+    yes(probe_validate(
+        match options.smoother {
+            MultigridSmoother::GaussSeidel => 0,
+            MultigridSmoother::SymmetricGaussSeidel => 1,
+            MultigridSmoother::DicGaussSeidel => 2,
+        },
+        match options.residual_norm {
+            MultigridResidualNorm::AbsoluteL2 => 0,
+            MultigridResidualNorm::NormalizedL1 => 1,
+        },
+        options.pre_sweeps as u64,
+        options.post_sweeps as u64,
+        options.finest_sweeps as u64,
+        options.sweep_level_multiplier as u64,
+        options.max_sweeps as u64,
+        options.coarsest_cells as u64,
+        options.max_levels as u64,
+        options.merge_levels as u64,
+        options.krylov_dimension as u64,
+        match options.coarse_solver {
+            MultigridCoarseSolver::PcgDic => 0,
+            MultigridCoarseSolver::Cholesky => 1,
+        },
+        options.coarse_absolute_tolerance,
+        options.coarse_relative_tolerance,
+        options.coarse_max_iterations as u64,
+        u8::from(options.scale_correction),
+    ))
+}
+
+/// The product of the regions of `n` words at `a` and at `b`; None where it is not finite.
+pub fn dot(store: &[f64], a: usize, b: usize, n: usize) -> Option<f64> {
+    require_region(store, a, n);
+    require_region(store, b, n);
+    let mut out = [0.0];
+    // SAFETY: both pointers are slices' own, with their lengths, and the regions lie inside.
+    let finite = unsafe {
+        probe_dot(
+            store.as_ptr(),
+            store.len(),
+            a,
+            b,
+            n,
+            out.as_mut_ptr(),
+            out.len(),
+        )
+    };
+    yes(finite).then_some(out[0])
+}
+
+/// The norm of the region of `n` words at `a`; None where it is not finite.
+pub fn norm_l2(store: &[f64], a: usize, n: usize) -> Option<f64> {
+    require_region(store, a, n);
+    let mut out = [0.0];
+    // SAFETY: both pointers are slices' own, with their lengths, and the region lies inside.
+    let finite = unsafe {
+        probe_norm_l2(
+            store.as_ptr(),
+            store.len(),
+            a,
+            n,
+            out.as_mut_ptr(),
+            out.len(),
+        )
+    };
+    yes(finite).then_some(out[0])
+}
+
+/// Whether each of the `n` words at `x` is finite.
+pub fn all_finite(store: &[f64], n: usize, x: usize) -> bool {
+    require_region(store, x, n);
+    // SAFETY: the pointer is the slice's own, with its length, and the region lies inside.
+    yes(unsafe { probe_all_finite(store.as_ptr(), store.len(), n, x) })
+}
+
+fn require_region(store: &[f64], start: usize, n: usize) {
+    assert!(
+        start <= store.len() && n <= store.len() - start,
+        "a region of {n} words at {start} leaves a store of {}",
+        store.len()
+    );
+}
+
+fn yes(answer: u8) -> bool {
+    assert!(answer <= 1, "an export answered {answer} for yes or no");
+    answer == 1
+}
