@@ -1,6 +1,7 @@
 /* Calls every function of probe.h once from C: the header compiles, the archive has each name, and arguments
  * arrive in their places. */
 #include <stdio.h>
+#include <string.h>
 
 #include "probe.h"
 
@@ -16,6 +17,36 @@ static void expect(int holds, const char *name) {
 static int valid(uint64_t pre_sweeps, uint64_t coarse_max_iterations) {
     return probe_validate(2, 1, pre_sweeps, 2, 1, 1, 4, 10, 64, 2, 4, 1, 1e-12, 0.01, coarse_max_iterations,
                           1);
+}
+
+static int equal(const uint32_t *found, const uint32_t *due, size_t n) {
+    return memcmp(found, due, n * sizeof *due) == 0;
+}
+
+/* A path of 4 rows, diagonal 2, off-diagonal -1, equal weights: two aggregates. */
+static void path(void) {
+    uint32_t w[55] = {0, 2, 5, 8, 10, 0, 1, 0, 1, 2, 1, 2, 3, 2, 3};
+    double f[28] = {2, -1, -1, 2, -1, -1, 2, -1, -1, 2, 1, 1, 1, 1, 1, 1, 1, 1, 1, 1};
+    const uint32_t map[4] = {0, 0, 1, 1}, starts[3] = {0, 2, 4}, columns[4] = {0, 1, 0, 1};
+    const uint32_t positions[10] = {0, 0, 0, 0, 1, 2, 3, 3, 3, 3}, one[4] = {0, 0, 0, 0};
+
+    expect(probe_pairs(w, 55, f, 28, 4, 10, 0, 5, 15, 10, 0, 1) == 2 && equal(w + 15, map, 4), "probe_pairs");
+    expect(probe_coarse_pattern(w, 55, 4, 10, 2, 0, 5, 15, 19, 29, 32, 42) == 4 &&
+               equal(w + 19, positions, 10) && equal(w + 29, starts, 3) && equal(w + 32, columns, 4),
+           "probe_coarse_pattern");
+    probe_sum_entries(w, 55, f, 28, 10, 19, 0, 4, 20);
+    expect(f[20] == 2 && f[21] == -1 && f[22] == -1 && f[23] == 2, "probe_sum_entries");
+    f[21] = -4;
+    w[50] = 1;
+    w[51] = 2;
+    probe_symmetrize(w, 55, f, 28, 1, 50, 51, 4, 20);
+    expect(f[20] == 2 && f[21] == -2.5 && f[22] == -2.5 && f[23] == 2, "probe_symmetrize");
+    probe_restrict_weights(w, 55, f, 28, 2, 10, 19, 29, 32, 10, 4, 24);
+    expect(f[24] == 0 && f[25] == 1 && f[26] == 1 && f[27] == 0, "probe_restrict_weights");
+    w[53] = 0;
+    w[54] = 0;
+    probe_compose(w, 55, 4, 15, 53, 2);
+    expect(equal(w + 15, one, 4), "probe_compose");
 }
 
 int main(void) {
@@ -35,5 +66,6 @@ int main(void) {
     expect(probe_dot(store, 6, 1, 4, 2, out, 1) == 1 && out[0] == 11.0, "probe_dot");
     expect(probe_norm_l2(store, 6, 1, 2, out, 1) == 1 && out[0] == 5.0, "probe_norm_l2");
     expect(probe_all_finite(store, 6, 4, 2) == 1, "probe_all_finite");
+    path();
     return failures != 0;
 }

@@ -3,7 +3,12 @@
 
 use crate::report::Report;
 
-const RATTLE: &str = include_str!("../../crates/probe/src/lib.rt");
+const RATTLE: [&str; 4] = [
+    include_str!("../../crates/probe/src/numbers.rt"),
+    include_str!("../../crates/probe/src/controls.rt"),
+    include_str!("../../crates/probe/src/vectors.rt"),
+    include_str!("../../crates/probe/src/coarsening.rt"),
+];
 const RUST: &str = include_str!("boundary.rs");
 const HEADER: &str = include_str!("../probe.h");
 const CALLS_FROM_C: &str = include_str!("../boundary.c");
@@ -45,7 +50,8 @@ fn agree(report: &mut Report, kind: &str, left: &[Signature], right: &[Signature
 }
 
 fn of_rattle() -> Vec<Signature> {
-    let exports = RATTLE.split("pub extern \"C\" fn ").skip(1);
+    let exports = RATTLE.map(|text| text.split("pub extern \"C\" fn ").skip(1));
+    let exports = exports.into_iter().flatten();
     exports.map(|text| arrow_signature(text, true)).collect()
 }
 
@@ -122,6 +128,7 @@ fn c_type(argument: &str) -> String {
 
 fn number_type(name: &str) -> String {
     let name = match name {
+        "void" => "()",
         "double" => "f64",
         "size_t" => "usize",
         "uint64_t" => "u64",

@@ -2,6 +2,9 @@
 //! `agreement.rs` holds the two against the exports. The proofs cover every call that meets what a function
 //! requires, so the wrappers test that first: a comparison that breaks it is wrong and stops.
 
+pub mod aggregation;
+pub mod galerkin;
+
 use oracle::{MultigridCoarseSolver, MultigridOptions, MultigridResidualNorm, MultigridSmoother};
 
 #[link(name = "probe", kind = "static")]
@@ -51,6 +54,71 @@ unsafe extern "C" {
         out_length: usize,
     ) -> u8;
     fn probe_all_finite(f: *const f64, f_length: usize, n: usize, x: usize) -> u8;
+    fn probe_pairs(
+        w: *mut u32,
+        w_length: usize,
+        f: *const f64,
+        f_length: usize,
+        rows: usize,
+        entries: usize,
+        offsets: usize,
+        columns: usize,
+        map: usize,
+        weights: usize,
+        absolute: u8,
+        forward: u8,
+    ) -> usize;
+    fn probe_coarse_pattern(
+        w: *mut u32,
+        w_length: usize,
+        rows: usize,
+        entries: usize,
+        count: usize,
+        offsets: usize,
+        columns: usize,
+        map: usize,
+        positions: usize,
+        coarse_offsets: usize,
+        coarse_columns: usize,
+        scratch: usize,
+    ) -> usize;
+    fn probe_compose(w: *mut u32, w_length: usize, n: usize, map: usize, next: usize, count: usize);
+    fn probe_sum_entries(
+        w: *const u32,
+        w_length: usize,
+        f: *mut f64,
+        f_length: usize,
+        m: usize,
+        positions: usize,
+        values: usize,
+        total: usize,
+        out: usize,
+    );
+    fn probe_symmetrize(
+        w: *const u32,
+        w_length: usize,
+        f: *mut f64,
+        f_length: usize,
+        faces: usize,
+        upper: usize,
+        lower: usize,
+        total: usize,
+        values: usize,
+    );
+    fn probe_restrict_weights(
+        w: *const u32,
+        w_length: usize,
+        f: *mut f64,
+        f_length: usize,
+        count: usize,
+        m: usize,
+        positions: usize,
+        offsets: usize,
+        columns: usize,
+        weights: usize,
+        total: usize,
+        out: usize,
+    );
 }
 
 pub fn is_finite(x: f64) -> bool {
@@ -123,8 +191,8 @@ pub fn validate(options: &MultigridOptions) -> bool {
 
 /// The product of the regions of `n` words at `a` and at `b`; None where it is not finite.
 pub fn dot(store: &[f64], a: usize, b: usize, n: usize) -> Option<f64> {
-    require_region(store, a, n);
-    require_region(store, b, n);
+    require_region(store.len(), a, n);
+    require_region(store.len(), b, n);
     let mut out = [0.0];
     // SAFETY: both pointers are slices' own, with their lengths, and the regions lie inside.
     let finite = unsafe {
@@ -143,7 +211,7 @@ pub fn dot(store: &[f64], a: usize, b: usize, n: usize) -> Option<f64> {
 
 /// The norm of the region of `n` words at `a`; None where it is not finite.
 pub fn norm_l2(store: &[f64], a: usize, n: usize) -> Option<f64> {
-    require_region(store, a, n);
+    require_region(store.len(), a, n);
     let mut out = [0.0];
     // SAFETY: both pointers are slices' own, with their lengths, and the region lies inside.
     let finite = unsafe {
@@ -161,17 +229,27 @@ pub fn norm_l2(store: &[f64], a: usize, n: usize) -> Option<f64> {
 
 /// Whether each of the `n` words at `x` is finite.
 pub fn all_finite(store: &[f64], n: usize, x: usize) -> bool {
-    require_region(store, x, n);
+    require_region(store.len(), x, n);
     // SAFETY: the pointer is the slice's own, with its length, and the region lies inside.
     yes(unsafe { probe_all_finite(store.as_ptr(), store.len(), n, x) })
 }
 
-fn require_region(store: &[f64], start: usize, n: usize) {
+/// The region of `n` words at `start` ends at or before `end`.
+fn require_region(end: usize, start: usize, n: usize) {
     assert!(
-        start <= store.len() && n <= store.len() - start,
-        "a region of {n} words at {start} leaves a store of {}",
-        store.len()
+        start <= end && n <= end - start,
+        "a region of {n} words at {start} passes {end}"
     );
+}
+
+/// Each of the words is below `bound`.
+fn require_below(words: &[u32], bound: usize) {
+    for (index, &word) in words.iter().enumerate() {
+        assert!(
+            (word as usize) < bound,
+            "word {index} is {word}, not below {bound}"
+        );
+    }
 }
 
 fn yes(answer: u8) -> bool {

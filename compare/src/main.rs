@@ -1,14 +1,17 @@
 //! Compares the proved functions with the Rust, bit for bit. `compare/run` builds and starts it.
 
+mod aggregation;
 mod agreement;
-mod boundary;
 mod float;
+mod galerkin;
+mod matrices;
 mod options;
-mod random;
 mod report;
+mod stores;
 mod vector;
 mod worked;
 
+use compare::{boundary, pattern, random};
 use random::Random;
 use report::Report;
 use std::process::ExitCode;
@@ -72,6 +75,8 @@ fn run(effort: Effort, seed: u64) -> ExitCode {
     float::compare(&mut report, &mut random, effort);
     vector::compare(&mut report, &mut random, effort);
     options::compare(&mut report, &mut random, effort);
+    aggregation::compare(&mut report, &mut random, effort);
+    galerkin::compare(&mut report, &mut random, effort);
     report.print();
     if report.differences() == 0 {
         ExitCode::SUCCESS

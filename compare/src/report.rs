@@ -57,16 +57,20 @@ impl Report {
         self.kinds.iter().map(|kind| kind.differences).sum()
     }
 
+    /// By name: random cases meet the kinds in any order.
     pub fn print(&self) {
+        let (mut kinds, mut answers) = (Vec::from_iter(&self.kinds), Vec::from_iter(&self.answers));
+        kinds.sort_by_key(|kind| &kind.name);
+        answers.sort();
         println!("{:<44} {:>10} {:>12}", "kind", "cases", "differences");
-        for kind in &self.kinds {
+        for kind in kinds {
             println!(
                 "{:<44} {:>10} {:>12}",
                 kind.name, kind.cases, kind.differences
             );
         }
         println!("{:<44} {:>10}", "answer", "times");
-        for (name, times) in &self.answers {
+        for (name, times) in answers {
             println!("{name:<44} {times:>10}");
         }
         println!("differences {}", self.differences());

@@ -1,10 +1,16 @@
 -- The starred lines of document 01's "Small presses", each as a test that computes. Definitions only.
-use mathlib.Core.Bool.{Bool, true, _&&_}
+use mathlib.Core.Bool.{Bool, true, false, _&&_}
 use mathlib.Core.List.{List, [], _∷_}
 use Prim.Native.Nat.{ℕ}
 use lib.Dec.{eqb}
-use lib.Ieee.{binary64, ofBits, toBits}
+use lib.IntN.{ℤ, pos, negℤ}
+use lib.Ieee.{Float, binary64, ofBits, ofInt, toBits}
+use Rattle.float.specs.Float.{zero64, one64}
 use Rattle.float.specs.Sqrt.{sqrtOf}
+use Rattle.store.specs.Vector.{filled}
+use Rattle.aggregation.specs.Pairs.{Weighted, weighted, strengthsOf, pairsOf}
+use Rattle.pattern.specs.Pattern.{Pattern, entries, coarse, coarseOffsets, coarseColumns, coarsePositions}
+use Rattle.galerkin.specs.Values.{galerkinOf}
 use Rattle.options.specs.Options.{defaultOptions}
 use Rattle.options.specs.Sweeps.{preSweepsOf, postSweepsOf}
 use Rattle.options.specs.declared.MultigridOptions.{MultigridOptions}
@@ -37,6 +43,69 @@ sweeps pre post multiplier maximum =
       «coarse_max_iterations» = d .«coarse_max_iterations»;
       «scale_correction» = d .«scale_correction»;
     }
+
+-- whether two lists are the same
+unfoldable pub same : List ℕ → List ℕ → Bool
+same [] [] = true
+same [] (y ∷ ys) = false
+same (x ∷ xs) [] = false
+same (x ∷ xs) (y ∷ ys) = eqb x y && same xs ys
+
+-- the bits of each float of a list
+unfoldable pub bits : List Float → List ℕ
+unfolding toBits
+bits [] = []
+bits (x ∷ xs) = toBits binary64 x ∷ bits xs
+
+-- the floats of a list of whole numbers
+unfoldable pub floats : List ℤ → List Float
+unfolding ofInt
+floats [] = []
+floats (z ∷ zs) = ofInt binary64 z ∷ floats zs
+
+-- the pattern of the path of 4 rows, of the path of 3, and of the faces 0-1, 0-2, 2-3, each row with its diagonal
+abbrev pub path4 : Pattern
+path4 = record { rows = 4; offsets = 0 ∷ 2 ∷ 5 ∷ 8 ∷ 10 ∷ []; columns = 0 ∷ 1 ∷ 0 ∷ 1 ∷ 2 ∷ 1 ∷ 2 ∷ 3 ∷ 2 ∷ 3 ∷ [] }
+
+abbrev pub path3 : Pattern
+path3 = record { rows = 3; offsets = 0 ∷ 2 ∷ 5 ∷ 7 ∷ []; columns = 0 ∷ 1 ∷ 0 ∷ 1 ∷ 2 ∷ 1 ∷ 2 ∷ [] }
+
+abbrev pub tree4 : Pattern
+tree4 = record { rows = 4; offsets = 0 ∷ 3 ∷ 5 ∷ 8 ∷ 10 ∷ []; columns = 0 ∷ 1 ∷ 2 ∷ 0 ∷ 1 ∷ 0 ∷ 2 ∷ 3 ∷ 2 ∷ 3 ∷ [] }
+
+-- the pattern p with these weights
+abbrev pub weigh : Pattern → List Float → Weighted
+weigh p v = weighted (p .rows) (p .offsets) (p .columns) v
+
+-- all weights of p equal to x
+abbrev pub alike : Pattern → Float → Weighted
+alike p x = weigh p (filled (entries p) x)
+
+-- the path of 4 with diagonal 2 and off-diagonal −1
+abbrev pub values4 : List Float
+values4 =
+    let d = pos 2 in
+    let a = negℤ (pos 1) in
+    floats (d ∷ a ∷ a ∷ d ∷ a ∷ a ∷ d ∷ a ∷ a ∷ d ∷ [])
+
+-- path of 4, up and down, by its absolute values; path of 3, up; faces 0-1, 0-2, 2-3, equal weights, up; all weights zero
+abbrev pub aggregates : List Bool
+aggregates =
+    same (pairsOf (weigh path4 (strengthsOf true values4)) true .map) (0 ∷ 0 ∷ 1 ∷ 1 ∷ [])
+    ∷ same (pairsOf (weigh path4 (strengthsOf true values4)) false .map) (1 ∷ 1 ∷ 0 ∷ 0 ∷ [])
+    ∷ same (pairsOf (alike path3 one64) true .map) (0 ∷ 0 ∷ 0 ∷ [])
+    ∷ same (pairsOf (alike tree4 one64) true .map) (0 ∷ 0 ∷ 1 ∷ 1 ∷ [])
+    ∷ eqb (pairsOf (alike path3 zero64) true .count) 3
+    ∷ []
+
+-- path of 4, diagonal 2, pairs 0 0 1 1: coarse 2, −1; −1, 2. Its one face is entry 1, whose mirror is entry 2.
+abbrev pub coarsePath : List Bool
+coarsePath =
+    let map : List ℕ = 0 ∷ 0 ∷ 1 ∷ 1 ∷ [] in
+    same (coarseOffsets path4 map 2) (0 ∷ 2 ∷ 4 ∷ [])
+    ∷ same (coarseColumns path4 map 2) (0 ∷ 1 ∷ 0 ∷ 1 ∷ [])
+    ∷ same (bits (galerkinOf 4 10 (coarsePositions path4 map 2) values4 1 (1 ∷ []) (2 ∷ []))) (bits (floats (pos 2 ∷ negℤ (pos 1) ∷ negℤ (pos 1) ∷ pos 2 ∷ [])))
+    ∷ []
 
 -- root of 2; of 2 ^ −1074; of minus zero
 abbrev pub roots : List Bool
@@ -75,4 +144,4 @@ allOf (t ∷ ts) = all t && allOf ts
 -- the starred lines, in the order of the crates that they concern
 unfoldable pub table : List (List Bool)
 unfolding rootBits sweeps preSweepsOf postSweepsOf
-table = roots ∷ growing ∷ resting ∷ []
+table = aggregates ∷ coarsePath ∷ roots ∷ growing ∷ resting ∷ []

@@ -41,6 +41,9 @@ returns-3 c = of-inf (x (c .before)) (at-top (x (c .before)) (held (c .before)) 
 shift : (c : tie.Then4) → Shift (x (c .before .before)) (toBits binary64 (x (c .before .before)) % 2 ^ 52)
 shift c = let s = c .before .before in at-sub (x s) (held s) (over s) (c .if4 .taken)
 
+packed-requires : tie.Need-packed-requires
+packed-requires c κs = shift c .split .packs
+
 returns-4 : tie.Need-returns-4
 returns-4 c = c .packed .ensures ∙ sym (split-root (shift (c .before) .split))
 
@@ -55,9 +58,6 @@ shl-packed c = let h = shift c .few in omega arith
 
 sub-packed : tie.Need-sub-packed
 sub-packed c = let h = shift c .few in omega arith
-
-packed-requires : tie.Need-packed-requires
-packed-requires c κs = shift c .split .packs
 
 -- A normal value has its leading digit put back.
 normal : (c : tie.Else4) → let b = toBits binary64 (x (c .before .before)) in

@@ -1,0 +1,115 @@
+//! Measures the proved functions and the Rust in one run. `bench/run` builds and starts it.
+
+mod clock;
+mod galerkin;
+mod grid;
+mod measure;
+mod pairs;
+
+use compare::random::Random;
+use grid::Grid;
+use measure::{Kernel, Medians, measure};
+use std::process::ExitCode;
+
+const SEED: u64 = 0x0f17_e2c4_ca6e_5eed;
+const SIDES: [usize; 3] = [16, 64, 256];
+
+/// At least seven, and odd, so that a median is one of them.
+const LEAST_ROUNDS: usize = 7;
+const ROUNDS: usize = 21;
+
+/// A row of the table; `most` is the greatest ratio that is wanted, if one is.
+struct Row {
+    name: &'static str,
+    most: Option<f64>,
+    kernel: fn(&Grid) -> Box<dyn Kernel>,
+}
+
+/// Another kernel is a module with a `Kernel` and a row here.
+const ROWS: [Row; 4] = [
+    Row {
+        name: "pairs, rows upward",
+        most: Some(1.0),
+        kernel: pairs::upward,
+    },
+    Row {
+        name: "pairs, rows downward",
+        most: Some(1.0),
+        kernel: pairs::downward,
+    },
+    Row {
+        name: "galerkin",
+        most: Some(0.125),
+        kernel: galerkin::proved,
+    },
+    Row {
+        name: "galerkin, mirrors searched",
+        most: None,
+        kernel: galerkin::with_mirrors,
+    },
+];
+
+fn main() -> ExitCode {
+    match rounds() {
+        Ok(rounds) => run(rounds),
+        Err(sentence) => {
+            eprintln!("bench: {sentence}\nusage: bench [--rounds NUMBER]");
+            ExitCode::from(2)
+        }
+    }
+}
+
+fn rounds() -> Result<usize, String> {
+    let words: Vec<String> = std::env::args().skip(1).collect();
+    let rounds = match words.as_slice() {
+        [] => Ok(ROUNDS),
+        [word, number] if word == "--rounds" => number
+            .parse()
+            .map_err(|error| format!("{number:?}: {error}")),
+        _ => Err(format!("{words:?} is not understood")),
+    }?;
+    if rounds >= LEAST_ROUNDS && rounds % 2 == 1 {
+        Ok(rounds)
+    } else {
+        Err(format!(
+            "{rounds} rounds: an odd number from {LEAST_ROUNDS} on"
+        ))
+    }
+}
+
+/// Exit status 1 where a ratio is greater than wanted.
+fn run(rounds: usize) -> ExitCode {
+    println!(
+        "five-point grids, random positive weights; medians of {rounds} rounds; microseconds of the processor"
+    );
+    println!(
+        "{:<28} {:>9} {:>11} {:>11} {:>10} {:>7}",
+        "kernel", "grid", "Rust", "ours", "ours/Rust", "wanted"
+    );
+    let mut missed = false;
+    for side in SIDES {
+        let grid = Grid::new(&mut Random::new(SEED), side);
+        for row in &ROWS {
+            let medians = measure((row.kernel)(&grid).as_mut(), rounds);
+            print(row, side, &medians);
+            missed |= row.most.is_some_and(|most| medians.ratio() > most);
+        }
+    }
+    if missed {
+        ExitCode::FAILURE
+    } else {
+        ExitCode::SUCCESS
+    }
+}
+
+fn print(row: &Row, side: usize, medians: &Medians) {
+    let wanted = row.most.map_or(String::new(), |most| format!("{most:.3}"));
+    println!(
+        "{:<28} {:>9} {:>11.2} {:>11.2} {:>10.3} {wanted:>7}",
+        row.name,
+        format!("{side}x{side}"),
+        medians.rust,
+        medians.ours,
+        medians.ratio()
+    );
+}

@@ -1,0 +1,5 @@
+//! What the comparison and the measurements of `../bench` share: the proved exports, and cases for them.
+
+pub mod boundary;
+pub mod pattern;
+pub mod random;

@@ -1,0 +1,100 @@
+-- `pairs` of aggregation.rs over lists: connected strength-based aggregation. Definitions only.
+-- Of n rows, n stands in a map for "no aggregate yet" (`usize::MAX`), and in a choice for `None`.
+use mathlib.Core.Path.{_≡_}
+use mathlib.Core.Bool.{Bool, false, cond}
+use mathlib.Core.List.{List, map}
+use Prim.Native.Nat.{ℕ, _+_, _-_, _≤_, _<_}
+use lib.Dec.{eqb}
+use lib.ListN.{set}
+use lib.Ieee.{Float, lt}
+use Rattle.float.specs.Float.{zero64, absOf}
+use Rattle.store.specs.Loop.{for}
+use Rattle.store.specs.Region.{at, idx}
+use Rattle.store.specs.Vector.{filled}
+use Rattle.aggregation.specs.declared.Choice.{Choice}
+
+-- a matrix's pattern in compressed rows, with the strength of each entry
+pub record Weighted : Type 0 where
+  pub rows : ℕ
+  pub offsets : List ℕ
+  pub columns : List ℕ
+  pub weights : List Float
+
+abbrev pub weighted : ℕ → List ℕ → List ℕ → List Float → Weighted
+weighted n o c v = record { rows = n; offsets = o; columns = c; weights = v }
+
+-- the strength of one entry: its weight, or, where no weights are given, the absolute value of the matrix there
+abbrev pub strengthOf : Bool → Float → Float
+strengthOf absolute x = cond absolute (absOf x) x
+
+-- the strengths of all entries
+unfoldable pub strengthsOf : Bool → List Float → List Float
+strengthsOf absolute v = cond absolute (map absOf v) v
+
+-- a row's strongest free neighbour and its weight, and the aggregate of its strongest assigned one and that one's weight
+abbrev pub choice : ℕ → Float → ℕ → Float → Choice
+choice f x a y = record { free = f; adjacent = a; freeweight = x; adjacentweight = y }
+
+-- the candidate test, `weight > best`: strict, so that of equal weights the first in row order stays
+abbrev pub candidate : Float → Float → Bool
+candidate best weight = lt best weight
+
+-- one entry: not the diagonal; a free neighbour, or one of the aggregate `cluster`, may be the strongest of its kind so far
+unfoldable pub considerOf : ℕ → ℕ → ℕ → Float → ℕ → Choice → Choice
+considerOf n row column weight cluster s =
+    cond (eqb column row) s
+    (cond (eqb cluster n)
+    (cond (candidate (s .freeweight) weight) (choice column weight (s .adjacent) (s .adjacentweight)) s)
+    (cond (candidate (s .adjacentweight) weight) (choice (s .free) (s .freeweight) cluster weight) s))
+
+-- entry e of a row, by the map so far
+unfoldable pub entryOf : Weighted → List ℕ → ℕ → ℕ → Choice → Choice
+entryOf a map row e s = considerOf (a .rows) row (idx (a .columns) e) (at (a .weights) e) (idx map (idx (a .columns) e)) s
+
+-- the choice of a row: all its entries, from none
+unfoldable pub strongestOf : Weighted → List ℕ → ℕ → Choice
+strongestOf a map row =
+    for (entryOf a map row) (idx (a .offsets) row) (idx (a .offsets) (row + 1)) (choice (a .rows) zero64 (a .rows) zero64)
+
+-- the aggregate of each row, and how many there are
+pub record Pairing : Type 0 where
+  pub map : List ℕ
+  pub count : ℕ
+
+abbrev pub pairing : List ℕ → ℕ → Pairing
+pairing m c = record { map = m; count = c }
+
+-- a free row makes an aggregate with its free neighbour, else joins that of its assigned one, else makes one alone
+unfoldable pub placeOf : ℕ → ℕ → Choice → Pairing → Pairing
+placeOf n row s p =
+    cond (eqb (s .free) n)
+    (cond (eqb (s .adjacent) n)
+    (pairing (set (p .map) row (p .count)) (p .count + 1))
+    (pairing (set (p .map) row (s .adjacent)) (p .count)))
+    (pairing (set (set (p .map) row (p .count)) (s .free) (p .count)) (p .count + 1))
+
+-- one row: passed over where it is assigned already
+unfoldable pub pairRowOf : Weighted → ℕ → Pairing → Pairing
+pairRowOf a row p = cond (eqb (idx (p .map) row) (a .rows)) (placeOf (a .rows) row (strongestOf a (p .map) row) p) p
+
+-- the row of a turn: rows upward, or downward
+abbrev pub rowOf : Bool → ℕ → ℕ → ℕ
+rowOf forward n index = cond forward index (n - 1 - index)
+
+-- one turn
+unfoldable pub turnOf : Weighted → Bool → ℕ → Pairing → Pairing
+turnOf a forward index p = pairRowOf a (rowOf forward (a .rows) index) p
+
+-- `pairs`: a turn for each row, from none assigned
+unfoldable pub pairsOf : Weighted → Bool → Pairing
+pairsOf a forward = for (turnOf a forward) 0 (a .rows) (pairing (filled (a .rows) (a .rows)) 0)
+
+-- a pattern of n rows and m entries is in range: each row's entries are among the m, and each column is a row
+pub record InRange (n m : ℕ) (offsets columns : List ℕ) : Type 0 where
+  pub ends : (k : ℕ) → k ≤ n → idx offsets k ≤ m
+  pub below : (e : ℕ) → e < m → idx columns e < n
+
+-- no off-diagonal weight exceeds zero
+pub record NoneAbove (a : Weighted) : Type 0 where
+  pub none : (row e : ℕ) → row < a .rows → idx (a .offsets) row ≤ e → e < idx (a .offsets) (row + 1)
+      → (idx (a .columns) e ≡ row → ⊥) → lt zero64 (at (a .weights) e) ≡ false

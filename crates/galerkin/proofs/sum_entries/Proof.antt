@@ -1,0 +1,15 @@
+-- `galerkin::sum_entries` meets its contract.
+-- Assumes nothing.
+use Rattle.galerkin.proofs.Turns.{sums-after, sums-done}
+use borrow.Author.Needs.{needs}
+use Rattle.galerkin.proofs.sum_entries.Statement.{statement}
+use Rattle.galerkin.proofs.sum_entries.Tie as tie
+
+add-entries-requires : tie.Need-add-entries-requires
+add-entries-requires c κs = search (sums-after, needs)
+
+returns : tie.Need-returns
+returns c = search (sums-done)
+
+pub sum-entries-spec : {M : Type 1} → statement M
+sum-entries-spec = tie.close (tie.spec (λ c κs. search needs) add-entries-requires (λ c. search needs) returns)

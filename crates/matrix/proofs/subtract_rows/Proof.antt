@@ -1,0 +1,49 @@
+-- `matrix::subtract_rows` meets its contract. The loop's invariant: what is left to do from here gives what the whole gives.
+-- Assumes nothing.
+use mathlib.Core.Path.{_≡_, refl}
+use Prim.Native.Nat.{_-_}
+use lib.ListN.{length}
+use Rattle.float.specs.Float.{sub64}
+use Rattle.store.specs.Loop.{for}
+use Rattle.store.proofs.Loop.{Left, left-start, left-on}
+use Rattle.matrix.specs.Turns.{rowTurn}
+use Rattle.matrix.proofs.Turns.{rows-resize, spread}
+use native.Mathlib.Omega.{arith}
+use borrow.Author.Needs.{needs}
+use Rattle.matrix.proofs.subtract_rows.Statement.{statement}
+use Rattle.matrix.proofs.subtract_rows.Tie as tie
+
+abbrev Inv-loop : tie.InvT-loop
+Inv-loop w f₀ rows offsets neighbors coefficients x out row₀ f row =
+    (length f ≡ length f₀)
+    × Left (rowTurn sub64 w offsets neighbors coefficients x out) row rows f
+    (for (rowTurn sub64 w offsets neighbors coefficients x out) 0 rows f₀)
+
+abbrev μ-loop : tie.MeasureT-loop
+μ-loop w f₀ rows offsets neighbors coefficients x out row₀ f row = rows - row
+
+loop-holds : tie.Need-loop-holds Inv-loop μ-loop
+loop-holds c = (refl, left-start)
+
+subtract-row-requires : tie.Need-subtract-row-requires Inv-loop μ-loop
+subtract-row-requires c κs = search (rows-resize, needs)
+
+loop-again : tie.Need-loop-again Inv-loop μ-loop
+loop-again c = search (left-on, needs)
+
+returns : tie.Need-returns Inv-loop μ-loop
+returns c = search (spread)
+
+pub subtract-rows-spec : {M : Type 1} → statement M
+subtract-rows-spec =
+    tie.close
+    (tie.spec
+    Inv-loop
+    μ-loop
+    loop-holds
+    subtract-row-requires
+    (λ c. omega arith)
+    (λ c. omega arith)
+    loop-again
+    (λ c. omega arith)
+    returns)

@@ -1,0 +1,35 @@
+-- `matrix::values::update` meets its contract.
+-- Assumes nothing.
+use Rattle.matrix.proofs.UpdateLaws.{rows-entries, faces-entries, update-no, update-yes}
+use borrow.Author.Needs.{needs}
+use Rattle.matrix.proofs.values.update.Statement.{statement}
+use Rattle.matrix.proofs.values.update.Tie as tie
+
+update-rows-requires : tie.Need-update-rows-requires
+update-rows-requires c κs = search (rows-entries, needs)
+
+update-faces-requires : tie.Need-update-faces-requires
+update-faces-requires c κs = search (faces-entries)
+
+returns : tie.Need-returns
+returns c = search (update-yes)
+
+returns-2 : tie.Need-returns-2
+returns-2 c = search (update-no)
+
+pub update-spec : {M : Type 1} → statement M
+update-spec =
+    tie.close
+    (tie.spec
+    (λ c. search needs)
+    (λ c. search needs)
+    (λ c. search needs)
+    (λ c κs. search needs)
+    update-rows-requires
+    (λ c. search needs)
+    update-faces-requires
+    (λ c. search needs)
+    (λ c. search needs)
+    returns
+    (λ c. search needs)
+    returns-2)

@@ -1,0 +1,54 @@
+-- `matrix::values::update_faces` meets its contract. The loop's invariant: what is left to do from here gives what the whole gives.
+-- Assumes nothing.
+use mathlib.Core.Path.{_≡_, refl}
+use Prim.Native.Nat.{_-_}
+use lib.ListN.{length}
+use Rattle.store.specs.Loop.{for}
+use Rattle.store.proofs.Loop.{Left, left-start, left-on}
+use Rattle.matrix.specs.Turns.{pickTurn}
+use Rattle.matrix.proofs.UpdateLaws.{entry-of, pick-on, picked}
+use native.Mathlib.Omega.{arith}
+use borrow.Author.Needs.{needs}
+use Rattle.matrix.proofs.values.update_faces.Statement.{statement}
+use Rattle.matrix.proofs.values.update_faces.Tie as tie
+
+abbrev Inv-loop : tie.InvT-loop
+Inv-loop w f₀ faces entries places values coefficients face₀ f face =
+    (length f ≡ length f₀)
+    × Left (pickTurn w places values coefficients) face faces f
+    (for (pickTurn w places values coefficients) 0 faces f₀)
+
+abbrev μ-loop : tie.MeasureT-loop
+μ-loop w f₀ faces entries places values coefficients face₀ f face = faces - face
+
+loop-holds : tie.Need-loop-holds Inv-loop μ-loop
+loop-holds c = (refl, left-start)
+
+index-at-requires : tie.Need-index-at-requires Inv-loop μ-loop
+index-at-requires c κs = search (entry-of, needs)
+
+loop-again : tie.Need-loop-again Inv-loop μ-loop
+loop-again c = search (left-on, pick-on, needs)
+
+returns : tie.Need-returns Inv-loop μ-loop
+returns c = search (picked)
+
+pub update-faces-spec : {M : Type 1} → statement M
+update-faces-spec =
+    tie.close
+    (tie.spec
+    Inv-loop
+    μ-loop
+    loop-holds
+    index-at-requires
+    (λ c. omega arith)
+    (λ c. omega arith)
+    (λ c. omega arith)
+    (λ c. omega arith)
+    (λ c. omega arith)
+    (λ c. omega arith)
+    (λ c. omega arith)
+    (λ c. omega arith)
+    loop-again
+    (λ c. omega arith)
+    returns)

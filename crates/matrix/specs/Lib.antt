@@ -1,0 +1,4 @@
+pub mod Kernel
+pub mod Turns
+pub mod Mirrors
+pub mod Update

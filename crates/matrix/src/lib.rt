@@ -1,0 +1,326 @@
+// matrix.rs: the symmetric face-addressed matrix of a level, its product, residual and row sums over regions of the store.
+ghost use mathlib.Core.Path.{_≡_};
+ghost use Prim.Native.Nat.{_+_, _<_, _≤_};
+ghost use lib.ListN.{length};
+ghost use Rattle.float.specs.Float.{add64, sub64};
+ghost use Rattle.store.specs.Loop.{for};
+ghost use Rattle.store.specs.Region.{part, Wrote};
+ghost use Rattle.matrix.specs.Kernel.{kernelAt, applyOf, residualOf, rowSumsOf, KernelOk};
+ghost use Rattle.matrix.specs.Turns.{productTurn, lessTurn, Faced, Rowed, Spread, FacesOk, RowsOk, SumFaced, SumRowed, Summed};
+
+mod symmetry;
+mod values;
+
+pub use symmetry::equal_mirrors;
+pub use values::Entries;
+pub use values::update;
+
+// Where a matrix lies: offsets and neighbors in the words, the others in the floats. Each coefficient is stored once.
+pub struct SymmetricMatrix {
+    pub rows: usize,
+    pub diagonal: usize,
+    pub inverse: usize,
+    pub offsets: usize,
+    pub neighbors: usize,
+    pub coefficients: usize,
+}
+
+// output = diagonal * x.
+fn diagonal_product(f: &mut [f64], rows: usize, diagonal: usize, x: usize, out: usize)
+    requires { ⌜ diagonal + rows ≤ length (now f) ⌝ }
+    requires { ⌜ x + rows ≤ length (now f) ⌝ }
+    requires { ⌜ out + rows ≤ length (now f) ⌝ }
+    ensures { λ _. ⌜ now (f .exit) ≡ for (productTurn diagonal x out) 0 rows (now (f .entry)) ⌝ }
+{
+    let mut row = 0;
+    while row < rows {
+        f[out + row] = f[diagonal + row] * f[x + row];
+        row += 1;
+    }
+}
+
+// The faces from lo to hi of a row whose own x is `own`: each neighbour's value in place, the owner's returned.
+fn add_faces(
+    w: &[u32],
+    f: &mut [f64],
+    rows: usize,
+    lo: usize,
+    hi: usize,
+    neighbors: usize,
+    coefficients: usize,
+    x: usize,
+    out: usize,
+    own: f64,
+    start: f64,
+) -> f64
+    requires { ⌜ FacesOk (now w) (length (now f)) rows hi neighbors coefficients x out ⌝ }
+    ensures { λ r. ⌜ Faced add64 (now (w .entry)) neighbors coefficients x out lo hi own (now (f .entry)) start (now (f .exit)) r ⌝ }
+{
+    let mut owner = start;
+    let mut face = lo;
+    while face < hi {
+        let neighbor = store::index_at(w, neighbors, face, rows);
+        let a = f[coefficients + face];
+        owner = owner + a * f[x + neighbor];
+        f[out + neighbor] = f[out + neighbor] + a * own;
+        face += 1;
+    }
+    owner
+}
+
+// The faces of one row.
+fn add_row(
+    w: &[u32],
+    f: &mut [f64],
+    rows: usize,
+    offsets: usize,
+    neighbors: usize,
+    coefficients: usize,
+    x: usize,
+    out: usize,
+    row: usize,
+)
+    requires { ⌜ RowsOk (now w) (length (now f)) rows offsets neighbors coefficients x out ⌝ }
+    requires { ⌜ row < rows ⌝ }
+    ensures { λ _. ⌜ Rowed add64 (now (w .entry)) offsets neighbors coefficients x out row (now (f .entry)) (now (f .exit)) ⌝ }
+{
+    let lo = store::wide(w[offsets + row]);
+    let hi = store::wide(w[offsets + row + 1]);
+    let own = f[x + row];
+    let start = f[out + row];
+    let owner = add_faces(
+        w,
+        f,
+        rows,
+        lo,
+        hi,
+        neighbors,
+        coefficients,
+        x,
+        out,
+        own,
+        start,
+    );
+    f[out + row] = owner;
+}
+
+// The faces of every row.
+fn add_rows(
+    w: &[u32],
+    f: &mut [f64],
+    rows: usize,
+    offsets: usize,
+    neighbors: usize,
+    coefficients: usize,
+    x: usize,
+    out: usize,
+)
+    requires { ⌜ RowsOk (now w) (length (now f)) rows offsets neighbors coefficients x out ⌝ }
+    ensures { λ _. ⌜ Spread add64 (now (w .entry)) rows offsets neighbors coefficients x out (now (f .entry)) (now (f .exit)) ⌝ }
+{
+    let mut row = 0;
+    while row < rows {
+        add_row(w, f, rows, offsets, neighbors, coefficients, x, out, row);
+        row += 1;
+    }
+}
+
+// output = A x.
+pub fn apply(w: &[u32], f: &mut [f64], s: SymmetricMatrix, x: usize, out: usize)
+    requires { ⌜ KernelOk (now w) x s ⌝ }
+    requires { ⌜ x + s .rows ≤ out ⌝ }
+    requires { ⌜ out + s .rows ≤ length (now f) ⌝ }
+    ensures { λ _. ⌜ Wrote out (s .rows) (applyOf (kernelAt s (now (w .entry)) (now (f .entry))) (part x (s .rows) (now (f .entry)))) (now (f .entry)) (now (f .exit)) ⌝ }
+{
+    diagonal_product(f, s.rows, s.diagonal, x, out);
+    add_rows(w, f, s.rows, s.offsets, s.neighbors, s.coefficients, x, out);
+}
+
+// output = rhs - diagonal * x.
+fn diagonal_residual(f: &mut [f64], rows: usize, diagonal: usize, x: usize, rhs: usize, out: usize)
+    requires { ⌜ diagonal + rows ≤ length (now f) ⌝ }
+    requires { ⌜ x + rows ≤ length (now f) ⌝ }
+    requires { ⌜ rhs + rows ≤ length (now f) ⌝ }
+    requires { ⌜ out + rows ≤ length (now f) ⌝ }
+    ensures { λ _. ⌜ now (f .exit) ≡ for (lessTurn diagonal x rhs out) 0 rows (now (f .entry)) ⌝ }
+{
+    let mut row = 0;
+    while row < rows {
+        f[out + row] = f[rhs + row] - f[diagonal + row] * f[x + row];
+        row += 1;
+    }
+}
+
+// The faces from lo to hi, subtracted, of a row whose own x is `own`: each neighbour's value in place, the owner's returned.
+fn subtract_faces(
+    w: &[u32],
+    f: &mut [f64],
+    rows: usize,
+    lo: usize,
+    hi: usize,
+    neighbors: usize,
+    coefficients: usize,
+    x: usize,
+    out: usize,
+    own: f64,
+    start: f64,
+) -> f64
+    requires { ⌜ FacesOk (now w) (length (now f)) rows hi neighbors coefficients x out ⌝ }
+    ensures { λ r. ⌜ Faced sub64 (now (w .entry)) neighbors coefficients x out lo hi own (now (f .entry)) start (now (f .exit)) r ⌝ }
+{
+    let mut owner = start;
+    let mut face = lo;
+    while face < hi {
+        let neighbor = store::index_at(w, neighbors, face, rows);
+        let a = f[coefficients + face];
+        owner = owner - a * f[x + neighbor];
+        f[out + neighbor] = f[out + neighbor] - a * own;
+        face += 1;
+    }
+    owner
+}
+
+// The faces of one row, subtracted.
+fn subtract_row(
+    w: &[u32],
+    f: &mut [f64],
+    rows: usize,
+    offsets: usize,
+    neighbors: usize,
+    coefficients: usize,
+    x: usize,
+    out: usize,
+    row: usize,
+)
+    requires { ⌜ RowsOk (now w) (length (now f)) rows offsets neighbors coefficients x out ⌝ }
+    requires { ⌜ row < rows ⌝ }
+    ensures { λ _. ⌜ Rowed sub64 (now (w .entry)) offsets neighbors coefficients x out row (now (f .entry)) (now (f .exit)) ⌝ }
+{
+    let lo = store::wide(w[offsets + row]);
+    let hi = store::wide(w[offsets + row + 1]);
+    let own = f[x + row];
+    let start = f[out + row];
+    let owner = subtract_faces(
+        w,
+        f,
+        rows,
+        lo,
+        hi,
+        neighbors,
+        coefficients,
+        x,
+        out,
+        own,
+        start,
+    );
+    f[out + row] = owner;
+}
+
+// The faces of every row, subtracted.
+fn subtract_rows(
+    w: &[u32],
+    f: &mut [f64],
+    rows: usize,
+    offsets: usize,
+    neighbors: usize,
+    coefficients: usize,
+    x: usize,
+    out: usize,
+)
+    requires { ⌜ RowsOk (now w) (length (now f)) rows offsets neighbors coefficients x out ⌝ }
+    ensures { λ _. ⌜ Spread sub64 (now (w .entry)) rows offsets neighbors coefficients x out (now (f .entry)) (now (f .exit)) ⌝ }
+{
+    let mut row = 0;
+    while row < rows {
+        subtract_row(w, f, rows, offsets, neighbors, coefficients, x, out, row);
+        row += 1;
+    }
+}
+
+// Fuses b - A x for smoothing, avoiding a separate pass over the vector.
+pub fn residual(w: &[u32], f: &mut [f64], s: SymmetricMatrix, x: usize, rhs: usize, out: usize)
+    requires { ⌜ KernelOk (now w) rhs s ⌝ }
+    requires { ⌜ rhs + s .rows ≤ x ⌝ }
+    requires { ⌜ x + s .rows ≤ out ⌝ }
+    requires { ⌜ out + s .rows ≤ length (now f) ⌝ }
+    ensures { λ _. ⌜ Wrote out (s .rows) (residualOf (kernelAt s (now (w .entry)) (now (f .entry))) (part x (s .rows) (now (f .entry))) (part rhs (s .rows) (now (f .entry)))) (now (f .entry)) (now (f .exit)) ⌝ }
+{
+    diagonal_residual(f, s.rows, s.diagonal, x, rhs, out);
+    subtract_rows(w, f, s.rows, s.offsets, s.neighbors, s.coefficients, x, out);
+}
+
+// The faces from lo to hi of a row, each added to the row's sum and to its neighbour's.
+fn sum_faces(
+    w: &[u32],
+    f: &mut [f64],
+    rows: usize,
+    lo: usize,
+    hi: usize,
+    neighbors: usize,
+    coefficients: usize,
+    sums: usize,
+    row: usize,
+)
+    requires { ⌜ FacesOk (now w) (length (now f)) rows hi neighbors coefficients sums sums ⌝ }
+    requires { ⌜ row < rows ⌝ }
+    ensures { λ _. ⌜ SumFaced (now (w .entry)) neighbors coefficients sums row lo hi (now (f .entry)) (now (f .exit)) ⌝ }
+{
+    let mut face = lo;
+    while face < hi {
+        let neighbor = store::index_at(w, neighbors, face, rows);
+        let a = f[coefficients + face];
+        f[sums + row] = f[sums + row] + a;
+        f[sums + neighbor] = f[sums + neighbor] + a;
+        face += 1;
+    }
+}
+
+// The faces of one row.
+fn sum_row(
+    w: &[u32],
+    f: &mut [f64],
+    rows: usize,
+    offsets: usize,
+    neighbors: usize,
+    coefficients: usize,
+    sums: usize,
+    row: usize,
+)
+    requires { ⌜ RowsOk (now w) (length (now f)) rows offsets neighbors coefficients sums sums ⌝ }
+    requires { ⌜ row < rows ⌝ }
+    ensures { λ _. ⌜ SumRowed (now (w .entry)) offsets neighbors coefficients sums row (now (f .entry)) (now (f .exit)) ⌝ }
+{
+    let lo = store::wide(w[offsets + row]);
+    let hi = store::wide(w[offsets + row + 1]);
+    sum_faces(w, f, rows, lo, hi, neighbors, coefficients, sums, row);
+}
+
+// The faces of every row.
+fn sum_rows(
+    w: &[u32],
+    f: &mut [f64],
+    rows: usize,
+    offsets: usize,
+    neighbors: usize,
+    coefficients: usize,
+    sums: usize,
+)
+    requires { ⌜ RowsOk (now w) (length (now f)) rows offsets neighbors coefficients sums sums ⌝ }
+    ensures { λ _. ⌜ Summed (now (w .entry)) rows offsets neighbors coefficients sums (now (f .entry)) (now (f .exit)) ⌝ }
+{
+    let mut row = 0;
+    while row < rows {
+        sum_row(w, f, rows, offsets, neighbors, coefficients, sums, row);
+        row += 1;
+    }
+}
+
+// The sum of each row of A.
+pub fn row_sums_into(w: &[u32], f: &mut [f64], s: SymmetricMatrix, sums: usize)
+    requires { ⌜ KernelOk (now w) sums s ⌝ }
+    requires { ⌜ sums + s .rows ≤ length (now f) ⌝ }
+    ensures { λ _. ⌜ Wrote sums (s .rows) (rowSumsOf (kernelAt s (now (w .entry)) (now (f .entry)))) (now (f .entry)) (now (f .exit)) ⌝ }
+{
+    store::copy(f, s.rows, s.diagonal, sums);
+    sum_rows(w, f, s.rows, s.offsets, s.neighbors, s.coefficients, sums);
+}

@@ -1,0 +1,113 @@
+// `update` of matrix.rs: a matrix takes its values from the entries of an image.
+ghost use mathlib.Core.Path.{_≡_};
+ghost use Prim.Native.Nat.{_+_, _≤_};
+ghost use lib.ListN.{length};
+ghost use Rattle.store.specs.Region.{idx, part, Wrote};
+ghost use Rattle.store.specs.Vector.{tab};
+ghost use Rattle.matrix.specs.Update.{isPositive, entryOf, updateAt, UpdateOk, Updated, EntriesOk, RowsUpdated};
+use crate::SymmetricMatrix;
+use options::Refusal;
+use options::Verdict;
+
+// Where an image lies: its values in the floats; in the words the entry of each row's diagonal and of each face.
+pub struct Entries {
+    pub entries: usize,
+    pub diagonals: usize,
+    pub faces: usize,
+    pub values: usize,
+}
+
+fn is_positive(d: f64) -> bool
+    ensures { λ r. ⌜ r ≡ isPositive d ⌝ }
+{
+    float::is_finite(d) & (d > 0.0)
+}
+
+// The diagonal and its reciprocals, row by row: questions 12 and 13.
+fn update_rows(
+    w: &[u32],
+    f: &mut [f64],
+    rows: usize,
+    entries: usize,
+    places: usize,
+    values: usize,
+    diagonal: usize,
+    inverse: usize,
+    level: u64,
+) -> Verdict
+    requires { ⌜ EntriesOk (now w) (length (now f)) rows entries places values diagonal ⌝ }
+    requires { ⌜ diagonal + rows ≤ inverse ⌝ }
+    requires { ⌜ inverse + rows ≤ length (now f) ⌝ }
+    ensures { λ r. ⌜ RowsUpdated (now (w .entry)) rows entries places values (now (f .entry)) level diagonal inverse (now (f .exit)) r ⌝ }
+{
+    let mut row = 0;
+    while row < rows {
+        let entry = store::index_at(w, places, row, entries);
+        let d = f[values + entry];
+        if is_positive(d) {
+            f[diagonal + row] = d;
+            f[inverse + row] = 1.0 / d;
+            if float::is_finite(1.0 / d) {
+                row += 1;
+            } else {
+                return Verdict::Refused(Refusal::BadReciprocal {
+                    level: level,
+                    row: row as u64,
+                });
+            }
+        } else {
+            return Verdict::Refused(Refusal::BadDiagonal {
+                level: level,
+                row: row as u64,
+            });
+        }
+    }
+    Verdict::Passed
+}
+
+// The faces' values, copied without a test: their finiteness is asked of the whole image.
+fn update_faces(
+    w: &[u32],
+    f: &mut [f64],
+    faces: usize,
+    entries: usize,
+    places: usize,
+    values: usize,
+    coefficients: usize,
+)
+    requires { ⌜ EntriesOk (now w) (length (now f)) faces entries places values coefficients ⌝ }
+    ensures { λ _. ⌜ Wrote coefficients faces (tab (entryOf (part places faces (now (w .entry))) (part values entries (now (f .entry)))) faces) (now (f .entry)) (now (f .exit)) ⌝ }
+{
+    let mut face = 0;
+    while face < faces {
+        let entry = store::index_at(w, places, face, entries);
+        f[coefficients + face] = f[values + entry];
+        face += 1;
+    }
+}
+
+// New values for the matrix at s. Where a diagonal is refused, some rows may have been written.
+pub fn update(w: &[u32], f: &mut [f64], s: SymmetricMatrix, e: Entries, level: u64) -> Verdict
+    requires { ⌜ UpdateOk (now w) (length (now f)) s e ⌝ }
+    ensures { λ r. ⌜ Updated (now (w .entry)) s (updateAt level s e (now (w .entry)) (now (f .entry))) (now (f .entry)) (now (f .exit)) r ⌝ }
+{
+    let faces = store::wide(w[s.offsets + s.rows]);
+    let asked = update_rows(
+        w,
+        f,
+        s.rows,
+        e.entries,
+        e.diagonals,
+        e.values,
+        s.diagonal,
+        s.inverse,
+        level,
+    );
+    match asked {
+        Verdict::Passed => {
+            update_faces(w, f, faces, e.entries, e.faces, e.values, s.coefficients);
+            Verdict::Passed
+        }
+        Verdict::Refused(refusal) => Verdict::Refused(refusal),
+    }
+}

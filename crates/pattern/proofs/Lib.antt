@@ -1,0 +1,11 @@
+pub mod Number
+pub mod Place
+pub mod Row
+pub mod Coarse
+pub mod Standing
+pub mod Chains
+pub mod Gathering
+pub mod Turning
+pub mod Locating
+pub mod Whole
+pub mod Composing
