@@ -1,0 +1,4 @@
+pub mod Vectors
+pub mod Passes
+pub mod Normal
+pub mod Ways

@@ -1,0 +1,2 @@
+pub mod Gcr
+pub mod Contract

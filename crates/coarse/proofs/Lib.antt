@@ -1,0 +1,5 @@
+pub mod Triangles
+pub mod Entries
+pub mod Rows
+pub mod Substitution
+pub mod Terminals

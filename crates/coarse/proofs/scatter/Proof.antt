@@ -1,0 +1,50 @@
+-- `coarse::scatter` meets its contract. The loop's invariant: what is left to do from here gives what the whole gives.
+-- Assumes nothing.
+use borrow.Author.Needs.{needs}
+use native.Mathlib.Omega.{arith}
+use mathlib.Core.Path.{_≡_, refl}
+use Prim.Native.Nat.{_-_}
+use lib.ListN.{length}
+use Rattle.store.specs.Loop.{for}
+use Rattle.store.proofs.Loop.{Left, left-start, left-on}
+use Rattle.coarse.proofs.Terminals.{scatterTurn, scatter-on, near-at, scatter-done}
+use Rattle.coarse.proofs.scatter.Statement.{statement}
+use Rattle.coarse.proofs.scatter.Tie as tie
+
+abbrev Inv-loop : tie.InvT-loop
+Inv-loop w f₀ n count coupled u x k₀ f k = (length f ≡ length f₀) × Left (scatterTurn w coupled u x) k count f (for (scatterTurn w coupled u x) 0 count f₀)
+
+abbrev μ-loop : tie.MeasureT-loop
+μ-loop w f₀ n count coupled u x k₀ f k = count - k
+
+loop-holds : tie.Need-loop-holds Inv-loop μ-loop
+loop-holds c = (refl, left-start)
+
+index-at-requires : tie.Need-index-at-requires Inv-loop μ-loop
+index-at-requires c κs = search (near-at, needs)
+
+loop-again : tie.Need-loop-again Inv-loop μ-loop
+loop-again c = search (left-on, scatter-on, needs)
+
+returns : tie.Need-returns Inv-loop μ-loop
+returns c = search (scatter-done)
+
+pub scatter-spec : {M : Type 1} → statement M
+scatter-spec =
+    tie.close
+    (tie.spec
+    Inv-loop
+    μ-loop
+    loop-holds
+    index-at-requires
+    (λ c. omega arith)
+    (λ c. omega arith)
+    (λ c. omega arith)
+    (λ c. omega arith)
+    (λ c. omega arith)
+    (λ c. omega arith)
+    (λ c. omega arith)
+    (λ c. omega arith)
+    loop-again
+    (λ c. omega arith)
+    returns)

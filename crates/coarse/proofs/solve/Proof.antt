@@ -1,0 +1,30 @@
+-- `coarse::solve` meets its contract.
+-- Assumes nothing.
+use borrow.Author.Needs.{needs}
+use Rattle.coarse.proofs.Terminals.{diagonal-ok, coupled-ok, solve-yes, solve-no}
+use Rattle.coarse.proofs.solve.Statement.{statement}
+use Rattle.coarse.proofs.solve.Tie as tie
+
+diagonal-requires : tie.Need-diagonal-requires
+diagonal-requires c κs = search (diagonal-ok)
+
+solve-coupled-requires : tie.Need-solve-coupled-requires
+solve-coupled-requires c κs = search (coupled-ok)
+
+returns : tie.Need-returns
+returns c = search (solve-yes)
+
+returns-2 : tie.Need-returns-2
+returns-2 c = search (solve-no)
+
+pub solve-spec : {M : Type 1} → statement M
+solve-spec =
+    tie.close
+    (tie.spec
+    diagonal-requires
+    solve-coupled-requires
+    (λ c κs. search needs)
+    (λ c. search needs)
+    returns
+    (λ c. search needs)
+    returns-2)

@@ -1,0 +1,4 @@
+pub mod Triangle
+pub mod Factor
+pub mod Terminal
+pub mod Contract

@@ -1,0 +1,36 @@
+-- The terminal level's solve: cycle.rs with `solve` of coarse.rs. Definitions only.
+use mathlib.Core.List.{List}
+use Prim.Native.Nat.{ℕ}
+use lib.Ieee.{Float}
+use lib.ListN.{set}
+use Rattle.float.specs.Float.{mul64}
+use Rattle.options.specs.declared.questions.Refusal.{Refusal}
+use Rattle.options.specs.Outcome.{Outcome, accepted, ask}
+use Rattle.store.specs.Loop.{for}
+use Rattle.store.specs.Region.{at, idx}
+use Rattle.store.specs.Vector.{tab}
+use Rattle.vector.specs.Dot.{allFinite}
+use Rattle.coarse.specs.Factor.{solveFactorOf}
+
+-- `x[row] = rhs[row] * inverse[row]`: what a row without connections needs
+unfoldable pub diagonalOf : ℕ → List Float → List Float → List Float
+diagonalOf n inverse rhs = tab (λ row. mul64 (at rhs row) (at inverse row)) n
+
+-- the right-hand side of the coupled rows
+unfoldable pub gatherOf : ℕ → List ℕ → List Float → List Float
+gatherOf size coupled rhs = tab (λ k. at rhs (idx coupled k)) size
+
+-- the compact solution, put where the coupled rows are
+unfoldable pub scatterOf : ℕ → List ℕ → List Float → List Float → List Float
+scatterOf size coupled u x = for (λ k x. set x (idx coupled k) (at u k)) 0 size x
+
+-- the terminal level's x: all rows by their diagonal, the coupled ones anew by the factor
+unfoldable pub solutionOf : ℕ → List Float → ℕ → List ℕ → List Float → List Float → List Float
+solutionOf n inverse size coupled factor rhs =
+    scatterOf size coupled (solveFactorOf size factor (gatherOf size coupled rhs)) (diagonalOf n inverse rhs)
+
+-- the terminal solve, with question 24 over all of x
+unfoldable pub terminalOf : ℕ → List Float → ℕ → List ℕ → List Float → List Float → Outcome (List Float)
+terminalOf n inverse size coupled factor rhs =
+    let x = solutionOf n inverse size coupled factor rhs in
+    ask (allFinite n x) Refusal.BadCoarseSolution (accepted x)

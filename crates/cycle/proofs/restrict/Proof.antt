@@ -1,0 +1,12 @@
+-- `cycle::restrict` meets its contract: zeros, and then a gather.
+-- Assumes nothing.
+use Rattle.cycle.proofs.Transfer.{restrict-done}
+use borrow.Author.Needs.{needs}
+use Rattle.cycle.proofs.restrict.Statement.{statement}
+use Rattle.cycle.proofs.restrict.Tie as tie
+
+returns : tie.Need-returns
+returns c = search (restrict-done)
+
+pub restrict-spec : {M : Type 1} → statement M
+restrict-spec = tie.close (tie.spec (λ c κs. search needs) (λ c κs. search needs) (λ c. search needs) returns)

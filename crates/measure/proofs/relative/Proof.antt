@@ -1,0 +1,16 @@
+-- `measure::relative` meets its contract: its test is the definition's.
+-- Assumes nothing.
+use Rattle.measure.specs.Normalization.{relativeOf}
+use Rattle.measure.proofs.relative.Statement.{statement}
+use Rattle.measure.proofs.relative.Tie as tie
+
+returns : tie.Need-returns
+unfolding relativeOf
+returns c = rw (c .if1 .taken)
+
+returns-2 : tie.Need-returns-2
+unfolding relativeOf
+returns-2 c = rw (c .if1 .left)
+
+pub relative-spec : {M : Type 1} → statement M
+relative-spec = tie.close (tie.spec returns returns-2)

@@ -1,0 +1,13 @@
+-- `measure::spread` meets its contract.
+-- Assumes nothing.
+use Rattle.measure.specs.Normalization.{spreadOf}
+use borrow.Author.Needs.{needs}
+use Rattle.measure.proofs.spread.Statement.{statement}
+use Rattle.measure.proofs.spread.Tie as tie
+
+returns : tie.Need-returns
+unfolding spreadOf
+returns c = cc
+
+pub spread-spec : {M : Type 1} → statement M
+spread-spec = tie.close (tie.spec (λ c κs. search needs) (λ c κs. search needs) returns)
