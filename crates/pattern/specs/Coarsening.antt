@@ -40,7 +40,7 @@ pub record PatternOk (w : List ℕ) (c : Coarsening) : Type 0 where
   pub mirrored : Mirrored (fineAt w c)
   pub maps : Maps (mapAt w c) (c .rows) (c .count)
 
--- What it ensures: r coarse entries, the coarse pattern and the fine entries' positions, and nothing else below scratch changed.
+-- What it ensures: r coarse entries, the coarse pattern and the fine entries' positions; below the positions nothing changed.
 pub record Patterned (w z : List ℕ) (c : Coarsening) (r : ℕ) : Type 0 where
   pub found : r ≡ entries (coarse (fineAt w c) (mapAt w c) (c .count))
   pub offsets : part (c .«coarse_offsets») (c .count + 1) z ≡ coarseOffsets (fineAt w c) (mapAt w c) (c .count)
