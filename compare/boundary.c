@@ -49,6 +49,81 @@ static void path(void) {
     expect(equal(w + 15, one, 4), "probe_compose");
 }
 
+/* The matrix [2 -1; -1 2]: one face. Words: offsets 0 1 1, neighbour 1, diagonal entries 0 3, face entry 1, mirror 2,
+ * then the compressed rows 0 2 4 with columns 0 1 0 1, and both rows coupled. */
+static void kernel(void) {
+    const uint32_t w[17] = {0, 1, 1, 1, 0, 3, 1, 2, 0, 2, 4, 0, 1, 0, 1, 0, 1};
+    double f[30] = {2, -1, -1, 2};
+    uint64_t place[2] = {7, 7};
+
+    expect(probe_equal_mirrors(w, 17, f, 4, 1, 6, 7) == 1, "probe_equal_mirrors");
+    expect(probe_update(w, 17, f, 30, 2, 5, 7, 0, 3, 4, 4, 4, 6, 0, 0, place, 2) == 0 && f[4] == -1 && f[5] == 2 &&
+               f[8] == 0.5 && place[0] == 7,
+           "probe_update");
+    f[3] = -2;
+    expect(probe_update(w, 17, f, 30, 2, 5, 7, 0, 3, 4, 4, 4, 6, 0, 9, place, 2) == 12 && place[0] == 9 &&
+               place[1] == 1,
+           "probe_update");
+    f[3] = 2;
+    f[6] = 2;
+    f[8] = 0.5;
+    f[9] = 1;
+    f[10] = 0;
+    f[11] = 3;
+    f[12] = 5;
+    probe_apply(w, 17, f, 30, 2, 5, 7, 0, 3, 4, 11, 13);
+    expect(f[13] == 1 && f[14] == 7, "probe_apply");
+    probe_residual(w, 17, f, 30, 2, 5, 7, 0, 3, 4, 11, 9, 13);
+    expect(f[13] == 0 && f[14] == -7, "probe_residual");
+    probe_row_sums_into(w, 17, f, 30, 2, 5, 7, 0, 3, 4, 13);
+    expect(f[13] == 1 && f[14] == 1, "probe_row_sums_into");
+    f[0] = 4;
+    f[1] = 2;
+    f[2] = 2;
+    f[3] = 10;
+    expect(probe_cholesky(w, 17, f, 30, 2, 4, 8, 11, 0, 2, 15, 13, 0, place, 2) == 0 && f[13] == 2 && f[14] == 1 &&
+               f[15] == 3,
+           "probe_cholesky");
+    f[16] = 8;
+    f[17] = 40;
+    probe_solve_factor(f, 30, 2, 13, 16, 18);
+    expect(f[18] == 0 && f[19] == 4, "probe_solve_factor");
+    expect(probe_solve(w, 17, f, 30, 2, 4, 8, 11, 0, 2, 15, 13, 7, 16, 18, 20, place, 2) == 0 && f[18] == 0 &&
+               f[19] == 4,
+           "probe_solve");
+}
+
+/* Two rows in one aggregate. */
+static void corrections(void) {
+    const uint32_t w[2] = {0, 0};
+    double f[20] = {3, 4, 0, 0, 1, 2, 5, 7, 1, 1, 2, 2};
+    double out[1] = {0};
+    uint64_t count[1] = {0};
+
+    expect(probe_measure(f, 20, 2, 0, 0, 1.0, out, 1) == 1 && out[0] == 5, "probe_measure");
+    expect(probe_normalization(f, 20, 2, 2, 0, 4, 2, 1) == 10, "probe_normalization");
+    expect(probe_threshold(1.0, 0.5, 4.0) == 2, "probe_threshold");
+    expect(probe_relative(4.0, 1.0) == 0.25, "probe_relative");
+    probe_restrict(w, 2, f, 20, 2, 1, 0, 0, 2);
+    expect(f[2] == 7, "probe_restrict");
+    probe_prolong(w, 2, f, 20, 2, 1, 0, 2, 0);
+    expect(f[0] == 7 && f[1] == 7, "probe_prolong");
+    probe_subtract(f, 20, 2, 6, 4, 12);
+    expect(f[12] == 4 && f[13] == 5, "probe_subtract");
+    expect(probe_correction_factor(f, 20, 2, 8, 4, 10, out, 1) == 0 && out[0] == 0.75, "probe_correction_factor");
+    probe_add_scaled(f, 20, 2, 0.5, 8, 4, 10, 0, 6);
+    expect(f[6] == 5.5 && f[7] == 14.5, "probe_add_scaled");
+    probe_add_plain(f, 20, 2, 8, 6);
+    expect(f[6] == 6.5 && f[7] == 15.5, "probe_add_plain");
+    /* One row: solution 10, no stored pair, residual 4, direction 6, image 2; it moves by 4 * 3. */
+    f[0] = 10;
+    f[3] = 4;
+    f[4] = 6;
+    f[5] = 2;
+    expect(probe_correct(f, 20, 1, 1, 0, 0, 1, 2, 3, 4, 5, count, 1) == 0 && count[0] == 1 && f[0] == 22,
+           "probe_correct");
+}
+
 int main(void) {
     const double store[6] = {9.0, 3.0, 4.0, 9.0, 1.0, 2.0};
     double out[1] = {0.0};
@@ -67,5 +142,7 @@ int main(void) {
     expect(probe_norm_l2(store, 6, 1, 2, out, 1) == 1 && out[0] == 5.0, "probe_norm_l2");
     expect(probe_all_finite(store, 6, 4, 2) == 1, "probe_all_finite");
     path();
+    kernel();
+    corrections();
     return failures != 0;
 }

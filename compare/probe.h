@@ -75,4 +75,91 @@ void probe_restrict_weights(const uint32_t *w, size_t w_length, double *f, size_
                             size_t m, size_t positions, size_t offsets, size_t columns, size_t weights,
                             size_t total, size_t out);
 
+/* A x at out, by the kernel's faces; the fused b - A x; the sums of the rows of A.
+ * Required: offsets + rows + 1 and neighbors + faces at most w_length, where faces is the last offset; each offset
+ * at most faces, each neighbour below rows; diagonal + rows, inverse + rows and coefficients + faces at most x (rhs for
+ * the residual, sums for the sums); rhs + rows <= x, x + rows <= out, out + rows <= f_length; w does not overlap f. */
+void probe_apply(const uint32_t *w, size_t w_length, double *f, size_t f_length, size_t rows, size_t diagonal,
+                 size_t inverse, size_t offsets, size_t neighbors, size_t coefficients, size_t x, size_t out);
+void probe_residual(const uint32_t *w, size_t w_length, double *f, size_t f_length, size_t rows,
+                    size_t diagonal, size_t inverse, size_t offsets, size_t neighbors, size_t coefficients,
+                    size_t x, size_t rhs, size_t out);
+void probe_row_sums_into(const uint32_t *w, size_t w_length, double *f, size_t f_length, size_t rows,
+                         size_t diagonal, size_t inverse, size_t offsets, size_t neighbors, size_t coefficients,
+                         size_t sums);
+
+/* New values of a kernel from an image's entries. The answer is 0, or the number of the question that refused, 12 or
+ * 13, with level and row at place.
+ * Required: offsets + rows < w_length, diagonals + rows and faces + (the last offset) at most w_length, each of these
+ * words below entries; values + entries <= coefficients, coefficients + (the last offset) <= diagonal,
+ * diagonal + rows <= inverse, inverse + rows <= f_length, 2 <= place_length; no overlap. */
+uint64_t probe_update(const uint32_t *w, size_t w_length, double *f, size_t f_length, size_t rows,
+                      size_t diagonal, size_t inverse, size_t offsets, size_t neighbors, size_t coefficients,
+                      size_t entries, size_t diagonals, size_t faces, size_t values, uint64_t level,
+                      uint64_t *place, size_t place_length);
+
+/* Whether the values of each face's two entries are finite and equal.
+ * Required: upper + faces <= w_length, lower + faces <= w_length, each of these words below values_length. */
+uint8_t probe_equal_mirrors(const uint32_t *w, size_t w_length, const double *values, size_t values_length,
+                            size_t faces, size_t upper, size_t lower);
+
+/* The packed lower factor of the `size` coupled rows. The answer is 0, or 15 with level and row at place.
+ * Required: offsets + rows + 1, columns + entries and coupled + size at most w_length, each coupled row below rows,
+ * each offset after the first at most entries; values + entries <= factor, factor + size (size + 1) / 2 <= f_length,
+ * 2 <= place_length; no overlap. */
+uint64_t probe_cholesky(const uint32_t *w, size_t w_length, double *f, size_t f_length, size_t rows,
+                        size_t entries, size_t offsets, size_t columns, size_t values, size_t size,
+                        size_t coupled, size_t factor, uint64_t level, uint64_t *place, size_t place_length);
+
+/* x by the packed factor at l. Required: l + n (n + 1) / 2 <= x, rhs + n <= x, x + n <= f_length. */
+void probe_solve_factor(double *f, size_t f_length, size_t n, size_t l, size_t rhs, size_t x);
+
+/* The terminal level: x by the diagonal, then its coupled rows by the factor. The answer is 0 or 24.
+ * Required: coupled + size <= w_length, each coupled row below rows; factor + size (size + 1) / 2 <= rhs,
+ * inverse + rows <= rhs, rhs + rows <= x, x + rows <= work, work + 2 size <= f_length, 2 <= place_length; no overlap. */
+uint64_t probe_solve(const uint32_t *w, size_t w_length, double *f, size_t f_length, size_t rows,
+                     size_t entries, size_t offsets, size_t columns, size_t values, size_t size, size_t coupled,
+                     size_t factor, size_t inverse, size_t rhs, size_t x, size_t work, uint64_t *place,
+                     size_t place_length);
+
+/* Whether the norm of the residual is finite, and then the norm in out[0]; the factor of NormalizedL1.
+ * Required: each region of n words inside f, 1 <= out_length; out does not overlap f. */
+uint8_t probe_measure(const double *f, size_t f_length, size_t n, size_t residual, uint8_t norm, double factor,
+                      double *out, size_t out_length);
+double probe_normalization(const double *f, size_t f_length, size_t n, size_t x, size_t rhs, size_t product,
+                           size_t rowsums, uint8_t norm);
+
+double probe_threshold(double absolute, double relative, double initial);
+double probe_relative(double initial, double last);
+
+/* The residuals added up over aggregates, and corrections from them.
+ * Required: map + n <= w_length, each of these words below count; residual + n <= out and out + count <= f_length,
+ * or out + n <= coarse and coarse + count <= f_length; w does not overlap f. */
+void probe_restrict(const uint32_t *w, size_t w_length, double *f, size_t f_length, size_t n, size_t count,
+                    size_t map, size_t residual, size_t out);
+void probe_prolong(const uint32_t *w, size_t w_length, double *f, size_t f_length, size_t n, size_t count,
+                   size_t map, size_t coarse, size_t out);
+
+/* rhs - product. Required: rhs + n <= out, product + n <= out, out + n <= f_length. */
+void probe_subtract(double *f, size_t f_length, size_t n, size_t rhs, size_t product, size_t out);
+
+/* 0 and the factor in out[0], or 26 or 27. Required: the three regions inside f, 1 <= out_length; no overlap. */
+uint64_t probe_correction_factor(const double *f, size_t f_length, size_t n, size_t correction, size_t residual,
+                                 size_t product, double *out, size_t out_length);
+
+/* x takes the scaled correction and a Jacobi step, or the plain correction.
+ * Required: inverse + n <= x, x + n <= correction, correction + n <= product, product + n <= f_length,
+ * residual + n <= f_length, residual and x apart; or both regions inside f and apart. */
+void probe_add_scaled(double *f, size_t f_length, size_t n, double factor, size_t correction, size_t residual,
+                      size_t product, size_t inverse, size_t x);
+void probe_add_plain(double *f, size_t f_length, size_t n, size_t correction, size_t x);
+
+/* One correction of the accelerator. The answer is 0 with the number of stored pairs in count[0], or 28, 29 or 30.
+ * Required: 0 < krylov, used <= krylov, solution + n <= directions, directions + krylov n <= images,
+ * images + krylov n <= residual, residual + n <= direction, direction + n <= image, image + n <= f_length,
+ * 1 <= count_length; no overlap. */
+uint64_t probe_correct(double *f, size_t f_length, size_t n, size_t krylov, size_t used, size_t solution,
+                       size_t directions, size_t images, size_t residual, size_t direction, size_t image,
+                       uint64_t *count, size_t count_length);
+
 #endif

@@ -1,8 +1,10 @@
 //! Measures the proved functions and the Rust in one run. `bench/run` builds and starts it.
 
+mod cholesky;
 mod clock;
 mod galerkin;
 mod grid;
+mod kernels;
 mod measure;
 mod pairs;
 
@@ -18,34 +20,57 @@ const SIDES: [usize; 3] = [16, 64, 256];
 const LEAST_ROUNDS: usize = 7;
 const ROUNDS: usize = 21;
 
-/// A row of the table; `most` is the greatest ratio that is wanted, if one is.
+/// A row of the table, for grids of these sides; `most` is the greatest ratio that is wanted, if one is.
 struct Row {
     name: &'static str,
     most: Option<f64>,
+    sides: &'static [usize],
     kernel: fn(&Grid) -> Box<dyn Kernel>,
 }
 
 /// Another kernel is a module with a `Kernel` and a row here.
-const ROWS: [Row; 4] = [
+const ROWS: [Row; 7] = [
     Row {
         name: "pairs, rows upward",
         most: Some(1.0),
+        sides: &SIDES,
         kernel: pairs::upward,
     },
     Row {
         name: "pairs, rows downward",
         most: Some(1.0),
+        sides: &SIDES,
         kernel: pairs::downward,
     },
     Row {
         name: "galerkin",
         most: Some(0.125),
+        sides: &SIDES,
         kernel: galerkin::proved,
     },
     Row {
         name: "galerkin, mirrors searched",
         most: None,
+        sides: &SIDES,
         kernel: galerkin::with_mirrors,
+    },
+    Row {
+        name: "apply",
+        most: None,
+        sides: &SIDES,
+        kernel: kernels::apply,
+    },
+    Row {
+        name: "residual, fused",
+        most: None,
+        sides: &SIDES,
+        kernel: kernels::residual,
+    },
+    Row {
+        name: "cholesky",
+        most: None,
+        sides: &[16],
+        kernel: cholesky::all_rows,
     },
 ];
 
@@ -89,7 +114,7 @@ fn run(rounds: usize) -> ExitCode {
     let mut missed = false;
     for side in SIDES {
         let grid = Grid::new(&mut Random::new(SEED), side);
-        for row in &ROWS {
+        for row in ROWS.iter().filter(|row| row.sides.contains(&side)) {
             let medians = measure((row.kernel)(&grid).as_mut(), rounds);
             print(row, side, &medians);
             missed |= row.most.is_some_and(|most| medians.ratio() > most);

@@ -3,11 +3,15 @@
 
 use crate::report::Report;
 
-const RATTLE: [&str; 4] = [
+const RATTLE: [&str; 8] = [
     include_str!("../../crates/probe/src/numbers.rt"),
     include_str!("../../crates/probe/src/controls.rt"),
     include_str!("../../crates/probe/src/vectors.rt"),
     include_str!("../../crates/probe/src/coarsening.rt"),
+    include_str!("../../crates/probe/src/kernels.rt"),
+    include_str!("../../crates/probe/src/terminals.rt"),
+    include_str!("../../crates/probe/src/measures.rt"),
+    include_str!("../../crates/probe/src/corrections.rt"),
 ];
 const RUST: &str = include_str!("boundary.rs");
 const HEADER: &str = include_str!("../probe.h");

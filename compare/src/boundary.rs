@@ -3,7 +3,11 @@
 //! requires, so the wrappers test that first: a comparison that breaks it is wrong and stops.
 
 pub mod aggregation;
+pub mod corrections;
 pub mod galerkin;
+pub mod kernels;
+pub mod measures;
+pub mod terminals;
 
 use oracle::{MultigridCoarseSolver, MultigridOptions, MultigridResidualNorm, MultigridSmoother};
 
@@ -119,6 +123,203 @@ unsafe extern "C" {
         total: usize,
         out: usize,
     );
+    fn probe_apply(
+        w: *const u32,
+        w_length: usize,
+        f: *mut f64,
+        f_length: usize,
+        rows: usize,
+        diagonal: usize,
+        inverse: usize,
+        offsets: usize,
+        neighbors: usize,
+        coefficients: usize,
+        x: usize,
+        out: usize,
+    );
+    fn probe_residual(
+        w: *const u32,
+        w_length: usize,
+        f: *mut f64,
+        f_length: usize,
+        rows: usize,
+        diagonal: usize,
+        inverse: usize,
+        offsets: usize,
+        neighbors: usize,
+        coefficients: usize,
+        x: usize,
+        rhs: usize,
+        out: usize,
+    );
+    fn probe_row_sums_into(
+        w: *const u32,
+        w_length: usize,
+        f: *mut f64,
+        f_length: usize,
+        rows: usize,
+        diagonal: usize,
+        inverse: usize,
+        offsets: usize,
+        neighbors: usize,
+        coefficients: usize,
+        sums: usize,
+    );
+    fn probe_update(
+        w: *const u32,
+        w_length: usize,
+        f: *mut f64,
+        f_length: usize,
+        rows: usize,
+        diagonal: usize,
+        inverse: usize,
+        offsets: usize,
+        neighbors: usize,
+        coefficients: usize,
+        entries: usize,
+        diagonals: usize,
+        faces: usize,
+        values: usize,
+        level: u64,
+        place: *mut u64,
+        place_length: usize,
+    ) -> u64;
+    fn probe_equal_mirrors(
+        w: *const u32,
+        w_length: usize,
+        values: *const f64,
+        values_length: usize,
+        faces: usize,
+        upper: usize,
+        lower: usize,
+    ) -> u8;
+    fn probe_cholesky(
+        w: *const u32,
+        w_length: usize,
+        f: *mut f64,
+        f_length: usize,
+        rows: usize,
+        entries: usize,
+        offsets: usize,
+        columns: usize,
+        values: usize,
+        size: usize,
+        coupled: usize,
+        factor: usize,
+        level: u64,
+        place: *mut u64,
+        place_length: usize,
+    ) -> u64;
+    fn probe_solve_factor(f: *mut f64, f_length: usize, n: usize, l: usize, rhs: usize, x: usize);
+    fn probe_solve(
+        w: *const u32,
+        w_length: usize,
+        f: *mut f64,
+        f_length: usize,
+        rows: usize,
+        entries: usize,
+        offsets: usize,
+        columns: usize,
+        values: usize,
+        size: usize,
+        coupled: usize,
+        factor: usize,
+        inverse: usize,
+        rhs: usize,
+        x: usize,
+        work: usize,
+        place: *mut u64,
+        place_length: usize,
+    ) -> u64;
+    fn probe_measure(
+        f: *const f64,
+        f_length: usize,
+        n: usize,
+        residual: usize,
+        norm: u8,
+        factor: f64,
+        out: *mut f64,
+        out_length: usize,
+    ) -> u8;
+    fn probe_normalization(
+        f: *const f64,
+        f_length: usize,
+        n: usize,
+        x: usize,
+        rhs: usize,
+        product: usize,
+        rowsums: usize,
+        norm: u8,
+    ) -> f64;
+    safe fn probe_threshold(absolute: f64, relative: f64, initial: f64) -> f64;
+    safe fn probe_relative(initial: f64, last: f64) -> f64;
+    fn probe_restrict(
+        w: *const u32,
+        w_length: usize,
+        f: *mut f64,
+        f_length: usize,
+        n: usize,
+        count: usize,
+        map: usize,
+        residual: usize,
+        out: usize,
+    );
+    fn probe_prolong(
+        w: *const u32,
+        w_length: usize,
+        f: *mut f64,
+        f_length: usize,
+        n: usize,
+        count: usize,
+        map: usize,
+        coarse: usize,
+        out: usize,
+    );
+    fn probe_subtract(
+        f: *mut f64,
+        f_length: usize,
+        n: usize,
+        rhs: usize,
+        product: usize,
+        out: usize,
+    );
+    fn probe_correction_factor(
+        f: *const f64,
+        f_length: usize,
+        n: usize,
+        correction: usize,
+        residual: usize,
+        product: usize,
+        out: *mut f64,
+        out_length: usize,
+    ) -> u64;
+    fn probe_add_scaled(
+        f: *mut f64,
+        f_length: usize,
+        n: usize,
+        factor: f64,
+        correction: usize,
+        residual: usize,
+        product: usize,
+        inverse: usize,
+        x: usize,
+    );
+    fn probe_add_plain(f: *mut f64, f_length: usize, n: usize, correction: usize, x: usize);
+    fn probe_correct(
+        f: *mut f64,
+        f_length: usize,
+        n: usize,
+        krylov: usize,
+        used: usize,
+        solution: usize,
+        directions: usize,
+        images: usize,
+        residual: usize,
+        direction: usize,
+        image: usize,
+        count: *mut u64,
+        count_length: usize,
+    ) -> u64;
 }
 
 pub fn is_finite(x: f64) -> bool {

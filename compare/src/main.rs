@@ -1,10 +1,16 @@
 //! Compares the proved functions with the Rust, bit for bit. `compare/run` builds and starts it.
 
+mod acceleration;
 mod aggregation;
 mod agreement;
+mod coarse;
+mod cycle;
 mod float;
 mod galerkin;
 mod matrices;
+mod matrix;
+mod measure;
+mod numbers;
 mod options;
 mod report;
 mod stores;
@@ -77,6 +83,11 @@ fn run(effort: Effort, seed: u64) -> ExitCode {
     options::compare(&mut report, &mut random, effort);
     aggregation::compare(&mut report, &mut random, effort);
     galerkin::compare(&mut report, &mut random, effort);
+    matrix::compare(&mut report, &mut random, effort);
+    coarse::compare(&mut report, &mut random, effort);
+    measure::compare(&mut report, &mut random, effort);
+    cycle::compare(&mut report, &mut random, effort);
+    acceleration::compare(&mut report, &mut random, effort);
     report.print();
     if report.differences() == 0 {
         ExitCode::SUCCESS

@@ -103,7 +103,7 @@ impl Case {
     }
 }
 
-fn container(pattern: &Pattern, values: Vec<f64>) -> CsrMatrix {
+pub fn container(pattern: &Pattern, values: Vec<f64>) -> CsrMatrix {
     let (offsets, columns) = (pattern.offsets.clone(), pattern.columns.clone());
     CsrMatrix::new(pattern.rows(), pattern.rows(), offsets, columns, values)
         .expect("a drawn pattern is a matrix")

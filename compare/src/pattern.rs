@@ -51,6 +51,16 @@ impl Shape {
         Pattern::of_faces(&diagonal, &faces)
     }
 
+    /// A pattern of about as many rows, all with a diagonal entry.
+    pub fn full(self, random: &mut Random, rows: usize) -> Pattern {
+        let (rows, faces) = match self {
+            Self::Grid => grid_faces(1 + random.index(rows.isqrt()), rows.isqrt()),
+            Self::Dense => self.faces(random, rows.min(DENSE_ROWS)),
+            _ => self.faces(random, rows),
+        };
+        Pattern::of_faces(&vec![true; rows], &faces)
+    }
+
     /// The faces, and the number of rows, which is not the one asked for if the shape has its own.
     fn faces(self, random: &mut Random, rows: usize) -> (usize, Vec<(usize, usize)>) {
         let pairs = |random: &mut Random, count: usize| {
@@ -120,6 +130,22 @@ impl Pattern {
 
     pub fn rows(&self) -> usize {
         self.offsets.len() - 1
+    }
+
+    /// The entry of each row's diagonal, of those that have one.
+    pub fn diagonals(&self) -> Vec<usize> {
+        let rows = self.offsets.windows(2).enumerate();
+        let own = |(row, ends): (usize, &[usize])| {
+            (ends[0]..ends[1]).find(|&entry| self.columns[entry] == row)
+        };
+        rows.filter_map(own).collect()
+    }
+
+    /// The offsets of some entries, in order, by their rows.
+    pub fn rows_of(&self, entries: impl Iterator<Item = usize>) -> Vec<usize> {
+        let entries: Vec<usize> = entries.collect();
+        let below = |&end: &usize| entries.partition_point(|&entry| entry < end);
+        self.offsets.iter().map(below).collect()
     }
 
     pub fn entries(&self) -> usize {

@@ -1,6 +1,7 @@
 //! Stores full of noise with regions in them, and whether a call wrote nowhere else.
 
 use crate::random::Random;
+use crate::report::same;
 
 /// How many words at most lie between two regions.
 const MARGIN: usize = 4;
@@ -115,4 +116,10 @@ pub fn narrow(numbers: &[usize]) -> impl Iterator<Item = u32> {
 
 pub fn same_numbers(ours: &[u32], theirs: &[usize]) -> bool {
     ours.len() == theirs.len() && narrow(theirs).eq(ours.iter().copied())
+}
+
+/// Bit for bit, but for NaNs.
+pub fn same_floats(ours: &[f64], theirs: &[f64]) -> bool {
+    let mut pairs = ours.iter().zip(theirs);
+    ours.len() == theirs.len() && pairs.all(|(&ours, &theirs)| same(ours, theirs))
 }

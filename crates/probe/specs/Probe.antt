@@ -1,6 +1,7 @@
 -- How answers cross the boundary: as numbers, and as words of a lent slice. Definitions only.
 use mathlib.Core.Bool.{Bool, not, cond}
 use mathlib.Core.List.{List}
+use mathlib.Core.Path.{_≡_}
 use Prim.Native.Nat.{ℕ}
 use lib.Dec.{eqb}
 use lib.Ieee.{Float}
@@ -11,8 +12,15 @@ use Rattle.options.specs.declared.MultigridResidualNorm.{MultigridResidualNorm}
 use Rattle.options.specs.declared.MultigridResidualNorm.the-variants.{AbsoluteL2, NormalizedL1}
 use Rattle.options.specs.declared.MultigridCoarseSolver.{MultigridCoarseSolver}
 use Rattle.options.specs.declared.MultigridCoarseSolver.the-variants.{PcgDic, Cholesky}
+use Rattle.options.specs.declared.questions.Verdict.{Verdict}
+use Rattle.options.specs.Refusal.{numberOf, levelOf, rowOf}
 use Rattle.aggregation.specs.declared.Graph.{Graph}
 use Rattle.pattern.specs.declared.Coarsening.{Coarsening}
+use Rattle.matrix.specs.declared.SymmetricMatrix.{SymmetricMatrix}
+use Rattle.matrix.specs.declared.values.Entries.{Entries}
+use Rattle.coarse.specs.declared.Terminal.{Terminal}
+use Rattle.cycle.specs.declared.Factor.{Factor}
+use Rattle.acceleration.specs.declared.Corrected.{Corrected}
 use Rattle.vector.specs.declared.Product.{Product}
 use Rattle.vector.specs.declared.Product.the-variants.{Finite, NotFinite}
 
@@ -74,3 +82,79 @@ coarseningOf rows entries count offsets columns map positions starts targets scr
       «coarse_columns» = targets;
       scratch = scratch;
     }
+
+-- the number of the question that refused, or zero
+abbrev pub answerOf : Verdict → ℕ
+answerOf Verdict.Passed = 0
+answerOf (Verdict.Refused q) = numberOf q
+
+-- the level and the row of a refusal stand at the front of `place`; a verdict that passed writes nothing
+abbrev pub placedOf : Verdict → List ℕ → List ℕ
+placedOf Verdict.Passed place = place
+placedOf (Verdict.Refused q) place = set (set place 0 (levelOf q)) 1 (rowOf q)
+
+-- a verdict as a number, with its place
+pub record Told (v : Verdict) (P Q : List ℕ) (r : ℕ) : Type 0 where
+  pub is : r ≡ answerOf v
+  pub place : Q ≡ placedOf v P
+
+-- the places of a kernel, as numbers
+abbrev pub symmetricOf : ℕ → ℕ → ℕ → ℕ → ℕ → ℕ → SymmetricMatrix
+symmetricOf rows diagonal inverse offsets neighbors coefficients =
+    record {
+      rows = rows;
+      diagonal = diagonal;
+      inverse = inverse;
+      offsets = offsets;
+      neighbors = neighbors;
+      coefficients = coefficients;
+    }
+
+-- the places of an image's entries, as numbers
+abbrev pub entriesOf : ℕ → ℕ → ℕ → ℕ → Entries
+entriesOf entries diagonals faces values =
+    record { entries = entries; diagonals = diagonals; faces = faces; values = values }
+
+-- the places of a terminal level, as numbers
+abbrev pub systemOf : ℕ → ℕ → ℕ → ℕ → ℕ → ℕ → ℕ → ℕ → Terminal
+systemOf rows entries offsets columns values size coupled factor =
+    record {
+      rows = rows;
+      entries = entries;
+      offsets = offsets;
+      columns = columns;
+      values = values;
+      size = size;
+      coupled = coupled;
+      factor = factor;
+    }
+
+-- zero, or the number of the question that refused the factor
+abbrev pub scaleAnswer : Factor → ℕ
+scaleAnswer (Factor.Factor x) = 0
+scaleAnswer (Factor.Refused q) = numberOf q
+
+-- the factor stands at the front of `out`; a refusal writes nothing
+abbrev pub scaleWritten : Factor → List Float → List Float
+scaleWritten (Factor.Factor x) out = set out 0 x
+scaleWritten (Factor.Refused q) out = out
+
+-- a factor or its refusal
+pub record Scaled (s : Factor) (P Q : List Float) (r : ℕ) : Type 0 where
+  pub is : r ≡ scaleAnswer s
+  pub out : Q ≡ scaleWritten s P
+
+-- zero, or the number of the question that refused the correction
+abbrev pub countAnswer : Corrected → ℕ
+countAnswer (Corrected.Used n) = 0
+countAnswer (Corrected.Refused q) = numberOf q
+
+-- how many pairs are stored, at the front of `count`; a refusal writes nothing
+abbrev pub countWritten : Corrected → List ℕ → List ℕ
+countWritten (Corrected.Used n) count = set count 0 n
+countWritten (Corrected.Refused q) count = count
+
+-- a correction's count or its refusal
+pub record Counted (s : Corrected) (P Q : List ℕ) (r : ℕ) : Type 0 where
+  pub is : r ≡ countAnswer s
+  pub count : Q ≡ countWritten s P

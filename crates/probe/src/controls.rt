@@ -20,7 +20,7 @@ fn smoother_of(number: u8) -> MultigridSmoother
     }
 }
 
-fn residual_norm_of(number: u8) -> MultigridResidualNorm
+pub fn residual_norm_of(number: u8) -> MultigridResidualNorm
     ensures { λ r. ⌜ r ≡ residualNormOf number ⌝ }
 {
     if number == 0 {

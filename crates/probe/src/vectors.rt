@@ -8,7 +8,7 @@ ghost use Rattle.probe.specs.Probe.{flag, flagOf, writtenOf};
 use crate::number;
 use vector::Product;
 
-fn tell(product: Product, out: &mut [f64]) -> u8
+pub fn tell(product: Product, out: &mut [f64]) -> u8
     requires { ⌜ 1 ≤ length (now out) ⌝ }
     ensures { λ r. ⌜ r ≡ flagOf product ⌝ }
     ensures { λ _. ⌜ now (out .exit) ≡ writtenOf product (now (out .entry)) ⌝ }

@@ -1,0 +1,62 @@
+// The functions of `measure`.
+ghost use mathlib.Core.Path.{_≡_};
+ghost use Prim.Native.Nat.{_+_, _≤_};
+ghost use lib.ListN.{length};
+ghost use Rattle.store.specs.Region.{part};
+ghost use Rattle.measure.specs.Measure.{measureOf};
+ghost use Rattle.measure.specs.Normalization.{normalizationOf, NormalizationOk, thresholdOf, relativeOf};
+ghost use Rattle.probe.specs.Probe.{flagOf, writtenOf, residualNormOf};
+use crate::controls::residual_norm_of;
+use crate::vectors::tell;
+
+#[no_mangle]
+pub extern "C" fn probe_measure(
+    f: &[f64],
+    n: usize,
+    residual: usize,
+    norm: u8,
+    factor: f64,
+    out: &mut [f64],
+) -> u8
+    requires { ⌜ residual + n ≤ length (now f) ⌝ }
+    requires { ⌜ 1 ≤ length (now out) ⌝ }
+    ensures { λ r. ⌜ r ≡ flagOf (measureOf (residualNormOf norm) n (part residual n (now (f .entry))) factor) ⌝ }
+    ensures { λ _. ⌜ now (out .exit)
+        ≡ writtenOf (measureOf (residualNormOf norm) n (part residual n (now (f .entry))) factor) (now (out .entry)) ⌝ }
+{
+    tell(
+        measure::measure(f, n, residual, residual_norm_of(norm), factor),
+        out,
+    )
+}
+
+#[no_mangle]
+pub extern "C" fn probe_normalization(
+    f: &[f64],
+    n: usize,
+    x: usize,
+    rhs: usize,
+    product: usize,
+    rowsums: usize,
+    norm: u8,
+) -> f64
+    requires { ⌜ NormalizationOk (length (now f)) n x rhs product rowsums ⌝ }
+    ensures { λ r. ⌜ r ≡ normalizationOf (residualNormOf norm) n (part x n (now (f .entry))) (part rhs n (now (f .entry)))
+        (part product n (now (f .entry))) (part rowsums n (now (f .entry))) ⌝ }
+{
+    measure::normalization(f, n, x, rhs, product, rowsums, residual_norm_of(norm))
+}
+
+#[no_mangle]
+pub extern "C" fn probe_threshold(absolute: f64, relative: f64, initial: f64) -> f64
+    ensures { λ r. ⌜ r ≡ thresholdOf absolute relative initial ⌝ }
+{
+    measure::threshold(absolute, relative, initial)
+}
+
+#[no_mangle]
+pub extern "C" fn probe_relative(initial: f64, last: f64) -> f64
+    ensures { λ r. ⌜ r ≡ relativeOf initial last ⌝ }
+{
+    measure::relative(initial, last)
+}

@@ -1,0 +1,5 @@
+pub mod Turns
+pub mod Dic
+pub mod Sweeps
+pub mod Smoothing
+mod Examples

@@ -1,0 +1,4 @@
+pub mod Sweep
+pub mod Dic
+pub mod Smooth
+pub mod Turns
