@@ -2,4 +2,3 @@ pub mod Turns
 pub mod Dic
 pub mod Sweeps
 pub mod Smoothing
-mod Examples

@@ -1,1 +1,2 @@
 pub mod Starred
+mod Examples

@@ -1,16 +1,22 @@
 -- Every starred line holds, by computing. Assumes nothing.
 use mathlib.Core.Path.{_≡_, refl}
 use mathlib.Core.Bool.{true}
-use lib.Ieee.{lt, add, mul}
-use Rattle.float.specs.Float.{absOf}
+use lib.Ieee.{ofBits, toBits, lt, le, add, sub, mul, div}
+use Rattle.float.specs.Float.{absOf, isFinite}
+use Rattle.float.specs.Sqrt.{sqrtOf}
 use Rattle.store.specs.Loop.{for, iter}
 use Rattle.store.specs.Vector.{tab}
 use Rattle.aggregation.specs.Pairs.{strengthsOf, considerOf, entryOf, strongestOf, placeOf, pairRowOf, turnOf, pairsOf}
 use Rattle.pattern.specs.Pattern as pattern
 use Rattle.galerkin.specs.Values.{addEntry, sumsOf, averageFace, symmetrizeOf}
-use Rattle.starred.specs.Table.{same, bits, floats, all, allOf, table}
+use Rattle.options.specs.Outcome.{askRows}
+use Rattle.smoother.specs.Dic.{isPivot, pivotFace, pivotRow, pivotsOf, reciprocalsOf, dicOf}
+use Rattle.smoother.specs.Sweep.{gatherFace, castFace, freshOf, forwardRow, backwardRow, gaussSeidelOf}
+use Rattle.coarse.specs.Triangle.{tri}
+use Rattle.coarse.specs.Factor.{seekOf, getOf, lessOf, restOf, columnOf, columnsOf, goodPivot, rowOf, rowsOf, choleskyOf}
+use Rattle.starred.specs.Table.{same, bits, floats, acceptedBits, all, allOf, table}
 
 -- Each line of the table computes to true.
 pub starred : allOf table ≡ true
-unfolding lt add mul absOf for iter tab strengthsOf considerOf entryOf strongestOf placeOf pairRowOf turnOf pairsOf pattern.some pattern.howMany pattern.those pattern.sumTo pattern.flat pattern.rowOf pattern.startOf pattern.placeOf pattern.joinsBy pattern.joins pattern.coarseOffsets pattern.coarseColumns pattern.coarsePositions addEntry sumsOf averageFace symmetrizeOf same bits floats all allOf table
+unfolding ofBits toBits lt le add sub mul div absOf isFinite sqrtOf for iter tab strengthsOf considerOf entryOf strongestOf placeOf pairRowOf turnOf pairsOf pattern.some pattern.howMany pattern.those pattern.sumTo pattern.flat pattern.rowOf pattern.startOf pattern.placeOf pattern.joinsBy pattern.joins pattern.coarseOffsets pattern.coarseColumns pattern.coarsePositions addEntry sumsOf averageFace symmetrizeOf askRows isPivot pivotFace pivotRow pivotsOf reciprocalsOf dicOf gatherFace castFace freshOf forwardRow backwardRow gaussSeidelOf tri seekOf getOf lessOf restOf columnOf columnsOf goodPivot rowOf rowsOf choleskyOf same bits floats acceptedBits all allOf table
 starred = refl

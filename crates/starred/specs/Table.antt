@@ -11,6 +11,11 @@ use Rattle.store.specs.Vector.{filled}
 use Rattle.aggregation.specs.Pairs.{Weighted, weighted, strengthsOf, pairsOf}
 use Rattle.pattern.specs.Pattern.{Pattern, entries, coarse, coarseOffsets, coarseColumns, coarsePositions}
 use Rattle.galerkin.specs.Values.{galerkinOf}
+use Rattle.matrix.specs.Kernel.{Kernel}
+use Rattle.smoother.specs.Dic.{dicOf}
+use Rattle.smoother.specs.Sweep.{gaussSeidelOf}
+use Rattle.coarse.specs.Factor.{Csr, choleskyOf}
+use Rattle.options.specs.Outcome.{Outcome, accepted, refused}
 use Rattle.options.specs.Options.{defaultOptions}
 use Rattle.options.specs.Sweeps.{preSweepsOf, postSweepsOf}
 use Rattle.options.specs.declared.MultigridOptions.{MultigridOptions}
@@ -63,6 +68,12 @@ unfolding ofInt
 floats [] = []
 floats (z ∷ zs) = ofInt binary64 z ∷ floats zs
 
+-- the bits of what was accepted; none where it was refused
+unfoldable pub acceptedBits : Outcome (List Float) → List ℕ
+unfolding bits
+acceptedBits (accepted v) = bits v
+acceptedBits (refused q) = []
+
 -- the pattern of the path of 4 rows, of the path of 3, and of the faces 0-1, 0-2, 2-3, each row with its diagonal
 abbrev pub path4 : Pattern
 path4 = record { rows = 4; offsets = 0 ∷ 2 ∷ 5 ∷ 8 ∷ 10 ∷ []; columns = 0 ∷ 1 ∷ 0 ∷ 1 ∷ 2 ∷ 1 ∷ 2 ∷ 3 ∷ 2 ∷ 3 ∷ [] }
@@ -107,6 +118,52 @@ coarsePath =
     ∷ same (bits (galerkinOf 4 10 (coarsePositions path4 map 2) values4 1 (1 ∷ []) (2 ∷ []))) (bits (floats (pos 2 ∷ negℤ (pos 1) ∷ negℤ (pos 1) ∷ pos 2 ∷ [])))
     ∷ []
 
+-- P = 4, −2; −2, 2 by its rows, both of them coupled
+abbrev pub pRows : Csr
+pRows =
+    record {
+      offsets = 0 ∷ 2 ∷ 4 ∷ [];
+      columns = 0 ∷ 1 ∷ 0 ∷ 1 ∷ [];
+      values = floats (pos 4 ∷ negℤ (pos 2) ∷ negℤ (pos 2) ∷ pos 2 ∷ []);
+    }
+
+-- 0.25, 0.5 and 0.75
+abbrev pub quarter : ℕ
+quarter = 0x3fd0_0000_0000_0000
+
+abbrev pub half : ℕ
+half = 0x3fe0_0000_0000_0000
+
+abbrev pub threeQuarters : ℕ
+threeQuarters = 0x3fe8_0000_0000_0000
+
+-- 4, a; a, 2 by its one face
+abbrev pub faced : ℤ → Kernel
+faced a =
+    record {
+      rows = 2;
+      diagonal = floats (pos 4 ∷ pos 2 ∷ []);
+      inverse = ofBits binary64 quarter ∷ ofBits binary64 half ∷ [];
+      offsets = 0 ∷ 1 ∷ 1 ∷ [];
+      neighbors = 1 ∷ [];
+      coefficients = floats (a ∷ []);
+    }
+
+-- P factors as 2; −1, 1
+abbrev pub factors : List Bool
+factors = same (acceptedBits (choleskyOf 0 pRows 2 (0 ∷ 1 ∷ []))) (bits (floats (pos 2 ∷ negℤ (pos 1) ∷ pos 1 ∷ []))) ∷ []
+
+-- matrix 4, 2; 2, 2: DIC inverses 0.25, 1
+abbrev pub dicInverses : List Bool
+dicInverses = same (acceptedBits (dicOf 0 (faced (pos 2)))) (quarter ∷ toBits binary64 one64 ∷ []) ∷ []
+
+-- P, right-hand side 2, 0, start 0: one Gauss-Seidel sweep, and a symmetric one
+abbrev pub sweptP : Bool → List Float
+sweptP symmetric = gaussSeidelOf (faced (negℤ (pos 2))) symmetric (floats (pos 2 ∷ pos 0 ∷ [])) (filled 2 zero64) .x
+
+abbrev pub swept : List Bool
+swept = same (bits (sweptP false)) (half ∷ half ∷ []) ∷ same (bits (sweptP true)) (threeQuarters ∷ half ∷ []) ∷ []
+
 -- root of 2; of 2 ^ −1074; of minus zero
 abbrev pub roots : List Bool
 roots =
@@ -144,4 +201,4 @@ allOf (t ∷ ts) = all t && allOf ts
 -- the starred lines, in the order of the crates that they concern
 unfoldable pub table : List (List Bool)
 unfolding rootBits sweeps preSweepsOf postSweepsOf
-table = aggregates ∷ coarsePath ∷ roots ∷ growing ∷ resting ∷ []
+table = aggregates ∷ coarsePath ∷ factors ∷ dicInverses ∷ swept ∷ roots ∷ growing ∷ resting ∷ []
