@@ -94,6 +94,7 @@ module _ (F : List Float) {n krylov used solution directions images residual dir
         let o : outcome ≡ refused Refusal.BadDotProduct = rw (← kept-is, ← e) in
         record {
           answer = rw o;
+          fits = λ j u. let z : _≡_ {A = ℕ} 0 1 = cc in absurd (omega arith);
           solved = λ s' u. let z : _≡_ {A = ℕ} 0 1 = cc in absurd (omega arith);
           stored = λ s' u. let z : _≡_ {A = ℕ} 0 1 = cc in absurd (omega arith);
           still = λ q u. d .frame .below solution n (omega arith);
@@ -138,6 +139,7 @@ module _ (F : List Float) {n krylov used solution directions images residual dir
           let o : outcome ≡ refused q = rw (← kept-is, orthogonal, e) in
           record {
             answer = rw o;
+            fits = λ j u. let z : _≡_ {A = ℕ} 0 1 = cc in absurd (omega arith);
             solved = λ s' u. let z : _≡_ {A = ℕ} 0 1 = cc in absurd (omega arith);
             stored = λ s' u. let z : _≡_ {A = ℕ} 0 1 = cc in absurd (omega arith);
             still = λ q' u. low solution n (ok .solutions);
@@ -173,6 +175,7 @@ module _ (F : List Float) {n krylov used solution directions images residual dir
             let m = next-fits ok s in
             record {
               answer = rw o;
+              fits = λ j u. let z : _≡_ {A = ℕ} 0 1 = cc in absurd (omega arith);
               solved = λ s' u. let z : _≡_ {A = ℕ} 0 1 = cc in absurd (omega arith);
               stored = λ s' u. let z : _≡_ {A = ℕ} 0 1 = cc in absurd (omega arith);
               still = λ q' u. x .still z ∙ solution-is;
@@ -201,6 +204,7 @@ module _ (F : List Float) {n krylov used solution directions images residual dir
             let is : memoryAt (length more) n directions images I ≡ more = rw (long, memory-more k n directions images I, old, p-is, q-is) in
             record {
               answer = rw (o, long, add-one k);
+              fits = λ j u. let i : k + 1 ≡ j = cc in let l = s .below in omega arith;
               solved = λ s' u. let j : new ≡ s' = cc in ap (λ (c : Corrections). c .solution) j;
               stored = λ s' u. let j : new ≡ s' = cc in rw (← j) is;
               still = λ q' u. let z : _≡_ {A = ℕ} 0 1 = cc in absurd (omega arith);

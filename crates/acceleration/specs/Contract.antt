@@ -102,11 +102,13 @@ abbrev pub correctedOf : Outcome Corrections → Corrected
 correctedOf (accepted s) = Corrected.Used (length (s .memory))
 correctedOf (refused q) = Corrected.Refused q
 
--- The answer is the outcome's. Where it is accepted, its solution and memory stand in G; where it is refused, the
--- solution is as it was. Memory, new direction and image apart, nothing else has changed.
+-- The answer is the outcome's, and the memory has room for the pairs that it counts. Where it is accepted, its solution
+-- and memory stand in G; where it is refused, the solution is as it was. Memory, new direction and image apart, nothing
+-- else has changed.
 pub record CorrectedBy (n krylov solution directions images direction image : ℕ) (outcome : Outcome Corrections)
     (F G : List Float) (r : Corrected) : Type 0 where
   pub answer : r ≡ correctedOf outcome
+  pub fits : (used : ℕ) → r ≡ Corrected.Used used → used ≤ krylov
   pub solved : (s : Corrections) → outcome ≡ accepted s → part solution n G ≡ s .solution
   pub stored : (s : Corrections) → outcome ≡ accepted s → memoryAt (length (s .memory)) n directions images G ≡ s .memory
   pub still : (q : Refusal) → outcome ≡ refused q → part solution n G ≡ part solution n F
