@@ -1,4 +1,1 @@
-pub mod Turns
-pub mod Dic
-pub mod Sweeps
 pub mod Smoothing

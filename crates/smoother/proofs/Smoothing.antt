@@ -18,8 +18,9 @@ use Rattle.options.specs.declared.questions.Verdict.{Verdict}
 use Rattle.vector.specs.Dot.{allFinite}
 use Rattle.matrix.specs.declared.SymmetricMatrix.{SymmetricMatrix}
 use Rattle.matrix.specs.Kernel.{Kernel, kernelAt}
-use Rattle.smoother.specs.Sweep.{Swept, gaussSeidelOf, dicSweepOf}
-use Rattle.smoother.specs.Smooth.{isDic, isSymmetric, dicSweepsOf, gaussSeidelsOf, sweptOf, smoothOf, GaussSeidelOk, SmoothOk, Both, Smoothed, SmoothDone}
+use Rattle.sweeps.specs.Sweep.{Swept, gaussSeidelOf, dicSweepOf}
+use Rattle.sweeps.specs.Contract.{GaussSeidelOk, SmoothOk, Both}
+use Rattle.smoother.specs.Smooth.{isDic, isSymmetric, dicSweepsOf, gaussSeidelsOf, sweptOf, smoothOf, Smoothed, SmoothDone}
 
 -- The layout holds in a store of the same size.
 pub smooth-resize : {w : List ℕ} {size size' dic rhs x work correction : ℕ} {s : SymmetricMatrix} → SmoothOk w size s dic rhs x work correction → size' ≡ size

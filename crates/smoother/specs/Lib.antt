@@ -1,4 +1,1 @@
-pub mod Sweep
-pub mod Dic
 pub mod Smooth
-pub mod Turns

@@ -1,21 +1,20 @@
--- `smooth` of smoother.rs, over lists, and the layout and frame of its functions. Definitions only.
+-- `smooth` of smoother.rs, over lists, and the frame of its functions. Definitions only.
 use mathlib.Core.Bool.{Bool, true, false, cond}
 use mathlib.Core.List.{List}
 use mathlib.Core.Path.{_≡_}
-use Prim.Native.Nat.{ℕ, _+_, _≤_}
+use Prim.Native.Nat.{ℕ}
 use lib.Dec.{eqb}
 use lib.Ieee.{Float}
 use lib.ListN.{length}
 use Rattle.store.specs.Loop.{for}
-use Rattle.store.specs.Region.{Clear, part, splice}
+use Rattle.store.specs.Region.{Clear, part}
 use Rattle.options.specs.declared.MultigridSmoother.{MultigridSmoother}
 use Rattle.options.specs.declared.questions.Refusal.{Refusal}
 use Rattle.options.specs.declared.questions.Verdict.{Verdict}
 use Rattle.options.specs.Outcome.{Outcome, accepted, ask, verdictOf}
 use Rattle.vector.specs.Dot.{allFinite}
-use Rattle.matrix.specs.declared.SymmetricMatrix.{SymmetricMatrix}
-use Rattle.matrix.specs.Kernel.{Kernel, KernelOk}
-use Rattle.smoother.specs.Sweep.{Swept, gaussSeidelOf, dicSweepOf}
+use Rattle.matrix.specs.Kernel.{Kernel}
+use Rattle.sweeps.specs.Sweep.{gaussSeidelOf, dicSweepOf}
 
 -- whether DIC sweeps come first
 abbrev pub isDic : MultigridSmoother → Bool
@@ -48,36 +47,7 @@ module _ (k : Kernel) (dic rhs : List Float) where
       let v = sweptOf kind sweeps x in
       cond (eqb sweeps 0) (accepted v) (ask (allFinite (k .rows) v) Refusal.BadSmootherOutput (accepted v))
 
--- ---- what the functions require
-
--- the matrix lies below the diagonal that is made
-pub record DicOk (w : List ℕ) (size : ℕ) (s : SymmetricMatrix) (d : ℕ) : Type 0 where
-  pub kernel : KernelOk w d s
-  pub fits : d + s .rows ≤ size
-
--- matrix, rhs, x and work follow one another
-pub record GaussSeidelOk (w : List ℕ) (size : ℕ) (s : SymmetricMatrix) (rhs x work : ℕ) : Type 0 where
-  pub kernel : KernelOk w rhs s
-  pub given : rhs + s .rows ≤ x
-  pub xs : x + s .rows ≤ work
-  pub fits : work + s .rows ≤ size
-
--- matrix and DIC diagonal lie below rhs; rhs, x, work and correction follow one another
-pub record SmoothOk (w : List ℕ) (size : ℕ) (s : SymmetricMatrix) (dic rhs x work correction : ℕ) : Type 0 where
-  pub kernel : KernelOk w rhs s
-  pub dics : dic + s .rows ≤ rhs
-  pub given : rhs + s .rows ≤ x
-  pub xs : x + s .rows ≤ work
-  pub works : work + s .rows ≤ correction
-  pub fits : correction + s .rows ≤ size
-
--- ---- what they ensure
-
--- x and the vector beside it are those of s, and nothing else changed
-pub record Both (n x beside : ℕ) (s : Swept) (F G : List Float) : Type 0 where
-  pub is : G ≡ splice beside (s .beside) (splice x (s .x) F)
-  pub longX : length (s .x) ≡ n
-  pub long : length (s .beside) ≡ n
+-- ---- what the functions ensure
 
 -- x is v, and every region clear of x, work and correction is as it was
 pub record Smoothed (n x work correction : ℕ) (v F G : List Float) : Type 0 where

@@ -11,8 +11,8 @@ use Rattle.options.specs.declared.MultigridSmoother.{MultigridSmoother}
 use Rattle.options.specs.declared.questions.Refusal.{Refusal}
 use Rattle.options.specs.Outcome.{accepted, refused, askRows}
 use Rattle.matrix.specs.Kernel.{Kernel, spreadFace, spreadRow, spreadOf, residualOf}
-use Rattle.smoother.specs.Sweep.{gatherFace, castFace, lowerRow, upperRow, dicSweepOf}
-use Rattle.smoother.specs.Dic.{isPivot, pivotFace, pivotRow, pivotsOf, reciprocalsOf, dicOf}
+use Rattle.sweeps.specs.Sweep.{gatherFace, castFace, lowerRow, upperRow, dicSweepOf}
+use Rattle.dic.specs.Dic.{isPivot, pivotFace, pivotRow, pivotsOf, reciprocalsOf, dicOf}
 use Rattle.smoother.specs.Smooth.{dicSweepsOf, gaussSeidelsOf, sweptOf, smoothOf}
 use Rattle.starred.specs.Table.{floats, faced, quarter}
 

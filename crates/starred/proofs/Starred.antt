@@ -10,8 +10,8 @@ use Rattle.aggregation.specs.Pairs.{strengthsOf, considerOf, entryOf, strongest
 use Rattle.pattern.specs.Pattern as pattern
 use Rattle.galerkin.specs.Values.{addEntry, sumsOf, averageFace, symmetrizeOf}
 use Rattle.options.specs.Outcome.{askRows}
-use Rattle.smoother.specs.Dic.{isPivot, pivotFace, pivotRow, pivotsOf, reciprocalsOf, dicOf}
-use Rattle.smoother.specs.Sweep.{gatherFace, castFace, freshOf, forwardRow, backwardRow, gaussSeidelOf}
+use Rattle.dic.specs.Dic.{isPivot, pivotFace, pivotRow, pivotsOf, reciprocalsOf, dicOf}
+use Rattle.sweeps.specs.Sweep.{gatherFace, castFace, freshOf, forwardRow, backwardRow, gaussSeidelOf}
 use Rattle.coarse.specs.Triangle.{tri}
 use Rattle.coarse.specs.Factor.{seekOf, getOf, lessOf, restOf, columnOf, columnsOf, goodPivot, rowOf, rowsOf, choleskyOf}
 use Rattle.starred.specs.Table.{same, bits, floats, acceptedBits, all, allOf, table}

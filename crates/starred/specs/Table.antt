@@ -12,8 +12,8 @@ use Rattle.aggregation.specs.Pairs.{Weighted, weighted, strengthsOf, pairsOf}
 use Rattle.pattern.specs.Pattern.{Pattern, entries, coarse, coarseOffsets, coarseColumns, coarsePositions}
 use Rattle.galerkin.specs.Values.{galerkinOf}
 use Rattle.matrix.specs.Kernel.{Kernel}
-use Rattle.smoother.specs.Dic.{dicOf}
-use Rattle.smoother.specs.Sweep.{gaussSeidelOf}
+use Rattle.dic.specs.Dic.{dicOf}
+use Rattle.sweeps.specs.Sweep.{gaussSeidelOf}
 use Rattle.coarse.specs.Factor.{Csr, choleskyOf}
 use Rattle.options.specs.Outcome.{Outcome, accepted, refused}
 use Rattle.options.specs.Options.{defaultOptions}

@@ -1,0 +1,29 @@
+-- `dic::pivot_row` meets its contract.
+-- Assumes nothing.
+use Rattle.dic.proofs.Turns.{faces-pivot, pivot-rowed}
+use borrow.Author.Needs.{needs}
+use Rattle.dic.proofs.pivot_row.Statement.{statement}
+use Rattle.dic.proofs.pivot_row.Tie as tie
+
+pivot-faces-requires : tie.Need-pivot-faces-requires
+pivot-faces-requires c κs = search (faces-pivot)
+
+returns : tie.Need-returns
+returns c = search (pivot-rowed)
+
+pub pivot-row-spec : {M : Type 1} → statement M
+pivot-row-spec =
+    tie.close
+    (tie.spec
+    (λ c. search needs)
+    (λ c. search needs)
+    (λ c. search needs)
+    (λ c κs. search needs)
+    (λ c. search needs)
+    (λ c. search needs)
+    (λ c. search needs)
+    (λ c. search needs)
+    (λ c κs. search needs)
+    pivot-faces-requires
+    (λ c. search needs)
+    returns)

@@ -1,0 +1,2 @@
+pub mod Dic
+pub mod Turns

@@ -1,0 +1,118 @@
+// `update_dic_diagonal` of smoother.rs: the diagonal of the incomplete factor.
+ghost use mathlib.Core.Path.{_≡_};
+ghost use Prim.Native.Nat.{_+_, _<_, _≤_};
+ghost use lib.ListN.{length};
+ghost use Rattle.store.specs.Region.{part};
+ghost use Rattle.matrix.specs.Kernel.{kernelAt};
+ghost use Rattle.matrix.specs.Turns.{FacesOk};
+ghost use Rattle.sweeps.specs.Turns.{Ran};
+ghost use Rattle.dic.specs.Dic.{isPivot, pivotsOf, reciprocalsOf, dicOf, DicOk, Settled};
+ghost use Rattle.dic.specs.Turns.{pivotTurn, PivotRowed};
+use matrix::SymmetricMatrix;
+use options::Refusal;
+use options::Verdict;
+
+// Finite and above zero.
+fn is_pivot(d: f64) -> bool
+    ensures { λ r. ⌜ r ≡ isPivot d ⌝ }
+{
+    float::is_finite(d) & !(d <= 0.0)
+}
+
+// A row's pivot, taken to the neighbours of its faces from lo to hi.
+fn pivot_faces(
+    w: &[u32],
+    f: &mut [f64],
+    rows: usize,
+    lo: usize,
+    hi: usize,
+    neighbors: usize,
+    coefficients: usize,
+    d: usize,
+    pivot: f64,
+)
+    requires { ⌜ FacesOk (now w) (length (now f)) rows hi neighbors coefficients d d ⌝ }
+    ensures { λ _. ⌜ Ran (pivotTurn (now (w .entry)) neighbors coefficients d pivot) lo hi (now (f .entry)) (now (f .exit)) ⌝ }
+{
+    let mut face = lo;
+    while face < hi {
+        let neighbor = store::index_at(w, neighbors, face, rows);
+        let a = f[coefficients + face];
+        f[d + neighbor] = f[d + neighbor] - a * a / pivot;
+        face += 1;
+    }
+}
+
+// The faces of one row.
+fn pivot_row(w: &[u32], f: &mut [f64], s: SymmetricMatrix, d: usize, row: usize, pivot: f64)
+    requires { ⌜ DicOk (now w) (length (now f)) s d ⌝ }
+    requires { ⌜ row < s .rows ⌝ }
+    ensures { λ _. ⌜ PivotRowed (now (w .entry)) s d row pivot (now (f .entry)) (now (f .exit)) ⌝ }
+{
+    let lo = store::wide(w[s.offsets + row]);
+    let hi = store::wide(w[s.offsets + row + 1]);
+    pivot_faces(w, f, s.rows, lo, hi, s.neighbors, s.coefficients, d, pivot);
+}
+
+// Question 16 of each row, whose pivot then goes to its neighbours.
+fn dic_pivots(w: &[u32], f: &mut [f64], s: SymmetricMatrix, d: usize, level: u64) -> Verdict
+    requires { ⌜ DicOk (now w) (length (now f)) s d ⌝ }
+    requires { ⌜ part d (s .rows) (now f) ≡ part (s .diagonal) (s .rows) (now f) ⌝ }
+    ensures { λ r. ⌜ Settled d (s .rows) (pivotsOf level (kernelAt s (now (w .entry)) (now (f .entry)))) (now (f .entry)) (now (f .exit)) r ⌝ }
+{
+    let rows = s.rows;
+    let mut row = 0;
+    while row < rows {
+        let pivot = f[d + row];
+        if is_pivot(pivot) {
+            pivot_row(w, f, s, d, row, pivot);
+            row += 1;
+        } else {
+            return Verdict::Refused(Refusal::BadDicPivot {
+                level: level,
+                row: row as u64,
+            });
+        }
+    }
+    Verdict::Passed
+}
+
+// The reciprocal of each pivot, and question 17.
+fn dic_reciprocals(f: &mut [f64], rows: usize, d: usize, level: u64) -> Verdict
+    requires { ⌜ d + rows ≤ length (now f) ⌝ }
+    ensures { λ r. ⌜ Settled d rows (reciprocalsOf level rows (part d rows (now (f .entry)))) (now (f .entry)) (now (f .exit)) r ⌝ }
+{
+    let mut row = 0;
+    while row < rows {
+        let inverse = 1.0 / f[d + row];
+        f[d + row] = inverse;
+        if float::is_finite(inverse) {
+            row += 1;
+        } else {
+            return Verdict::Refused(Refusal::BadDicReciprocal {
+                level: level,
+                row: row as u64,
+            });
+        }
+    }
+    Verdict::Passed
+}
+
+// The reciprocal pivots of the incomplete factor, at d. Where it refuses, some of them may have been written.
+pub fn update_dic_diagonal(
+    w: &[u32],
+    f: &mut [f64],
+    s: SymmetricMatrix,
+    d: usize,
+    level: u64,
+) -> Verdict
+    requires { ⌜ DicOk (now w) (length (now f)) s d ⌝ }
+    ensures { λ r. ⌜ Settled d (s .rows) (dicOf level (kernelAt s (now (w .entry)) (now (f .entry)))) (now (f .entry)) (now (f .exit)) r ⌝ }
+{
+    store::copy(f, s.rows, s.diagonal, d);
+    let pivots = dic_pivots(w, f, s, d, level);
+    match pivots {
+        Verdict::Passed => dic_reciprocals(f, s.rows, d, level),
+        Verdict::Refused(refusal) => Verdict::Refused(refusal),
+    }
+}

@@ -1,0 +1,45 @@
+-- `sweeps::forward` meets its contract. The loop's invariant: what is left to do from here gives what the whole gives.
+-- Assumes nothing.
+use mathlib.Core.Path.{_≡_, refl}
+use Prim.Native.Nat.{_-_}
+use lib.ListN.{length}
+use Rattle.store.specs.Loop.{for}
+use Rattle.store.proofs.Loop.{Left, left-start, left-on}
+use Rattle.sweeps.specs.Turns.{forwardTurn}
+use Rattle.sweeps.proofs.Turns.{sweep-resize, stored}
+use native.Mathlib.Omega.{arith}
+use borrow.Author.Needs.{needs}
+use Rattle.sweeps.proofs.forward.Statement.{statement}
+use Rattle.sweeps.proofs.forward.Tie as tie
+
+abbrev Inv-loop : tie.InvT-loop
+Inv-loop w f₀ rows offsets neighbors coefficients inverse x work row₀ f row = (length f ≡ length f₀) × Left (forwardTurn w offsets neighbors coefficients inverse x work) row rows f (for (forwardTurn w offsets neighbors coefficients inverse x work) 0 rows f₀)
+
+abbrev μ-loop : tie.MeasureT-loop
+μ-loop w f₀ rows offsets neighbors coefficients inverse x work row₀ f row = rows - row
+
+loop-holds : tie.Need-loop-holds Inv-loop μ-loop
+loop-holds c = (refl, left-start)
+
+forward-row-requires : tie.Need-forward-row-requires Inv-loop μ-loop
+forward-row-requires c κs = search (sweep-resize, needs)
+
+loop-again : tie.Need-loop-again Inv-loop μ-loop
+loop-again c = search (left-on, needs)
+
+returns : tie.Need-returns Inv-loop μ-loop
+returns c = search (stored)
+
+pub forward-spec : {M : Type 1} → statement M
+forward-spec =
+    tie.close
+    (tie.spec
+    Inv-loop
+    μ-loop
+    loop-holds
+    forward-row-requires
+    (λ c. omega arith)
+    (λ c. omega arith)
+    loop-again
+    (λ c. omega arith)
+    returns)

@@ -1,0 +1,33 @@
+-- `sweeps::forward_row` meets its contract.
+-- Assumes nothing.
+use Rattle.sweeps.proofs.Turns.{faces-beside, forwarded}
+use borrow.Author.Needs.{needs}
+use Rattle.sweeps.proofs.forward_row.Statement.{statement}
+use Rattle.sweeps.proofs.forward_row.Tie as tie
+
+cast-faces-requires : tie.Need-cast-faces-requires
+cast-faces-requires c κs = search (faces-beside, needs)
+
+returns : tie.Need-returns
+returns c = search (forwarded)
+
+pub forward-row-spec : {M : Type 1} → statement M
+forward-row-spec =
+    tie.close
+    (tie.spec
+    (λ c κs. search needs)
+    (λ c. search needs)
+    (λ c. search needs)
+    (λ c. search needs)
+    (λ c κs. search needs)
+    (λ c. search needs)
+    (λ c. search needs)
+    (λ c. search needs)
+    (λ c. search needs)
+    (λ c κs. search needs)
+    cast-faces-requires
+    (λ c. search needs)
+    (λ c. search needs)
+    (λ c. search needs)
+    (λ c. search needs)
+    returns)
