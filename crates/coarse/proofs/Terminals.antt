@@ -16,11 +16,12 @@ use Rattle.store.proofs.Loop.{for-map, Left, left-end}
 use Rattle.store.proofs.Region.{length-part, getD-part, getD-splice-clear, set-splice, splice-part, wrote, wrote-at, wrote-off}
 use Rattle.store.proofs.Vector.{length-tab, tab-same, for-each}
 use Rattle.vector.specs.Dot.{allFinite}
-use Rattle.coarse.specs.declared.Terminal.{Terminal}
-use Rattle.coarse.specs.Triangle.{tri}
+use Rattle.packed.specs.Triangle.{tri}
+use Rattle.cholesky.specs.declared.Terminal.{Terminal}
+use Rattle.cholesky.specs.Contract.{coupledAt, factorAt}
 use Rattle.coarse.specs.Factor.{solveFactorOf}
 use Rattle.coarse.specs.Terminal.{diagonalOf, gatherOf, scatterOf, solutionOf, terminalOf}
-use Rattle.coarse.specs.Contract.{coupledAt, factorAt, SolveOk, SpreadOk, DiagonalOk, CoupledOk, SolutionOk, Outside, CoupledSolved, Solved}
+use Rattle.coarse.specs.Contract.{SolveOk, SpreadOk, DiagonalOk, CoupledOk, SolutionOk, Outside, CoupledSolved, Solved}
 
 -- a turn of `diagonal`
 unfoldable pub diagonalTurn : ℕ → ℕ → ℕ → ℕ → List Float → List Float

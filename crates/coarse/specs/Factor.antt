@@ -1,77 +1,12 @@
--- `cholesky` and `solve_factor` of hierarchy.rs, the factor packed by rows: entry (r, c) stands at `tri r + c`. Definitions only.
-use mathlib.Core.Bool.{Bool, cond, _&&_}
+-- `solve_factor` of hierarchy.rs, the factor packed by rows: entry (r, c) stands at `tri r + c`. Definitions only.
 use mathlib.Core.List.{List}
-use Prim.Native.Nat.{ℕ, zero, suc, _+_, _-_}
-use lib.Dec.{eqb}
-use lib.Ieee.{Float, lt}
+use Prim.Native.Nat.{ℕ, _+_, _-_}
+use lib.Ieee.{Float}
 use lib.ListN.{set}
-use Rattle.float.specs.Float.{sub64, mul64, div64, zero64, isFinite}
-use Rattle.float.specs.Sqrt.{sqrtOf}
-use Rattle.options.specs.declared.questions.Refusal.{Refusal}
-use Rattle.options.specs.Outcome.{Outcome, accepted, ask, _>>=_}
+use Rattle.float.specs.Float.{sub64, mul64, div64}
 use Rattle.store.specs.Loop.{for}
-use Rattle.store.specs.Region.{at, idx}
-use Rattle.store.specs.Vector.{filled}
-use Rattle.coarse.specs.Triangle.{tri}
-
--- a matrix by its rows: the entries of row r stand from offsets[r] up to offsets[r + 1]
-pub record Csr : Type 0 where
-  pub offsets : List ℕ
-  pub columns : List ℕ
-  pub values : List Float
-
--- the value of the first of so many entries from e on that has that column; +0 where none has
-unfoldable pub seekOf : Csr → ℕ → ℕ → ℕ → Float
-seekOf a column zero e = zero64
-seekOf a column (suc entries) e = cond (eqb (idx (a .columns) e) column) (at (a .values) e) (seekOf a column entries (e + 1))
-
--- `matrix.get(row, column).unwrap_or(0.0)`
-unfoldable pub getOf : Csr → ℕ → ℕ → Float
-getOf a row column = seekOf a column (idx (a .offsets) (row + 1) - idx (a .offsets) row) (idx (a .offsets) row)
-
--- an entry of the compact matrix of coarse.rs: that of the coupled rows
-abbrev pub compactOf : Csr → List ℕ → ℕ → ℕ → Float
-compactOf a coupled row column = getOf a (idx coupled row) (idx coupled column)
-
--- `value -= lower[row, k] * lower[column, k]`, the two rows starting at p and q
-unfoldable pub lessOf : List Float → ℕ → ℕ → ℕ → Float → Float
-lessOf l p q k value = sub64 value (mul64 (at l (p + k)) (at l (q + k)))
-
-module _ (entry : ℕ → ℕ → Float) where
-  -- an entry less the products of what stands before it in its row and in its column's row
-  unfoldable pub restOf : ℕ → ℕ → List Float → Float
-  restOf row column l = for (lessOf l (tri row) (tri column)) 0 column (entry row column)
-
-  -- an element below the diagonal: the rest over the column's diagonal
-  unfoldable pub columnOf : ℕ → ℕ → List Float → List Float
-  columnOf row column l = set l (tri row + column) (div64 (restOf row column l) (at l (tri column + column)))
-
-  -- the row's elements below the diagonal
-  unfoldable pub columnsOf : ℕ → List Float → List Float
-  columnsOf row l = for (columnOf row) 0 row l
-
--- question 15: the pivot is finite and above zero
-unfoldable pub goodPivot : Float → Bool
-goodPivot value = isFinite value && lt zero64 value
-
-module _ (level : ℕ) (coupled : List ℕ) (entry : ℕ → ℕ → Float) where
-  -- one row: its elements below the diagonal, question 15 at the level's row, and the root of the pivot
-  unfoldable pub rowOf : ℕ → List Float → Outcome (List Float)
-  rowOf row l =
-      let lower = columnsOf entry row l in
-      let value = restOf entry row row lower in
-      ask (goodPivot value) (Refusal.BadPivot level (idx coupled row)) (accepted (set lower (tri row + row) (sqrtOf value)))
-
-  -- so many rows from `row` on
-  unfoldable pub rowsOf : ℕ → ℕ → List Float → Outcome (List Float)
-  rowsOf zero row l = accepted l
-  rowsOf (suc rows) row l = do
-    next ← rowOf row l
-    rowsOf rows (row + 1) next
-
--- `cholesky` of the compact matrix of so many coupled rows
-unfoldable pub choleskyOf : ℕ → Csr → ℕ → List ℕ → Outcome (List Float)
-choleskyOf level a size coupled = rowsOf level coupled (compactOf a coupled) size 0 (filled (tri size) zero64)
+use Rattle.store.specs.Region.{at}
+use Rattle.packed.specs.Triangle.{tri}
 
 module _ (l : List Float) where
   -- `x[row] -= lower[row, k] * x[k]`

@@ -1,4 +1,3 @@
-pub mod Triangle
 pub mod Factor
 pub mod Terminal
 pub mod Contract

@@ -18,7 +18,7 @@ use Rattle.aggregation.specs.declared.Graph.{Graph}
 use Rattle.pattern.specs.declared.Coarsening.{Coarsening}
 use Rattle.matrix.specs.declared.SymmetricMatrix.{SymmetricMatrix}
 use Rattle.matrix.specs.declared.values.Entries.{Entries}
-use Rattle.coarse.specs.declared.Terminal.{Terminal}
+use Rattle.cholesky.specs.declared.Terminal.{Terminal}
 use Rattle.cycle.specs.declared.Factor.{Factor}
 use Rattle.acceleration.specs.declared.Corrected.{Corrected}
 use Rattle.vector.specs.declared.Product.{Product}

@@ -1,15 +1,17 @@
-// The functions of `coarse`: the terminal level. Its places cross as numbers.
+// The functions of `cholesky` and `coarse`: the terminal level. Its places cross as numbers.
 ghost use Prim.Native.Nat.{_+_, _≤_};
 ghost use lib.ListN.{length};
 ghost use Rattle.options.specs.Outcome.{verdictOf};
 ghost use Rattle.store.specs.Region.{part, Wrote};
-ghost use Rattle.coarse.specs.Triangle.{tri};
-ghost use Rattle.coarse.specs.Factor.{choleskyOf, solveFactorOf};
+ghost use Rattle.packed.specs.Triangle.{tri};
+ghost use Rattle.cholesky.specs.Factor.{choleskyOf};
+ghost use Rattle.cholesky.specs.Contract.{csrAt, coupledAt, factorAt, TerminalOk, Factored};
+ghost use Rattle.coarse.specs.Factor.{solveFactorOf};
 ghost use Rattle.coarse.specs.Terminal.{terminalOf};
-ghost use Rattle.coarse.specs.Contract.{csrAt, coupledAt, factorAt, TerminalOk, Factored, SolveOk, SolutionOk, Solved};
+ghost use Rattle.coarse.specs.Contract.{SolveOk, SolutionOk, Solved};
 ghost use Rattle.probe.specs.Probe.{systemOf, Told};
 use crate::answer;
-use coarse::Terminal;
+use cholesky::Terminal;
 
 #[no_mangle]
 pub extern "C" fn probe_cholesky(
@@ -52,7 +54,7 @@ pub extern "C" fn probe_cholesky(
         coupled: coupled,
         factor: factor,
     };
-    answer(coarse::cholesky(w, f, t, level), place)
+    answer(cholesky::cholesky(w, f, t, level), place)
 }
 
 #[no_mangle]

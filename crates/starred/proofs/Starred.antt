@@ -12,8 +12,8 @@ use Rattle.galerkin.specs.Values.{addEntry, sumsOf, averageFace, symmetrizeOf}
 use Rattle.options.specs.Outcome.{askRows}
 use Rattle.dic.specs.Dic.{isPivot, pivotFace, pivotRow, pivotsOf, reciprocalsOf, dicOf}
 use Rattle.sweeps.specs.Sweep.{gatherFace, castFace, freshOf, forwardRow, backwardRow, gaussSeidelOf}
-use Rattle.coarse.specs.Triangle.{tri}
-use Rattle.coarse.specs.Factor.{seekOf, getOf, lessOf, restOf, columnOf, columnsOf, goodPivot, rowOf, rowsOf, choleskyOf}
+use Rattle.packed.specs.Triangle.{tri, lessOf}
+use Rattle.cholesky.specs.Factor.{seekOf, getOf, restOf, columnOf, columnsOf, goodPivot, rowOf, rowsOf, choleskyOf}
 use Rattle.starred.specs.Table.{same, bits, floats, acceptedBits, all, allOf, table}
 
 -- Each line of the table computes to true.

@@ -14,7 +14,7 @@ use Rattle.galerkin.specs.Values.{galerkinOf}
 use Rattle.matrix.specs.Kernel.{Kernel}
 use Rattle.dic.specs.Dic.{dicOf}
 use Rattle.sweeps.specs.Sweep.{gaussSeidelOf}
-use Rattle.coarse.specs.Factor.{Csr, choleskyOf}
+use Rattle.cholesky.specs.Factor.{Csr, choleskyOf}
 use Rattle.options.specs.Outcome.{Outcome, accepted, refused}
 use Rattle.options.specs.Options.{defaultOptions}
 use Rattle.options.specs.Sweeps.{preSweepsOf, postSweepsOf}

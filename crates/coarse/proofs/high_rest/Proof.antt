@@ -6,7 +6,7 @@ use Prim.Native.Nat.{_-_, _+_, _≤_}
 use Rattle.store.specs.Loop.{for}
 use Rattle.store.specs.Region.{at}
 use Rattle.store.proofs.Loop.{Left, left-start, left-on}
-use Rattle.coarse.proofs.Triangles.{UpAt, up-next, up-on}
+use Rattle.packed.proofs.Triangles.{UpAt, up-next, up-on}
 use Rattle.coarse.proofs.Substitution.{crossTurn, cross-on, high-done}
 use Rattle.coarse.proofs.high_rest.Statement.{statement}
 use Rattle.coarse.proofs.high_rest.Tie as tie

@@ -7,7 +7,7 @@ use Prim.Native.Nat.{_-_, _≤_}
 use lib.ListN.{length}
 use Rattle.store.specs.Loop.{for}
 use Rattle.store.proofs.Loop.{Left, left-start, left-on}
-use Rattle.coarse.proofs.Triangles.{UpAt, up-start, up-on}
+use Rattle.packed.proofs.Triangles.{UpAt, up-start, up-on}
 use Rattle.coarse.proofs.Substitution.{lowTurn, low-ok, low-on, lowered}
 use Rattle.coarse.proofs.lower_solve.Statement.{statement}
 use Rattle.coarse.proofs.lower_solve.Tie as tie

@@ -7,7 +7,7 @@ use Prim.Native.Nat.{_-_}
 use lib.ListN.{length}
 use Rattle.store.specs.Loop.{for}
 use Rattle.store.proofs.Loop.{Left, left-start, left-on}
-use Rattle.coarse.proofs.Triangles.{DownAt, down-start, down-row, down-on}
+use Rattle.packed.proofs.Triangles.{DownAt, down-start, down-row, down-on}
 use Rattle.coarse.proofs.Substitution.{highTurn, solve-resize, high-on, raised}
 use Rattle.coarse.proofs.upper_solve.Statement.{statement}
 use Rattle.coarse.proofs.upper_solve.Tie as tie

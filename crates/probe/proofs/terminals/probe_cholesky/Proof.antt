@@ -1,4 +1,4 @@
--- `probe_cholesky` tells the verdict of `coarse::cholesky`.
+-- `probe_cholesky` tells the verdict of `cholesky::cholesky`.
 -- Assumes nothing.
 use borrow.Author.Needs.{needs}
 use Rattle.probe.proofs.terminals.probe_cholesky.Statement.{statement}
