@@ -8,9 +8,9 @@ use native.Mathlib.Omega.{arith}
 use lib.Ieee.{Float, ne}
 use lib.ListN.{length}
 use Rattle.float.specs.Float.{zero64}
-use Rattle.options.specs.declared.questions.Refusal.{Refusal}
-use Rattle.options.specs.declared.questions.Verdict.{Verdict}
-use Rattle.options.specs.Outcome.{Outcome, accepted, refused}
+use Rattle.refusal.specs.declared.Refusal.{Refusal}
+use Rattle.refusal.specs.declared.Verdict.{Verdict}
+use Rattle.refusal.specs.Outcome.{Outcome, accepted, refused}
 use Rattle.store.specs.Region.{Clear, part, Wrote}
 use Rattle.store.proofs.Region.{wrote-at, wrote-off}
 use Rattle.vector.specs.declared.Product.{Product}

@@ -8,8 +8,8 @@ use native.Mathlib.Nat.{suc-mul}
 use native.Mathlib.Omega.{arith}
 use lib.Ieee.{Float}
 use lib.ListN.{length}
-use Rattle.options.specs.declared.questions.Refusal.{Refusal}
-use Rattle.options.specs.Outcome.{accepted, refused, ask}
+use Rattle.refusal.specs.declared.Refusal.{Refusal}
+use Rattle.refusal.specs.Outcome.{accepted, refused, ask}
 use Rattle.store.specs.Region.{part, Wrote}
 use Rattle.store.proofs.Region.{wrote-at, wrote-off}
 use Rattle.vector.specs.declared.Product.{Product}

@@ -12,10 +12,10 @@ use borrow.Author.Tests.{eq-eqb, ne-eqb}
 use lib.Dec.{eqb}
 use lib.Ieee.{Float}
 use lib.ListN.{length, length-append}
-use Rattle.options.specs.declared.questions.Refusal.{Refusal}
-use Rattle.options.specs.declared.questions.Verdict.{Verdict}
-use Rattle.options.specs.Outcome.{Outcome, accepted, refused}
-use Rattle.options.proofs.Outcome.{refuses}
+use Rattle.refusal.specs.declared.Refusal.{Refusal}
+use Rattle.refusal.specs.declared.Verdict.{Verdict}
+use Rattle.refusal.specs.Outcome.{Outcome, accepted, refused}
+use Rattle.refusal.proofs.Outcome.{refuses}
 use Rattle.store.specs.Region.{part}
 use Rattle.store.proofs.Region.{le-or-lt}
 use Rattle.acceleration.specs.declared.Corrected.{Corrected}

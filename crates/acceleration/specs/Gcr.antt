@@ -6,8 +6,8 @@ use lib.Dec.{eqb}
 use lib.Ieee.{Float, ne}
 use lib.ListN.{length}
 use Rattle.float.specs.Float.{add64, sub64, mul64, div64, zero64}
-use Rattle.options.specs.declared.questions.Refusal.{Refusal}
-use Rattle.options.specs.Outcome.{Outcome, accepted, refused, ask, _>>=_, _>>_}
+use Rattle.refusal.specs.declared.Refusal.{Refusal}
+use Rattle.refusal.specs.Outcome.{Outcome, accepted, refused, ask, _>>=_, _>>_}
 use Rattle.store.specs.Region.{at}
 use Rattle.store.specs.Vector.{tab}
 use Rattle.vector.specs.declared.Product.{Product}

@@ -10,8 +10,8 @@ ghost use Rattle.acceleration.specs.Gcr.{lessOf, moreOf, overOf, stepOf,
 ghost use Rattle.acceleration.specs.Gcr.{correctOf};
 ghost use Rattle.acceleration.specs.Contract.{pairAt, memoryAt, AxpyOk, StepOk, Stepped, PassOk, NormalOk, Normal};
 ghost use Rattle.acceleration.specs.Contract.{AdvanceOk, Advanced, Restarted, CorrectOk, CorrectedBy};
-use options::Refusal;
-use options::Verdict;
+use refusal::Refusal;
+use refusal::Verdict;
 use vector::Product;
 
 // How many pairs are stored after a correction, or why there is none.

@@ -10,9 +10,9 @@ use lib.Ieee.{Float, nan}
 use lib.ListN.{length, set, length-set}
 use Rattle.float.specs.Float.{div64, zero64}
 use Rattle.float.specs.Sqrt.{sqrtOf}
-use Rattle.options.specs.declared.questions.Refusal.{Refusal}
-use Rattle.options.specs.declared.questions.Verdict.{Verdict}
-use Rattle.options.specs.Outcome.{accepted, refused, ask}
+use Rattle.refusal.specs.declared.Refusal.{Refusal}
+use Rattle.refusal.specs.declared.Verdict.{Verdict}
+use Rattle.refusal.specs.Outcome.{accepted, refused, ask}
 use Rattle.store.specs.Loop.{for}
 use Rattle.store.specs.Region.{at, idx, splice, Wrote}
 use Rattle.store.specs.Vector.{filled}

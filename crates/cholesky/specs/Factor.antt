@@ -7,8 +7,8 @@ use lib.Ieee.{Float, lt}
 use lib.ListN.{set}
 use Rattle.float.specs.Float.{div64, zero64, isFinite}
 use Rattle.float.specs.Sqrt.{sqrtOf}
-use Rattle.options.specs.declared.questions.Refusal.{Refusal}
-use Rattle.options.specs.Outcome.{Outcome, accepted, ask, _>>=_}
+use Rattle.refusal.specs.declared.Refusal.{Refusal}
+use Rattle.refusal.specs.Outcome.{Outcome, accepted, ask, _>>=_}
 use Rattle.store.specs.Loop.{for}
 use Rattle.store.specs.Region.{at, idx}
 use Rattle.store.specs.Vector.{filled}

@@ -7,10 +7,10 @@ ghost use Rattle.store.specs.Region.{idx, Wrote};
 ghost use Rattle.packed.specs.Triangle.{tri, RowAt};
 ghost use Rattle.cholesky.specs.Factor.{seekOf, columnsOf, restOf, goodPivot, rowOf, rowsOf, choleskyOf};
 ghost use Rattle.cholesky.specs.Contract.{csrAt, coupledAt, factorAt, entryAt, TerminalOk, SeekOk, PivotOk, RowDone, Factored};
-ghost use Rattle.options.specs.declared.questions.Refusal.{Refusal};
-ghost use Rattle.options.specs.declared.questions.Verdict.{Verdict};
-use options::Refusal;
-use options::Verdict;
+ghost use Rattle.refusal.specs.declared.Refusal.{Refusal};
+ghost use Rattle.refusal.specs.declared.Verdict.{Verdict};
+use refusal::Refusal;
+use refusal::Verdict;
 
 // The terminal level in the stores: its matrix of `rows` rows and `entries` entries, its `size` coupled rows, the factor.
 pub struct Terminal {

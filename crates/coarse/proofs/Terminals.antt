@@ -8,8 +8,8 @@ use native.Mathlib.Omega.{arith}
 use lib.Ieee.{Float, nan}
 use lib.ListN.{length, set, length-set}
 use Rattle.float.specs.Float.{mul64}
-use Rattle.options.specs.declared.questions.Refusal.{Refusal}
-use Rattle.options.specs.declared.questions.Verdict.{Verdict}
+use Rattle.refusal.specs.declared.Refusal.{Refusal}
+use Rattle.refusal.specs.declared.Verdict.{Verdict}
 use Rattle.store.specs.Loop.{for}
 use Rattle.store.specs.Region.{at, idx, part, splice, Wrote}
 use Rattle.store.proofs.Loop.{for-map, Left, left-end}

@@ -8,8 +8,8 @@ ghost use Rattle.coarse.specs.Factor.{solveFactorOf};
 ghost use Rattle.coarse.specs.Terminal.{diagonalOf, gatherOf, scatterOf};
 ghost use Rattle.coarse.specs.Contract.{SolveOk, Lowered, High, Raised, DiagonalOk, SpreadOk, CoupledOk, CoupledSolved, SolutionOk, Solved};
 use cholesky::Terminal;
-use options::Refusal;
-use options::Verdict;
+use refusal::Refusal;
+use refusal::Verdict;
 
 // Forward substitution in place. It returns where the factor ends.
 fn lower_solve(f: &mut [f64], n: usize, l: usize, x: usize) -> usize

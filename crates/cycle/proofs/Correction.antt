@@ -3,13 +3,13 @@
 use mathlib.Core.Path.{_≡_, ap, _∙_}
 use mathlib.Core.Bool.{Bool, true, false, not, _&&_}
 use mathlib.Core.List.{List}
-use Prim.Native.Nat.{ℕ, _+_, _≤_, _<_}
+use Prim.Native.Nat.{ℕ, _+_, _-_, _≤_, _<_}
 use native.Mathlib.Omega.{arith}
 use borrow.Author.Tests.{not-true, not-false}
 use lib.ListN.{length, set}
 use lib.Ieee.{Float, nan}
 use Rattle.float.specs.Float.{add64, sub64, mul64, isFinite}
-use Rattle.options.specs.declared.questions.Refusal.{Refusal}
+use Rattle.refusal.specs.declared.Refusal.{Refusal}
 use Rattle.store.specs.Loop.{for}
 use Rattle.store.specs.Region.{at, part, splice, Clear, Wrote, CopyOk}
 use Rattle.store.proofs.Loop.{Left, left-end}
@@ -39,20 +39,26 @@ scaledStep factor correction residual product inverse x row F =
 unfoldable pub plainStep : ℕ → ℕ → ℕ → List Float → List Float
 plainStep correction x row F = set F (x + row) (add64 (at F (x + row)) (at F (correction + row)))
 
+-- An element of a region that is clear of x is not one that earlier turns have written.
+clear-off : (a x n row : ℕ) → Clear a n x n → row < n → x ≤ a + row → x + row ≤ a + row
+clear-off a x n row c b p = omega arith
+
+-- A row more is done: a lemma of its own, where `omega` would meet the layout's two `Clear`.
+pub rows-fall : {n row : ℕ} → row < n → n - (row + 1) < n - row
+rows-fall h = omega arith
+
 -- `subtract` writes the differences.
 pub subtract-done : {F G : List Float} {n rhs product out row : ℕ} → SubtractOk (length F) n rhs product out
     → Left (subtractStep rhs product out) row n G (for (subtractStep rhs product out) 0 n F) → n ≤ row
     → Wrote out n (subtractOf n (part rhs n F) (part product n F)) F G
 unfolding subtractOf subtractStep
 subtract-done {F} {G} {n} {rhs} {product} {out} ok l h =
+    let freeRhs = ok .clearRhs in
+    let freeProduct = ok .clearProduct in
     wrote (left-end l h
     ∙ for-each out n F (λ row H. sub64 (at H (rhs + row)) (at H (product + row)))
-    (λ row b H same. rw (same (rhs + row) nan (omega arith), same (product + row) nan (omega arith)))
+    (λ row b H same. rw (same (rhs + row) nan (clear-off rhs out n row freeRhs b), same (product + row) nan (clear-off product out n row freeProduct b)))
     ∙ ap (λ (v : List Float). splice out v F) (tab-same _ _ n (λ row b. simp getD-part))) (length-tab _ n)
-
--- An element of a region that is clear of x is not one that earlier turns have written.
-clear-off : (a x n row : ℕ) → Clear a n x n → row < n → x ≤ a + row → x + row ≤ a + row
-clear-off a x n row c b p = omega arith
 
 -- `add_scaled` writes the scaled corrections with their Jacobi steps.
 pub scaled-done : {F G : List Float} {n correction residual product inverse x row : ℕ} (factor : Float)

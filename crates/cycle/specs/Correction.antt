@@ -4,8 +4,8 @@ use mathlib.Core.List.{List}
 use Prim.Native.Nat.{ℕ, _+_, _≤_}
 use lib.Ieee.{Float, lt}
 use Rattle.float.specs.Float.{add64, sub64, mul64, div64, zero64, isFinite}
-use Rattle.options.specs.declared.questions.Refusal.{Refusal}
-use Rattle.options.specs.Outcome.{Outcome, accepted, refused, ask, _>>_}
+use Rattle.refusal.specs.declared.Refusal.{Refusal}
+use Rattle.refusal.specs.Outcome.{Outcome, accepted, refused, ask, _>>_}
 use Rattle.store.specs.Loop.{for}
 use Rattle.store.specs.Region.{at, Clear}
 use Rattle.store.specs.Vector.{tab}
@@ -61,11 +61,13 @@ addScaledOf n factor correction residual product inverse x =
 unfoldable pub addPlainOf : ℕ → List Float → List Float → List Float
 addPlainOf n correction x = tab (λ row. add64 (at x row) (at correction row)) n
 
--- the right-hand side and the product below the residual, in a store of that size
+-- right-hand side, product and residual in a store of that size, the residual clear of the other two
 pub record SubtractOk (size n rhs product out : ℕ) : Type 0 where
-  pub rhss : rhs + n ≤ out
-  pub products : product + n ≤ out
+  pub rhss : rhs + n ≤ size
+  pub products : product + n ≤ size
   pub outs : out + n ≤ size
+  pub clearRhs : Clear rhs n out n
+  pub clearProduct : Clear product n out n
 
 -- three regions of n elements in a store of that size
 pub record ProductsOk (size n correction residual product : ℕ) : Type 0 where

@@ -6,7 +6,7 @@ ghost use Rattle.store.specs.Region.{part, Wrote, CopyOk};
 ghost use Rattle.cycle.specs.Transfer.{RestrictOk, ProlongOk, gatherOf, restrictOf, prolongOf};
 ghost use Rattle.cycle.specs.Correction.{SubtractOk, ProductsOk, ScaledOk, subtractOf, productsOf, quotientOf};
 ghost use Rattle.cycle.specs.Correction.{scaleOf, correctionFactorOf, factorOf, addScaledOf, addPlainOf};
-use options::Refusal;
+use refusal::Refusal;
 
 // A correction's product with the residual, and with its own image.
 pub struct Products {

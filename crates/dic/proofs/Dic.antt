@@ -16,10 +16,10 @@ use Rattle.store.specs.Vector.{tab}
 use Rattle.store.proofs.Loop.{for-map, Left, left-on, left-end, left-stop}
 use Rattle.store.proofs.Region.{length-part, getD-part, getD-splice-in, getD-splice-below, set-splice, splice-part, wrote, wrote-at, wrote-off, wrote-again, kept-wrote}
 use Rattle.store.proofs.Vector.{for-tab}
-use Rattle.options.specs.declared.questions.Refusal.{Refusal}
-use Rattle.options.specs.declared.questions.Verdict.{Verdict}
-use Rattle.options.specs.Outcome.{Outcome, accepted, refused, askEach, askFrom}
-use Rattle.options.proofs.Outcome.{each-step, each-stop, each-done}
+use Rattle.refusal.specs.declared.Refusal.{Refusal}
+use Rattle.refusal.specs.declared.Verdict.{Verdict}
+use Rattle.refusal.specs.Outcome.{Outcome, accepted, refused, askEach, askFrom}
+use Rattle.refusal.proofs.Outcome.{each-step, each-stop, each-done}
 use Rattle.matrix.specs.declared.SymmetricMatrix.{SymmetricMatrix}
 use Rattle.matrix.specs.Kernel.{Kernel, kernelAt}
 use Rattle.matrix.proofs.Kernel.{kernel-kept}

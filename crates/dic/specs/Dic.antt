@@ -10,9 +10,9 @@ use Rattle.float.specs.Float.{sub64, div64, squareOf, zero64, one64, isFinite}
 use Rattle.store.specs.Loop.{for}
 use Rattle.store.specs.Region.{at, idx, Wrote}
 use Rattle.store.specs.Vector.{tab}
-use Rattle.options.specs.declared.questions.Refusal.{Refusal}
-use Rattle.options.specs.declared.questions.Verdict.{Verdict}
-use Rattle.options.specs.Outcome.{Outcome, accepted, refused, passed, ask, _>>=_, _>>_, askEach}
+use Rattle.refusal.specs.declared.Refusal.{Refusal}
+use Rattle.refusal.specs.declared.Verdict.{Verdict}
+use Rattle.refusal.specs.Outcome.{Outcome, accepted, refused, passed, ask, _>>=_, _>>_, askEach}
 use Rattle.matrix.specs.declared.SymmetricMatrix.{SymmetricMatrix}
 use Rattle.matrix.specs.Kernel.{Kernel, KernelOk}
 use Rattle.sweeps.specs.Sweep.{eachFace}

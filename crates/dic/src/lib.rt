@@ -9,8 +9,8 @@ ghost use Rattle.sweeps.specs.Turns.{Ran};
 ghost use Rattle.dic.specs.Dic.{isPivot, pivotsOf, reciprocalsOf, dicOf, DicOk, Settled};
 ghost use Rattle.dic.specs.Turns.{pivotTurn, PivotRowed};
 use matrix::SymmetricMatrix;
-use options::Refusal;
-use options::Verdict;
+use refusal::Refusal;
+use refusal::Verdict;
 
 // Finite and above zero.
 fn is_pivot(d: f64) -> bool

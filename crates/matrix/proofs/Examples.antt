@@ -7,8 +7,8 @@ use lib.Ieee.{Float, binary64, ofBits, add, sub, mul, div, neg, lt, eq}
 use Rattle.float.specs.Float.{zero64, one64, isFinite}
 use Rattle.store.specs.Loop.{iter, for}
 use Rattle.store.specs.Vector.{tab, each}
-use Rattle.options.specs.declared.questions.Refusal.{Refusal}
-use Rattle.options.specs.Outcome.{accepted, refused, askRows}
+use Rattle.refusal.specs.declared.Refusal.{Refusal}
+use Rattle.refusal.specs.Outcome.{accepted, refused, askRows}
 use Rattle.matrix.specs.Kernel.{Kernel, spreadFace, spreadRow, spreadOf, applyOf, residualOf, sumFace, sumRow, rowSumsOf}
 use Rattle.matrix.specs.Mirrors.{mirrorsAgree, mirrorsEqual}
 use Rattle.matrix.specs.Update.{isPositive, diagonalAsked, updateOf}

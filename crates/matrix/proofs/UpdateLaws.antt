@@ -10,10 +10,10 @@ use lib.ListN.{length, set, take, drop, length-drop}
 use lib.Seq.{take-all, drop-drop, take-take}
 use lib.Ieee.{Float, nan}
 use Rattle.float.specs.Float.{div64, one64, isFinite}
-use Rattle.options.specs.declared.questions.Refusal.{Refusal}
-use Rattle.options.specs.declared.questions.Verdict.{Verdict}
-use Rattle.options.specs.Outcome.{Outcome, accepted, refused, passed, askFrom, askEach}
-use Rattle.options.proofs.Outcome.{each-step, each-stop, each-done}
+use Rattle.refusal.specs.declared.Refusal.{Refusal}
+use Rattle.refusal.specs.declared.Verdict.{Verdict}
+use Rattle.refusal.specs.Outcome.{Outcome, accepted, refused, passed, askFrom, askEach}
+use Rattle.refusal.proofs.Outcome.{each-step, each-stop, each-done}
 use Rattle.store.specs.Loop.{for}
 use Rattle.store.specs.Region.{at, idx, part, splice, Wrote, Kept}
 use Rattle.store.specs.Vector.{tab}

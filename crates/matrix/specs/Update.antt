@@ -6,9 +6,9 @@ use Prim.Native.Nat.{ℕ, _+_, _≤_, _<_}
 use lib.ListN.{length, take, drop}
 use lib.Ieee.{Float, lt}
 use Rattle.float.specs.Float.{div64, zero64, one64, isFinite}
-use Rattle.options.specs.declared.questions.Refusal.{Refusal}
-use Rattle.options.specs.declared.questions.Verdict.{Verdict}
-use Rattle.options.specs.Outcome.{Outcome, accepted, refused, passed, ask, _>>_, askEach, verdictOf}
+use Rattle.refusal.specs.declared.Refusal.{Refusal}
+use Rattle.refusal.specs.declared.Verdict.{Verdict}
+use Rattle.refusal.specs.Outcome.{Outcome, accepted, refused, passed, ask, _>>_, askEach, verdictOf}
 use Rattle.store.specs.Region.{at, idx, part, splice}
 use Rattle.store.specs.Vector.{tab}
 use Rattle.matrix.specs.declared.SymmetricMatrix.{SymmetricMatrix}

@@ -6,8 +6,8 @@ ghost use Rattle.store.specs.Region.{idx, part, Wrote};
 ghost use Rattle.store.specs.Vector.{tab};
 ghost use Rattle.matrix.specs.Update.{isPositive, entryOf, updateAt, UpdateOk, Updated, EntriesOk, RowsUpdated};
 use crate::SymmetricMatrix;
-use options::Refusal;
-use options::Verdict;
+use refusal::Refusal;
+use refusal::Verdict;
 
 // Where an image lies: its values in the floats; in the words the entry of each row's diagonal and of each face.
 pub struct Entries {

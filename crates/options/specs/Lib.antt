@@ -1,5 +1,3 @@
-pub mod Refusal
-pub mod Outcome
 pub mod Options
 pub mod Solver
 pub mod Sweeps

@@ -1,14 +1,13 @@
-// Controls of the multigrid solver, what a call answers, and the types of a solve.
+// Controls of the multigrid solver, and the types of a solve.
 ghost use mathlib.Core.Path.{_≡_};
 ghost use Rattle.options.specs.Options.{defaultOptions, validOf, controlsAsked};
-ghost use Rattle.options.specs.Outcome.{verdictOf};
+ghost use Rattle.refusal.specs.Outcome.{verdictOf};
 
-mod questions;
 mod solver;
 mod sweeps;
 
-pub use questions::Refusal;
-pub use questions::Verdict;
+use refusal::Refusal;
+use refusal::Verdict;
 pub use solver::LinearSolveReport;
 pub use solver::LinearSolverOptions;
 pub use solver::LinearSolverStatus;

@@ -12,8 +12,8 @@ use Rattle.options.specs.declared.MultigridResidualNorm.{MultigridResidualNorm}
 use Rattle.options.specs.declared.MultigridResidualNorm.the-variants.{AbsoluteL2, NormalizedL1}
 use Rattle.options.specs.declared.MultigridCoarseSolver.{MultigridCoarseSolver}
 use Rattle.options.specs.declared.MultigridCoarseSolver.the-variants.{PcgDic, Cholesky}
-use Rattle.options.specs.declared.questions.Verdict.{Verdict}
-use Rattle.options.specs.Refusal.{numberOf, levelOf, rowOf}
+use Rattle.refusal.specs.declared.Verdict.{Verdict}
+use Rattle.refusal.specs.Refusal.{numberOf, levelOf, rowOf}
 use Rattle.aggregation.specs.declared.Graph.{Graph}
 use Rattle.pattern.specs.declared.Coarsening.{Coarsening}
 use Rattle.matrix.specs.declared.SymmetricMatrix.{SymmetricMatrix}

@@ -2,7 +2,7 @@
 ghost use mathlib.Core.Path.{_≡_};
 ghost use Prim.Native.Nat.{_+_, _≤_};
 ghost use lib.ListN.{length};
-ghost use Rattle.options.specs.Outcome.{verdictOf};
+ghost use Rattle.refusal.specs.Outcome.{verdictOf};
 ghost use Rattle.store.specs.Region.{part, Wrote};
 ghost use Rattle.matrix.specs.Kernel.{kernelAt, applyOf, residualOf, rowSumsOf, KernelOk};
 ghost use Rattle.matrix.specs.Update.{updateAt, UpdateOk, Updated};

@@ -12,10 +12,10 @@ mod vectors;
 ghost use mathlib.Core.Path.{_≡_};
 ghost use Prim.Native.Nat.{_≤_};
 ghost use lib.ListN.{length, set};
-ghost use Rattle.options.specs.Refusal.{numberOf, levelOf, rowOf};
+ghost use Rattle.refusal.specs.Refusal.{numberOf, levelOf, rowOf};
 ghost use Rattle.probe.specs.Probe.{flag, Told};
-use options::Refusal;
-use options::Verdict;
+use refusal::Refusal;
+use refusal::Verdict;
 
 fn number(yes: bool) -> u8
     ensures { λ r. ⌜ r ≡ flag yes ⌝ }

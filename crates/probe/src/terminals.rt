@@ -1,7 +1,7 @@
 // The functions of `cholesky` and `coarse`: the terminal level. Its places cross as numbers.
 ghost use Prim.Native.Nat.{_+_, _≤_};
 ghost use lib.ListN.{length};
-ghost use Rattle.options.specs.Outcome.{verdictOf};
+ghost use Rattle.refusal.specs.Outcome.{verdictOf};
 ghost use Rattle.store.specs.Region.{part, Wrote};
 ghost use Rattle.packed.specs.Triangle.{tri};
 ghost use Rattle.cholesky.specs.Factor.{choleskyOf};

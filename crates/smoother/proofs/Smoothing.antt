@@ -13,8 +13,8 @@ use Rattle.store.specs.Region.{Clear, idx, part, splice}
 use Rattle.store.proofs.Loop.{for-done, Left, left-start, left-on, left-end}
 use Rattle.store.proofs.Region.{length-splice, part-splice, part-splice-below, part-splice-clear}
 use Rattle.options.specs.declared.MultigridSmoother.{MultigridSmoother}
-use Rattle.options.specs.declared.questions.Refusal.{Refusal}
-use Rattle.options.specs.declared.questions.Verdict.{Verdict}
+use Rattle.refusal.specs.declared.Refusal.{Refusal}
+use Rattle.refusal.specs.declared.Verdict.{Verdict}
 use Rattle.vector.specs.Dot.{allFinite}
 use Rattle.matrix.specs.declared.SymmetricMatrix.{SymmetricMatrix}
 use Rattle.matrix.specs.Kernel.{Kernel, kernelAt}

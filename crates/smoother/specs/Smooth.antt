@@ -9,9 +9,9 @@ use lib.ListN.{length}
 use Rattle.store.specs.Loop.{for}
 use Rattle.store.specs.Region.{Clear, part}
 use Rattle.options.specs.declared.MultigridSmoother.{MultigridSmoother}
-use Rattle.options.specs.declared.questions.Refusal.{Refusal}
-use Rattle.options.specs.declared.questions.Verdict.{Verdict}
-use Rattle.options.specs.Outcome.{Outcome, accepted, ask, verdictOf}
+use Rattle.refusal.specs.declared.Refusal.{Refusal}
+use Rattle.refusal.specs.declared.Verdict.{Verdict}
+use Rattle.refusal.specs.Outcome.{Outcome, accepted, ask, verdictOf}
 use Rattle.vector.specs.Dot.{allFinite}
 use Rattle.matrix.specs.Kernel.{Kernel}
 use Rattle.sweeps.specs.Sweep.{gaussSeidelOf, dicSweepOf}

@@ -7,8 +7,8 @@ ghost use Rattle.sweeps.specs.Contract.{SmoothOk};
 ghost use Rattle.smoother.specs.Smooth.{isDic, isSymmetric, dicSweepsOf, gaussSeidelsOf, sweptOf, smoothOf, Smoothed, SmoothDone};
 use matrix::SymmetricMatrix;
 use options::MultigridSmoother;
-use options::Refusal;
-use options::Verdict;
+use refusal::Refusal;
+use refusal::Verdict;
 
 // Whether DIC sweeps come first.
 fn is_dic(kind: MultigridSmoother) -> bool

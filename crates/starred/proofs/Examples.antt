@@ -8,8 +8,8 @@ use Rattle.float.specs.Float.{zero64, one64, isFinite}
 use Rattle.store.specs.Loop.{iter, for}
 use Rattle.store.specs.Vector.{tab}
 use Rattle.options.specs.declared.MultigridSmoother.{MultigridSmoother}
-use Rattle.options.specs.declared.questions.Refusal.{Refusal}
-use Rattle.options.specs.Outcome.{accepted, refused, askRows}
+use Rattle.refusal.specs.declared.Refusal.{Refusal}
+use Rattle.refusal.specs.Outcome.{accepted, refused, askRows}
 use Rattle.matrix.specs.Kernel.{Kernel, spreadFace, spreadRow, spreadOf, residualOf}
 use Rattle.sweeps.specs.Sweep.{gatherFace, castFace, lowerRow, upperRow, dicSweepOf}
 use Rattle.dic.specs.Dic.{isPivot, pivotFace, pivotRow, pivotsOf, reciprocalsOf, dicOf}

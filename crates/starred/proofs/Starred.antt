@@ -9,7 +9,7 @@ use Rattle.store.specs.Vector.{tab}
 use Rattle.aggregation.specs.Pairs.{strengthsOf, considerOf, entryOf, strongestOf, placeOf, pairRowOf, turnOf, pairsOf}
 use Rattle.pattern.specs.Pattern as pattern
 use Rattle.galerkin.specs.Values.{addEntry, sumsOf, averageFace, symmetrizeOf}
-use Rattle.options.specs.Outcome.{askRows}
+use Rattle.refusal.specs.Outcome.{askRows}
 use Rattle.dic.specs.Dic.{isPivot, pivotFace, pivotRow, pivotsOf, reciprocalsOf, dicOf}
 use Rattle.sweeps.specs.Sweep.{gatherFace, castFace, freshOf, forwardRow, backwardRow, gaussSeidelOf}
 use Rattle.packed.specs.Triangle.{tri, lessOf}

@@ -15,7 +15,7 @@ use Rattle.matrix.specs.Kernel.{Kernel}
 use Rattle.dic.specs.Dic.{dicOf}
 use Rattle.sweeps.specs.Sweep.{gaussSeidelOf}
 use Rattle.cholesky.specs.Factor.{Csr, choleskyOf}
-use Rattle.options.specs.Outcome.{Outcome, accepted, refused}
+use Rattle.refusal.specs.Outcome.{Outcome, accepted, refused}
 use Rattle.options.specs.Options.{defaultOptions}
 use Rattle.options.specs.Sweeps.{preSweepsOf, postSweepsOf}
 use Rattle.options.specs.declared.MultigridOptions.{MultigridOptions}

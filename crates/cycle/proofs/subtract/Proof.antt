@@ -5,7 +5,7 @@ use Prim.Native.Nat.{_-_}
 use lib.ListN.{length}
 use Rattle.store.specs.Loop.{for}
 use Rattle.store.proofs.Loop.{Left, left-start, left-on}
-use Rattle.cycle.proofs.Correction.{subtractStep, subtract-done}
+use Rattle.cycle.proofs.Correction.{subtractStep, subtract-done, rows-fall}
 use native.Mathlib.Omega.{arith}
 use borrow.Author.Needs.{needs}
 use Rattle.cycle.proofs.subtract.Statement.{statement}
@@ -45,7 +45,7 @@ subtract-spec =
     (λ c. omega arith)
     (λ c. omega arith)
     (λ c. omega arith)
-    (λ c. omega arith)
+    (λ c. search (rows-fall))
     loop-again
     (λ c. omega arith)
     returns)

@@ -1,6 +1,6 @@
 // What a call answers where it refuses: document 01's questions, each named for what is wrong.
 ghost use mathlib.Core.Path.{_≡_};
-ghost use Rattle.options.specs.Refusal.{numberOf, levelOf, rowOf};
+ghost use Rattle.refusal.specs.Refusal.{numberOf, levelOf, rowOf};
 
 // One case for each question, in order. The cases with a place carry the level and the row where the question failed.
 pub enum Refusal {

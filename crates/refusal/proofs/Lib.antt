@@ -1,2 +1,2 @@
-mod Refusal
+mod Unplaced
 pub mod Outcome

@@ -4,9 +4,9 @@ use mathlib.Core.List.{List, [], _∷_}
 use Prim.Native.Nat.{ℕ}
 use types.Run.{OneOf, miss}
 use denote.Enum.Declared.{tagOf}
-use Rattle.options.proofs.questions.Refusal.{the-type}
-use Rattle.options.specs.declared.questions.Refusal.{Refusal}
-use Rattle.options.specs.Refusal.{levelOf, rowOf}
+use Rattle.refusal.proofs.Refusal.{the-type}
+use Rattle.refusal.specs.declared.Refusal.{Refusal}
+use Rattle.refusal.specs.Refusal.{levelOf, rowOf}
 
 -- the cases of the enum, counted from zero, that carry no level and row
 abbrev pub unplaced : List ℕ

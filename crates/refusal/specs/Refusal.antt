@@ -1,6 +1,6 @@
 -- What a refusal tells. Definitions only.
 use Prim.Native.Nat.{ℕ}
-use Rattle.options.specs.declared.questions.Refusal.{Refusal}
+use Rattle.refusal.specs.declared.Refusal.{Refusal}
 
 -- the number of the question that failed, and the level and row where it failed
 pub record Place : Type 0 where

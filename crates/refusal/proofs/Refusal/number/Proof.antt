@@ -1,8 +1,8 @@
 -- `Refusal::number` gives the number that document 01 gives the case; each arm knows its case.
 -- Assumes nothing.
 use borrow.Author.Needs.{needs}
-use Rattle.options.proofs.questions.Refusal.number.Statement.{statement}
-use Rattle.options.proofs.questions.Refusal.number.Tie as tie
+use Rattle.refusal.proofs.Refusal.number.Statement.{statement}
+use Rattle.refusal.proofs.Refusal.number.Tie as tie
 
 pub number-spec : {M : Type 1} → statement M
 number-spec =

@@ -1,8 +1,8 @@
 -- Computations that may refuse: a chain of questions, which the first "no" ends. Definitions only.
 use mathlib.Core.Bool.{Bool, true, false}
 use Prim.Native.Nat.{ℕ, zero, suc, _+_, _-_}
-use Rattle.options.specs.declared.questions.Refusal.{Refusal}
-use Rattle.options.specs.declared.questions.Verdict.{Verdict}
+use Rattle.refusal.specs.declared.Refusal.{Refusal}
+use Rattle.refusal.specs.declared.Verdict.{Verdict}
 
 -- a result, or the first refusal
 pub data Outcome (A : Type 0) : Type 0 where

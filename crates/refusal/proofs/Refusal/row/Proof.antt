@@ -1,12 +1,12 @@
--- `Refusal::level` gives the level that the case carries, and zero for a case that carries none.
+-- `Refusal::row` gives the row that the case carries, and zero for a case that carries none.
 -- Assumes nothing.
 use borrow.Author.Needs.{needs}
-use Rattle.options.proofs.Refusal.{nowhere}
-use Rattle.options.proofs.questions.Refusal.level.Statement.{statement}
-use Rattle.options.proofs.questions.Refusal.level.Tie as tie
+use Rattle.refusal.proofs.Unplaced.{nowhere}
+use Rattle.refusal.proofs.Refusal.row.Statement.{statement}
+use Rattle.refusal.proofs.Refusal.row.Tie as tie
 
-pub level-spec : {M : Type 1} → statement M
-level-spec =
+pub row-spec : {M : Type 1} → statement M
+row-spec =
     tie.close
     (tie.spec
     (λ c. search needs)
@@ -21,4 +21,4 @@ level-spec =
     (λ c. rw (c .before .self4 .given .1))
     (λ c. rw (c .before .self5 .given .1))
     (λ c. rw (c .before .self6 .given .1))
-    (λ c. nowhere (c .before .args .self) (c .match .keys7) .0))
+    (λ c. nowhere (c .before .args .self) (c .match .keys7) .1))
