@@ -2,11 +2,14 @@
 
 mod cholesky;
 mod clock;
+mod dot;
 mod galerkin;
 mod grid;
 mod kernels;
+mod level;
 mod measure;
 mod pairs;
+mod sweeps;
 
 use compare::random::Random;
 use grid::Grid;
@@ -29,7 +32,7 @@ struct Row {
 }
 
 /// Another kernel is a module with a `Kernel` and a row here.
-const ROWS: [Row; 7] = [
+const ROWS: [Row; 11] = [
     Row {
         name: "pairs, rows upward",
         most: Some(1.0),
@@ -56,19 +59,43 @@ const ROWS: [Row; 7] = [
     },
     Row {
         name: "apply",
-        most: None,
+        most: Some(0.85),
         sides: &SIDES,
         kernel: kernels::apply,
     },
     Row {
         name: "residual, fused",
-        most: None,
+        most: Some(1.0),
         sides: &SIDES,
         kernel: kernels::residual,
     },
     Row {
+        name: "residual, vectors padded",
+        most: Some(1.0),
+        sides: &SIDES,
+        kernel: kernels::residual_padded,
+    },
+    Row {
+        name: "Gauss-Seidel sweep",
+        most: Some(1.0),
+        sides: &SIDES,
+        kernel: sweeps::gauss_seidel,
+    },
+    Row {
+        name: "DIC sweep",
+        most: Some(1.0),
+        sides: &SIDES,
+        kernel: sweeps::dic,
+    },
+    Row {
+        name: "dot",
+        most: Some(1.0),
+        sides: &SIDES,
+        kernel: dot::two_vectors,
+    },
+    Row {
         name: "cholesky",
-        most: None,
+        most: Some(1.0),
         sides: &[16],
         kernel: cholesky::all_rows,
     },
