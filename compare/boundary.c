@@ -93,6 +93,36 @@ static void kernel(void) {
            "probe_solve");
 }
 
+/* The matrix [2 -1; -1 2] again. Words: offsets 0 1 1, neighbour 1. Floats: coefficient, diagonal, inverse, DIC, then
+ * right-hand side 3 0, x, work and correction. The solution is 2 1. */
+static void smoothers(void) {
+    const uint32_t w[4] = {0, 1, 1, 1};
+    double f[15] = {-1, 2, 2, 0.5, 0.5, 0, 0, 3, 0};
+    uint64_t place[2] = {7, 7};
+
+    expect(probe_update_dic_diagonal(w, 4, f, 15, 2, 1, 3, 0, 3, 0, 5, 9, place, 2) == 0 && f[5] == 0.5 &&
+               f[6] == 1 / 1.5 && place[0] == 7,
+           "probe_update_dic_diagonal");
+    f[1] = 0.5;
+    expect(probe_update_dic_diagonal(w, 4, f, 15, 2, 1, 3, 0, 3, 0, 5, 9, place, 2) == 16 && place[0] == 9 &&
+               place[1] == 1,
+           "probe_update_dic_diagonal");
+    f[1] = 2;
+    f[5] = 0.5;
+    f[6] = 0.75;
+    probe_gauss_seidel(w, 4, f, 15, 2, 1, 3, 0, 3, 0, 7, 9, 11, 0);
+    expect(f[9] == 1.5 && f[10] == 0.75 && f[11] == 3 && f[12] == 1.5, "probe_gauss_seidel");
+    f[9] = 0;
+    f[10] = 0;
+    probe_dic_sweep(w, 4, f, 15, 2, 1, 3, 0, 3, 0, 5, 7, 9, 11, 13);
+    expect(f[9] == 2.0625 && f[10] == 1.125 && f[13] == 2.0625 && f[14] == 1.125, "probe_dic_sweep");
+    f[9] = 0;
+    f[10] = 0;
+    expect(probe_smooth(w, 4, f, 15, 2, 1, 3, 0, 3, 0, 5, 1, 7, 9, 11, 13, 1, place, 2) == 0 && f[9] == 1.875 &&
+               f[10] == 0.75,
+           "probe_smooth");
+}
+
 /* Two rows in one aggregate. */
 static void corrections(void) {
     const uint32_t w[2] = {0, 0};
@@ -143,6 +173,7 @@ int main(void) {
     expect(probe_all_finite(store, 6, 4, 2) == 1, "probe_all_finite");
     path();
     kernel();
+    smoothers();
     corrections();
     return failures != 0;
 }

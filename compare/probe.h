@@ -103,6 +103,28 @@ uint64_t probe_update(const uint32_t *w, size_t w_length, double *f, size_t f_le
 uint8_t probe_equal_mirrors(const uint32_t *w, size_t w_length, const double *values, size_t values_length,
                             size_t faces, size_t upper, size_t lower);
 
+/* The reciprocal pivots of DIC, at d. The answer is 0, or 16 or 17 with level and row at place.
+ * Required: as for the sums of the rows, with d for sums; 2 <= place_length; no overlap. */
+uint64_t probe_update_dic_diagonal(const uint32_t *w, size_t w_length, double *f, size_t f_length, size_t rows,
+                                   size_t diagonal, size_t inverse, size_t offsets, size_t neighbors,
+                                   size_t coefficients, size_t d, uint64_t level, uint64_t *place,
+                                   size_t place_length);
+
+/* One sweep over x, and back where symmetric is not 0; work is written. One DIC sweep over x; correction is written.
+ * Then sweeps of a smoother, numbered from 0 in source order: the answer is 0 or 25, and x is written in any case.
+ * Required: as for the residual, with work for out; for the last two also dic + rows <= rhs,
+ * work + rows <= correction and correction + rows <= f_length; 2 <= place_length; no overlap. */
+void probe_gauss_seidel(const uint32_t *w, size_t w_length, double *f, size_t f_length, size_t rows,
+                        size_t diagonal, size_t inverse, size_t offsets, size_t neighbors, size_t coefficients,
+                        size_t rhs, size_t x, size_t work, uint8_t symmetric);
+void probe_dic_sweep(const uint32_t *w, size_t w_length, double *f, size_t f_length, size_t rows,
+                     size_t diagonal, size_t inverse, size_t offsets, size_t neighbors, size_t coefficients,
+                     size_t dic, size_t rhs, size_t x, size_t work, size_t correction);
+uint64_t probe_smooth(const uint32_t *w, size_t w_length, double *f, size_t f_length, size_t rows,
+                      size_t diagonal, size_t inverse, size_t offsets, size_t neighbors, size_t coefficients,
+                      size_t dic, uint8_t kind, size_t rhs, size_t x, size_t work, size_t correction,
+                      uint64_t sweeps, uint64_t *place, size_t place_length);
+
 /* The packed lower factor of the `size` coupled rows. The answer is 0, or 15 with level and row at place.
  * Required: offsets + rows + 1, columns + entries and coupled + size at most w_length, each coupled row below rows,
  * each offset after the first at most entries; values + entries <= factor, factor + size (size + 1) / 2 <= f_length,

@@ -2,11 +2,14 @@
 
 mod cholesky;
 mod clock;
+mod dot;
 mod galerkin;
 mod grid;
 mod kernels;
+mod level;
 mod measure;
 mod pairs;
+mod sweeps;
 
 use compare::random::Random;
 use grid::Grid;
@@ -20,55 +23,98 @@ const SIDES: [usize; 3] = [16, 64, 256];
 const LEAST_ROUNDS: usize = 7;
 const ROUNDS: usize = 21;
 
-/// A row of the table, for grids of these sides; `most` is the greatest ratio that is wanted, if one is.
+/// A row of the table, for grids of these sides; `most` is the greatest ratio that is wanted, if one is, from the side
+/// `wanted_from` on.
 struct Row {
     name: &'static str,
     most: Option<f64>,
+    wanted_from: usize,
     sides: &'static [usize],
     kernel: fn(&Grid) -> Box<dyn Kernel>,
 }
 
+impl Row {
+    fn wanted(&self, side: usize) -> Option<f64> {
+        self.most.filter(|_| side >= self.wanted_from)
+    }
+}
+
 /// Another kernel is a module with a `Kernel` and a row here.
-const ROWS: [Row; 7] = [
+const ROWS: [Row; 11] = [
     Row {
         name: "pairs, rows upward",
         most: Some(1.0),
+        wanted_from: 16,
         sides: &SIDES,
         kernel: pairs::upward,
     },
     Row {
         name: "pairs, rows downward",
         most: Some(1.0),
+        wanted_from: 16,
         sides: &SIDES,
         kernel: pairs::downward,
     },
     Row {
         name: "galerkin",
         most: Some(0.125),
+        wanted_from: 16,
         sides: &SIDES,
         kernel: galerkin::proved,
     },
     Row {
         name: "galerkin, mirrors searched",
         most: None,
+        wanted_from: 16,
         sides: &SIDES,
         kernel: galerkin::with_mirrors,
     },
     Row {
         name: "apply",
-        most: None,
+        most: Some(0.85),
+        wanted_from: 64,
         sides: &SIDES,
         kernel: kernels::apply,
     },
     Row {
         name: "residual, fused",
-        most: None,
+        most: Some(1.0),
+        wanted_from: 64,
         sides: &SIDES,
         kernel: kernels::residual,
     },
     Row {
+        name: "residual, vectors padded",
+        most: Some(1.0),
+        wanted_from: 64,
+        sides: &SIDES,
+        kernel: kernels::residual_padded,
+    },
+    Row {
+        name: "Gauss-Seidel sweep",
+        most: Some(1.0),
+        wanted_from: 64,
+        sides: &SIDES,
+        kernel: sweeps::gauss_seidel,
+    },
+    Row {
+        name: "DIC sweep",
+        most: Some(1.0),
+        wanted_from: 64,
+        sides: &SIDES,
+        kernel: sweeps::dic,
+    },
+    Row {
+        name: "dot",
+        most: Some(1.0),
+        wanted_from: 64,
+        sides: &SIDES,
+        kernel: dot::two_vectors,
+    },
+    Row {
         name: "cholesky",
-        most: None,
+        most: Some(1.0),
+        wanted_from: 16,
         sides: &[16],
         kernel: cholesky::all_rows,
     },
@@ -117,7 +163,7 @@ fn run(rounds: usize) -> ExitCode {
         for row in ROWS.iter().filter(|row| row.sides.contains(&side)) {
             let medians = measure((row.kernel)(&grid).as_mut(), rounds);
             print(row, side, &medians);
-            missed |= row.most.is_some_and(|most| medians.ratio() > most);
+            missed |= row.wanted(side).is_some_and(|most| medians.ratio() > most);
         }
     }
     if missed {
@@ -128,7 +174,9 @@ fn run(rounds: usize) -> ExitCode {
 }
 
 fn print(row: &Row, side: usize, medians: &Medians) {
-    let wanted = row.most.map_or(String::new(), |most| format!("{most:.3}"));
+    let wanted = row
+        .wanted(side)
+        .map_or(String::new(), |most| format!("{most:.3}"));
     println!(
         "{:<28} {:>9} {:>11.2} {:>11.2} {:>10.3} {wanted:>7}",
         row.name,

@@ -3,12 +3,13 @@
 
 use crate::report::Report;
 
-const RATTLE: [&str; 8] = [
+const RATTLE: [&str; 9] = [
     include_str!("../../crates/probe/src/numbers.rt"),
     include_str!("../../crates/probe/src/controls.rt"),
     include_str!("../../crates/probe/src/vectors.rt"),
     include_str!("../../crates/probe/src/coarsening.rt"),
     include_str!("../../crates/probe/src/kernels.rt"),
+    include_str!("../../crates/probe/src/smoothing.rt"),
     include_str!("../../crates/probe/src/terminals.rt"),
     include_str!("../../crates/probe/src/measures.rt"),
     include_str!("../../crates/probe/src/corrections.rt"),

@@ -7,6 +7,7 @@ pub mod corrections;
 pub mod galerkin;
 pub mod kernels;
 pub mod measures;
+pub mod smoothing;
 pub mod terminals;
 
 use oracle::{MultigridCoarseSolver, MultigridOptions, MultigridResidualNorm, MultigridSmoother};
@@ -193,6 +194,76 @@ unsafe extern "C" {
         upper: usize,
         lower: usize,
     ) -> u8;
+    fn probe_update_dic_diagonal(
+        w: *const u32,
+        w_length: usize,
+        f: *mut f64,
+        f_length: usize,
+        rows: usize,
+        diagonal: usize,
+        inverse: usize,
+        offsets: usize,
+        neighbors: usize,
+        coefficients: usize,
+        d: usize,
+        level: u64,
+        place: *mut u64,
+        place_length: usize,
+    ) -> u64;
+    fn probe_gauss_seidel(
+        w: *const u32,
+        w_length: usize,
+        f: *mut f64,
+        f_length: usize,
+        rows: usize,
+        diagonal: usize,
+        inverse: usize,
+        offsets: usize,
+        neighbors: usize,
+        coefficients: usize,
+        rhs: usize,
+        x: usize,
+        work: usize,
+        symmetric: u8,
+    );
+    fn probe_dic_sweep(
+        w: *const u32,
+        w_length: usize,
+        f: *mut f64,
+        f_length: usize,
+        rows: usize,
+        diagonal: usize,
+        inverse: usize,
+        offsets: usize,
+        neighbors: usize,
+        coefficients: usize,
+        dic: usize,
+        rhs: usize,
+        x: usize,
+        work: usize,
+        correction: usize,
+    );
+    fn probe_smooth(
+        w: *const u32,
+        w_length: usize,
+        f: *mut f64,
+        f_length: usize,
+        rows: usize,
+        diagonal: usize,
+        inverse: usize,
+        offsets: usize,
+        neighbors: usize,
+        coefficients: usize,
+        dic: usize,
+        kind: u8,
+        rhs: usize,
+        x: usize,
+        work: usize,
+        correction: usize,
+        sweeps: u64,
+        place: *mut u64,
+        place_length: usize,
+    ) -> u64;
     fn probe_cholesky(
         w: *const u32,
         w_length: usize,
@@ -358,14 +429,18 @@ pub fn saturating_mul(a: u64, b: u64) -> u64 {
     probe_saturating_mul(a, b)
 }
 
+fn smoother_number(smoother: MultigridSmoother) -> u8 {
+    match smoother {
+        MultigridSmoother::GaussSeidel => 0,
+        MultigridSmoother::SymmetricGaussSeidel => 1,
+        MultigridSmoother::DicGaussSeidel => 2,
+    }
+}
+
 /// Whether the controls pass `validate`. Enums cross as their number in source order.
 pub fn validate(options: &MultigridOptions) -> bool {
     yes(probe_validate(
-        match options.smoother {
-            MultigridSmoother::GaussSeidel => 0,
-            MultigridSmoother::SymmetricGaussSeidel => 1,
-            MultigridSmoother::DicGaussSeidel => 2,
-        },
+        smoother_number(options.smoother),
         match options.residual_norm {
             MultigridResidualNorm::AbsoluteL2 => 0,
             MultigridResidualNorm::NormalizedL1 => 1,

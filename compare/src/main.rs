@@ -13,6 +13,7 @@ mod measure;
 mod numbers;
 mod options;
 mod report;
+mod smoother;
 mod stores;
 mod vector;
 mod worked;
@@ -84,6 +85,7 @@ fn run(effort: Effort, seed: u64) -> ExitCode {
     aggregation::compare(&mut report, &mut random, effort);
     galerkin::compare(&mut report, &mut random, effort);
     matrix::compare(&mut report, &mut random, effort);
+    smoother::compare(&mut report, &mut random, effort);
     coarse::compare(&mut report, &mut random, effort);
     measure::compare(&mut report, &mut random, effort);
     cycle::compare(&mut report, &mut random, effort);

@@ -1,4 +1,4 @@
-//! The kernel of `matrix` beside `SymmetricMatrix` of matrix.rs.
+//! The kernel of `matrix`, and its `values`, beside `SymmetricMatrix` of matrix.rs.
 
 use crate::Effort;
 use crate::boundary::kernels::{self, Entries, Refused, SymmetricMatrix};

@@ -27,6 +27,40 @@ mod smoother {
     ) {
         gauss_seidel(matrix, rhs, x, work, symmetric);
     }
+
+    /// Lines 124 to 147 of smoother.rs as they stand there, in the loop of `smooth`.
+    pub fn dic_sweep(
+        matrix: &SymmetricMatrix,
+        inverse_dic: &[f64],
+        rhs: &[f64],
+        x: &mut [f64],
+        correction: &mut [f64],
+    ) {
+        matrix.residual(x, rhs, correction);
+        for row in 0..rhs.len() {
+            let value = correction[row] * inverse_dic[row];
+            correction[row] = value;
+            let range = matrix.offsets[row]..matrix.offsets[row + 1];
+            for (&neighbor, &a) in matrix.neighbors[range.clone()]
+                .iter()
+                .zip(&matrix.coefficients[range])
+            {
+                correction[neighbor as usize] -= a * value;
+            }
+        }
+        for row in (0..rhs.len()).rev() {
+            let mut upper = 0.0;
+            let range = matrix.offsets[row]..matrix.offsets[row + 1];
+            for (&neighbor, &a) in matrix.neighbors[range.clone()]
+                .iter()
+                .zip(&matrix.coefficients[range])
+            {
+                upper += a * correction[neighbor as usize];
+            }
+            correction[row] -= inverse_dic[row] * upper;
+            x[row] += correction[row];
+        }
+    }
 }
 
 use crate::{
@@ -135,9 +169,27 @@ impl Kernel {
         preconditioner.apply_into(rhs, output)
     }
 
+    /// Any values, also such as `update` refuses.
+    pub fn set_values(&mut self, diagonal: &[f64], inverse: &[f64], coefficients: &[f64]) {
+        self.0.diagonal.copy_from_slice(diagonal);
+        self.0.inverse.copy_from_slice(inverse);
+        self.0.coefficients.copy_from_slice(coefficients);
+    }
+
     /// `gauss_seidel` of smoother.rs: one sweep, without the test of its outcome.
-    pub fn gauss_seidel(&self, rhs: &[f64], x: &mut [f64], symmetric: bool) {
-        smoother::sweep(&self.0, rhs, x, &mut vec![0.0; rhs.len()], symmetric);
+    pub fn gauss_seidel(&self, rhs: &[f64], x: &mut [f64], work: &mut [f64], symmetric: bool) {
+        smoother::sweep(&self.0, rhs, x, work, symmetric);
+    }
+
+    /// One DIC sweep of `smooth` of smoother.rs.
+    pub fn dic_sweep(
+        &self,
+        inverse_dic: &[f64],
+        rhs: &[f64],
+        x: &mut [f64],
+        correction: &mut [f64],
+    ) {
+        smoother::dic_sweep(&self.0, inverse_dic, rhs, x, correction);
     }
 
     /// `smooth` of smoother.rs. `inverse_dic` is read under `DicGaussSeidel` only.

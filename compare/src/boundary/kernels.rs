@@ -1,4 +1,4 @@
-//! The kernel of a level, of `matrix`.
+//! The kernel of a level, of `matrix` and `values`.
 
 use super::{
     probe_apply, probe_equal_mirrors, probe_residual, probe_row_sums_into, probe_update,
@@ -146,7 +146,7 @@ impl SymmetricMatrix {
         }
     }
 
-    /// New values from an image; what is required is `UpdateOk` of `matrix`.
+    /// New values from an image; what is required is `UpdateOk` of `values`.
     pub fn update(
         &self,
         w: &[u32],

@@ -1,25 +1,20 @@
 -- Worked examples, over P = 4, −2; −2, 2. Each holds by computing.
 -- Assumes nothing.
 use mathlib.Core.Path.{_≡_, refl}
-use mathlib.Core.Bool.{true, false}
 use mathlib.Core.List.{List, [], _∷_}
-use lib.Ieee.{Float, binary64, ofBits, add, sub, mul, div, neg, lt, eq}
-use Rattle.float.specs.Float.{zero64, one64, isFinite}
+use lib.Ieee.{Float, binary64, ofBits, add, sub, mul}
+use Rattle.float.specs.Float.{zero64, one64}
 use Rattle.store.specs.Loop.{iter, for}
-use Rattle.store.specs.Vector.{tab, each}
-use Rattle.refusal.specs.declared.Refusal.{Refusal}
-use Rattle.refusal.specs.Outcome.{accepted, refused, askRows}
+use Rattle.store.specs.Vector.{tab}
 use Rattle.matrix.specs.Kernel.{Kernel, spreadFace, spreadRow, spreadOf, applyOf, residualOf, sumFace, sumRow, rowSumsOf}
-use Rattle.matrix.specs.Mirrors.{mirrorsAgree, mirrorsEqual}
-use Rattle.matrix.specs.Update.{isPositive, diagonalAsked, updateOf}
 
-abbrev two : Float
+abbrev pub two : Float
 two = ofBits binary64 0x4000_0000_0000_0000
 
-abbrev minusTwo : Float
+abbrev pub minusTwo : Float
 minusTwo = ofBits binary64 0xc000_0000_0000_0000
 
-abbrev four : Float
+abbrev pub four : Float
 four = ofBits binary64 0x4010_0000_0000_0000
 
 abbrev quarter : Float
@@ -28,7 +23,7 @@ quarter = ofBits binary64 0x3fd0_0000_0000_0000
 abbrev half : Float
 half = ofBits binary64 0x3fe0_0000_0000_0000
 
-abbrev P : Kernel
+abbrev pub P : Kernel
 P = record {
   rows = 2;
   diagonal = four ∷ two ∷ [];
@@ -52,36 +47,3 @@ difference = refl
 sums : rowSumsOf P ≡ two ∷ zero64 ∷ []
 unfolding rowSumsOf sumRow sumFace for iter ofBits add
 sums = refl
-
--- The entries of P by rows.
-abbrev entries : List Float
-entries = four ∷ minusTwo ∷ minusTwo ∷ two ∷ []
-
--- An update from them gives P's values again.
-updated : updateOf 0 2 (0 ∷ 3 ∷ []) (1 ∷ []) entries
-    ≡ accepted (record { diagonal = P .diagonal; inverse = P .inverse; coefficients = P .coefficients })
-unfolding updateOf diagonalAsked isPositive isFinite askRows tab ofBits div lt
-updated = refl
-
--- A zero on the diagonal of row 1 is refused by question 12.
-zeroDiagonal : updateOf 3 2 (0 ∷ 3 ∷ []) (1 ∷ []) (four ∷ minusTwo ∷ minusTwo ∷ zero64 ∷ []) ≡ refused (Refusal.BadDiagonal 3 1)
-unfolding updateOf diagonalAsked isPositive isFinite askRows tab ofBits div lt
-zeroDiagonal = refl
-
--- The least number above zero has no finite reciprocal: question 13.
-tinyDiagonal : updateOf 3 2 (0 ∷ 3 ∷ []) (1 ∷ []) (four ∷ minusTwo ∷ minusTwo ∷ ofBits binary64 1 ∷ []) ≡ refused (Refusal.BadReciprocal 3 1)
-unfolding updateOf diagonalAsked isPositive isFinite askRows tab ofBits div lt
-tinyDiagonal = refl
-
--- The mirrored entries of P agree; +0 and −0 do; 2 and −2 do not.
-mirrored : mirrorsEqual 1 (1 ∷ []) (2 ∷ []) entries ≡ true
-unfolding mirrorsEqual mirrorsAgree each isFinite eq ofBits
-mirrored = refl
-
-zeros : mirrorsAgree zero64 (neg zero64) ≡ true
-unfolding mirrorsAgree isFinite eq ofBits neg
-zeros = refl
-
-signs : mirrorsAgree two minusTwo ≡ false
-unfolding mirrorsAgree isFinite eq ofBits
-signs = refl

@@ -1,5 +1,3 @@
 pub mod Turns
 pub mod Kernel
-pub mod Mirrors
-pub mod UpdateLaws
-mod Examples
+pub mod Examples

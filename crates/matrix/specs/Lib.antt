@@ -1,4 +1,2 @@
 pub mod Kernel
 pub mod Turns
-pub mod Mirrors
-pub mod Update

@@ -70,10 +70,6 @@ module _ (w : List ℕ) where
   pub record Summed (rows offsets neighbors coefficients sums : ℕ) (F G : List Float) : Type 0 where
     pub is : G ≡ for (sumRowTurn offsets neighbors coefficients sums) 0 rows F
 
--- to[k] = the value of entry k
-unfoldable pub pickTurn : List ℕ → ℕ → ℕ → ℕ → ℕ → List Float → List Float
-pickTurn w places values to k F = set F (to + k) (at F (values + idx w (places + k)))
-
 -- the faces up to hi lie in the stores, and so do two vectors of n elements
 pub record FacesOk (w : List ℕ) (size n hi neighbors coefficients x out : ℕ) : Type 0 where
   pub columns : neighbors + hi ≤ length w

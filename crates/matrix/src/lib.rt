@@ -8,13 +8,6 @@ ghost use Rattle.store.specs.Region.{part, Wrote};
 ghost use Rattle.matrix.specs.Kernel.{kernelAt, applyOf, residualOf, rowSumsOf, KernelOk};
 ghost use Rattle.matrix.specs.Turns.{productTurn, lessTurn, Faced, Rowed, Spread, FacesOk, RowsOk, SumFaced, SumRowed, Summed};
 
-mod symmetry;
-mod values;
-
-pub use symmetry::equal_mirrors;
-pub use values::Entries;
-pub use values::update;
-
 // Where a matrix lies: offsets and neighbors in the words, the others in the floats. Each coefficient is stored once.
 pub struct SymmetricMatrix {
     pub rows: usize,

@@ -17,7 +17,7 @@ use Rattle.refusal.specs.Refusal.{numberOf, levelOf, rowOf}
 use Rattle.aggregation.specs.declared.Graph.{Graph}
 use Rattle.pattern.specs.declared.Coarsening.{Coarsening}
 use Rattle.matrix.specs.declared.SymmetricMatrix.{SymmetricMatrix}
-use Rattle.matrix.specs.declared.values.Entries.{Entries}
+use Rattle.values.specs.declared.values.Entries.{Entries}
 use Rattle.cholesky.specs.declared.Terminal.{Terminal}
 use Rattle.cycle.specs.declared.Factor.{Factor}
 use Rattle.acceleration.specs.declared.Corrected.{Corrected}

@@ -8,7 +8,7 @@ use options::MultigridOptions;
 use options::MultigridResidualNorm;
 use options::MultigridSmoother;
 
-fn smoother_of(number: u8) -> MultigridSmoother
+pub fn smoother_of(number: u8) -> MultigridSmoother
     ensures { λ r. ⌜ r ≡ smootherOf number ⌝ }
 {
     if number == 0 {

@@ -1,17 +1,17 @@
-// The functions of `matrix`: the kernel of a level. Its places cross as numbers.
+// The functions of `matrix` and `values`: the kernel of a level. Its places cross as numbers.
 ghost use mathlib.Core.Path.{_≡_};
 ghost use Prim.Native.Nat.{_+_, _≤_};
 ghost use lib.ListN.{length};
 ghost use Rattle.refusal.specs.Outcome.{verdictOf};
 ghost use Rattle.store.specs.Region.{part, Wrote};
 ghost use Rattle.matrix.specs.Kernel.{kernelAt, applyOf, residualOf, rowSumsOf, KernelOk};
-ghost use Rattle.matrix.specs.Update.{updateAt, UpdateOk, Updated};
-ghost use Rattle.matrix.specs.Mirrors.{mirrorsEqual, MirrorsOk};
+ghost use Rattle.values.specs.Update.{updateAt, UpdateOk, Updated};
+ghost use Rattle.values.specs.Mirrors.{mirrorsEqual, MirrorsOk};
 ghost use Rattle.probe.specs.Probe.{flag, symmetricOf, entriesOf, Told};
 use crate::answer;
 use crate::number;
-use matrix::Entries;
 use matrix::SymmetricMatrix;
+use values::Entries;
 
 #[no_mangle]
 pub extern "C" fn probe_apply(
@@ -153,7 +153,7 @@ pub extern "C" fn probe_update(
         faces: faces,
         values: values,
     };
-    answer(matrix::update(w, f, s, e, level), place)
+    answer(values::update(w, f, s, e, level), place)
 }
 
 #[no_mangle]
@@ -168,5 +168,5 @@ pub extern "C" fn probe_equal_mirrors(
     ensures { λ r. ⌜ r ≡ flag (mirrorsEqual faces (part upper faces (now (w .entry)))
         (part lower faces (now (w .entry))) (now (values .entry))) ⌝ }
 {
-    number(matrix::equal_mirrors(w, values, faces, upper, lower))
+    number(values::equal_mirrors(w, values, faces, upper, lower))
 }

@@ -6,6 +6,7 @@ mod corrections;
 mod kernels;
 mod measures;
 mod numbers;
+mod smoothing;
 mod terminals;
 mod vectors;
 

@@ -9,7 +9,7 @@ use Rattle.store.specs.Region.{at, idx, part}
 use Rattle.store.specs.Vector.{each}
 use Rattle.store.proofs.Region.{getD-part}
 use Rattle.store.proofs.Each.{Passed, each-same, passed-start, passed-on, passed-no, passed-yes}
-use Rattle.matrix.specs.Mirrors.{mirrorsAgree, mirrorsEqual, MirrorsOk}
+use Rattle.values.specs.Mirrors.{mirrorsAgree, mirrorsEqual, MirrorsOk}
 
 -- The position of a face's upper value is one of the values, and so is that of its lower one.
 pub up-of : (w : List ℕ) (size faces upper lower k : ℕ) → MirrorsOk w size faces upper lower → k < faces → idx w (upper + k) < size

@@ -1,9 +1,9 @@
--- `matrix::symmetry::mirrors_agree` meets its contract.
+-- `values::symmetry::mirrors_agree` meets its contract.
 -- Assumes nothing.
-use Rattle.matrix.specs.Mirrors.{mirrorsAgree}
+use Rattle.values.specs.Mirrors.{mirrorsAgree}
 use borrow.Author.Needs.{needs}
-use Rattle.matrix.proofs.symmetry.mirrors_agree.Statement.{statement}
-use Rattle.matrix.proofs.symmetry.mirrors_agree.Tie as tie
+use Rattle.values.proofs.symmetry.mirrors_agree.Statement.{statement}
+use Rattle.values.proofs.symmetry.mirrors_agree.Tie as tie
 
 returns : tie.Need-returns
 unfolding mirrorsAgree

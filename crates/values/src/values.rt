@@ -4,8 +4,8 @@ ghost use Prim.Native.Nat.{_+_, _≤_};
 ghost use lib.ListN.{length};
 ghost use Rattle.store.specs.Region.{idx, part, Wrote};
 ghost use Rattle.store.specs.Vector.{tab};
-ghost use Rattle.matrix.specs.Update.{isPositive, entryOf, updateAt, UpdateOk, Updated, EntriesOk, RowsUpdated};
-use crate::SymmetricMatrix;
+ghost use Rattle.values.specs.Update.{isPositive, entryOf, updateAt, UpdateOk, Updated, EntriesOk, RowsUpdated};
+use matrix::SymmetricMatrix;
 use refusal::Refusal;
 use refusal::Verdict;
 

@@ -2,7 +2,7 @@
 ghost use mathlib.Core.Path.{_≡_};
 ghost use lib.ListN.{length};
 ghost use Rattle.store.specs.Region.{part};
-ghost use Rattle.matrix.specs.Mirrors.{mirrorsAgree, mirrorsEqual, MirrorsOk};
+ghost use Rattle.values.specs.Mirrors.{mirrorsAgree, mirrorsEqual, MirrorsOk};
 
 // Both finite, and equal as numbers.
 fn mirrors_agree(a: f64, b: f64) -> bool

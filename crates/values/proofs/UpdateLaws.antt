@@ -20,10 +20,9 @@ use Rattle.store.specs.Vector.{tab}
 use Rattle.store.proofs.Loop.{Left, left-end}
 use Rattle.store.proofs.Region.{length-part, length-splice, getD-part, getD-splice-below, set-splice-below, set-splice-end, splice-nil, part-splice-above, wrote, wrote-at, wrote-off, kept-wrote, kept-part}
 use Rattle.store.proofs.Vector.{length-tab, tab-same, for-each}
 use Rattle.matrix.specs.declared.SymmetricMatrix.{SymmetricMatrix}
-use Rattle.matrix.specs.declared.values.Entries.{Entries}
-use Rattle.matrix.specs.Turns.{pickTurn}
-use Rattle.matrix.specs.Update.{isPositive, diagonalAsked, entryOf, Coefficients, updateOf, updateAt, Within, Holds, UpdateOk, Updated, EntriesOk, after, diagonalAt, writtenTo, RowsUpdated}
+use Rattle.values.specs.declared.values.Entries.{Entries}
+use Rattle.values.specs.Update.{isPositive, diagonalAsked, entryOf, Coefficients, updateOf, updateAt, Within, Holds, UpdateOk, Updated, EntriesOk, pickTurn, after, diagonalAt, writtenTo, RowsUpdated}
 
 -- ---- the frame
 

@@ -1,13 +1,13 @@
--- `matrix::values::update_rows` meets its contract. The loop's invariant: the questions left give the answer, and the rows passed are written.
+-- `values::values::update_rows` meets its contract. The loop's invariant: the questions left give the answer, and the rows passed are written.
 -- Assumes nothing.
 use mathlib.Core.Path.{_≡_, refl}
 use Prim.Native.Nat.{_-_}
 use lib.ListN.{length, length-set}
-use Rattle.matrix.proofs.UpdateLaws.{entry-of, Updating, updating-start, row-bad, row-bad-reciprocal, row-on, rows-done}
+use Rattle.values.proofs.UpdateLaws.{entry-of, Updating, updating-start, row-bad, row-bad-reciprocal, row-on, rows-done}
 use native.Mathlib.Omega.{arith}
 use borrow.Author.Needs.{needs}
-use Rattle.matrix.proofs.values.update_rows.Statement.{statement}
-use Rattle.matrix.proofs.values.update_rows.Tie as tie
+use Rattle.values.proofs.values.update_rows.Statement.{statement}
+use Rattle.values.proofs.values.update_rows.Tie as tie
 
 abbrev Inv-loop : tie.InvT-loop
 Inv-loop w f₀ rows entries places values diagonal inverse level row₀ f row =

@@ -3,7 +3,7 @@ use mathlib.Core.Bool.{Bool, _&&_}
 use mathlib.Core.List.{List}
 use mathlib.Core.Path.{_≡_}
 use Prim.Native.Nat.{ℕ, _+_, _≤_, _<_}
-use lib.ListN.{length, take, drop}
+use lib.ListN.{length, set, take, drop}
 use lib.Ieee.{Float, lt}
 use Rattle.float.specs.Float.{div64, zero64, one64, isFinite}
 use Rattle.refusal.specs.declared.Refusal.{Refusal}
@@ -11,8 +11,8 @@ use Rattle.refusal.specs.declared.Verdict.{Verdict}
 use Rattle.refusal.specs.Outcome.{Outcome, accepted, refused, passed, ask, _>>_, askEach, verdictOf}
 use Rattle.store.specs.Region.{at, idx, part, splice}
 use Rattle.store.specs.Vector.{tab}
 use Rattle.matrix.specs.declared.SymmetricMatrix.{SymmetricMatrix}
-use Rattle.matrix.specs.declared.values.Entries.{Entries}
+use Rattle.values.specs.declared.values.Entries.{Entries}
 
 -- `d.is_finite() && d > 0.0`
 unfoldable pub isPositive : Float → Bool
@@ -82,6 +82,10 @@ pub record Updated (w : List ℕ) (s : SymmetricMatrix) (o : Outcome Coefficient
   pub within : Within (s .coefficients) (s .inverse + s .rows) F G
 
 -- ---- the inner functions
+
+-- to[k] = the value of entry k
+unfoldable pub pickTurn : List ℕ → ℕ → ℕ → ℕ → ℕ → List Float → List Float
+pickTurn w places values to k F = set F (to + k) (at F (values + idx w (places + k)))
 
 -- n positions at `places` in w, each one of `entries` values, which end at or below `to`
 pub record EntriesOk (w : List ℕ) (size n entries places values to : ℕ) : Type 0 where

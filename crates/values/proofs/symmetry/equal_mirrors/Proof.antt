@@ -1,11 +1,11 @@
--- `matrix::symmetry::equal_mirrors` meets its contract. The loop's invariant: each pair passed agrees.
+-- `values::symmetry::equal_mirrors` meets its contract. The loop's invariant: each pair passed agrees.
 -- Assumes nothing.
 use Prim.Native.Nat.{_-_}
-use Rattle.matrix.proofs.Mirrors.{up-of, low-of, Agreed, agreed-start, agreed-on, agreed-no, agreed-yes}
+use Rattle.values.proofs.Mirrors.{up-of, low-of, Agreed, agreed-start, agreed-on, agreed-no, agreed-yes}
 use native.Mathlib.Omega.{arith}
 use borrow.Author.Needs.{needs}
-use Rattle.matrix.proofs.symmetry.equal_mirrors.Statement.{statement}
-use Rattle.matrix.proofs.symmetry.equal_mirrors.Tie as tie
+use Rattle.values.proofs.symmetry.equal_mirrors.Statement.{statement}
+use Rattle.values.proofs.symmetry.equal_mirrors.Tie as tie
 
 abbrev Inv-loop : tie.InvT-loop
 Inv-loop w values faces upper lower count face₀ face = Agreed w values upper lower faces face

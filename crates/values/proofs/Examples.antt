@@ -1,0 +1,46 @@
+-- Worked examples, over P = 4, −2; −2, 2. Each holds by computing.
+-- Assumes nothing.
+use mathlib.Core.Path.{_≡_, refl}
+use mathlib.Core.Bool.{true, false}
+use mathlib.Core.List.{List, [], _∷_}
+use lib.Ieee.{Float, binary64, ofBits, div, neg, lt, eq}
+use Rattle.float.specs.Float.{zero64, isFinite}
+use Rattle.store.specs.Vector.{tab, each}
+use Rattle.refusal.specs.declared.Refusal.{Refusal}
+use Rattle.refusal.specs.Outcome.{accepted, refused, askRows}
+use Rattle.matrix.proofs.Examples.{two, minusTwo, four, P}
+use Rattle.values.specs.Mirrors.{mirrorsAgree, mirrorsEqual}
+use Rattle.values.specs.Update.{isPositive, diagonalAsked, updateOf}
+
+-- The entries of P by rows.
+abbrev entries : List Float
+entries = four ∷ minusTwo ∷ minusTwo ∷ two ∷ []
+
+-- An update from them gives P's values again.
+updated : updateOf 0 2 (0 ∷ 3 ∷ []) (1 ∷ []) entries
+    ≡ accepted (record { diagonal = P .diagonal; inverse = P .inverse; coefficients = P .coefficients })
+unfolding updateOf diagonalAsked isPositive isFinite askRows tab ofBits div lt
+updated = refl
+
+-- A zero on the diagonal of row 1 is refused by question 12.
+zeroDiagonal : updateOf 3 2 (0 ∷ 3 ∷ []) (1 ∷ []) (four ∷ minusTwo ∷ minusTwo ∷ zero64 ∷ []) ≡ refused (Refusal.BadDiagonal 3 1)
+unfolding updateOf diagonalAsked isPositive isFinite askRows tab ofBits div lt
+zeroDiagonal = refl
+
+-- The least number above zero has no finite reciprocal: question 13.
+tinyDiagonal : updateOf 3 2 (0 ∷ 3 ∷ []) (1 ∷ []) (four ∷ minusTwo ∷ minusTwo ∷ ofBits binary64 1 ∷ []) ≡ refused (Refusal.BadReciprocal 3 1)
+unfolding updateOf diagonalAsked isPositive isFinite askRows tab ofBits div lt
+tinyDiagonal = refl
+
+-- The mirrored entries of P agree; +0 and −0 do; 2 and −2 do not.
+mirrored : mirrorsEqual 1 (1 ∷ []) (2 ∷ []) entries ≡ true
+unfolding mirrorsEqual mirrorsAgree each isFinite eq ofBits
+mirrored = refl
+
+zeros : mirrorsAgree zero64 (neg zero64) ≡ true
+unfolding mirrorsAgree isFinite eq ofBits neg
+zeros = refl
+
+signs : mirrorsAgree two minusTwo ≡ false
+unfolding mirrorsAgree isFinite eq ofBits
+signs = refl
