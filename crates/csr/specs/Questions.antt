@@ -17,9 +17,13 @@ use Rattle.options.specs.declared.questions.Refusal.{Refusal}
 unfoldable pub sizeOk : ℕ → List ℕ → Bool
 sizeOk rows columns = leb rows 65536 && leb (length columns) 1048576
 
--- whether no row ends before it starts
+-- whether row r does not end before it starts
+unfoldable pub stepOk : List ℕ → ℕ → Bool
+stepOk offsets r = leb (idx offsets r) (idx offsets (r + 1))
+
+-- whether no row does
 unfoldable pub neverFall : ℕ → List ℕ → Bool
-neverFall rows offsets = each (λ r. leb (idx offsets r) (idx offsets (r + 1))) rows
+neverFall rows offsets = each (stepOk offsets) rows
 
 -- question 2: rows + 1 offsets, starting at 0, never falling, ending at the entry count, and as many values as columns
 unfoldable pub offsetsOk : ℕ → List ℕ → List ℕ → List Float → Bool
@@ -30,25 +34,37 @@ offsetsOk rows offsets columns values =
     && eqb (idx offsets rows) (length columns)
     && eqb (length values) (length columns)
 
--- the test of entry e in a row that ends at `last`: its column is below the rows, and below the next one of the row
+-- the test of entry e in a row that ends at `last`: its column is below the rows, and below the row's next one
 unfoldable pub entryOk : ℕ → List ℕ → ℕ → ℕ → Bool
 entryOk rows columns last e = ltb (idx columns e) rows && (leb last (e + 1) || ltb (idx columns e) (idx columns (e + 1)))
 
+-- the test of the row's k-th entry, counted from `first`
+unfoldable pub entryFrom : ℕ → List ℕ → ℕ → ℕ → ℕ → Bool
+entryFrom rows columns first last k = entryOk rows columns last (first + k)
+
 -- whether it holds of each entry from `first` up to `last`
 unfoldable pub rowOk : ℕ → List ℕ → ℕ → ℕ → Bool
-rowOk rows columns first last = each (λ k. entryOk rows columns last (first + k)) (last - first)
+rowOk rows columns first last = each (entryFrom rows columns first last) (last - first)
+
+-- the test of row r
+unfoldable pub rowAt : ℕ → List ℕ → List ℕ → ℕ → Bool
+rowAt rows offsets columns r = rowOk rows columns (idx offsets r) (idx offsets (r + 1))
 
 -- question 3: in each row, each column is below the rows, and they rise strictly
 unfoldable pub columnsOk : ℕ → List ℕ → List ℕ → Bool
-columnsOk rows offsets columns = each (λ r. rowOk rows columns (idx offsets r) (idx offsets (r + 1))) rows
+columnsOk rows offsets columns = each (rowAt rows offsets columns) rows
 
 -- question 4: as many weights as entries
 abbrev pub weightsCounted : ℕ → List Float → Bool
 weightsCounted entries weights = eqb (length weights) entries
 
--- question 5: each weight is finite and not below zero; minus zero passes
+-- the test of weight k: it is finite and not below zero; minus zero passes, a NaN does not
+unfoldable pub weightOk : List Float → ℕ → Bool
+weightOk weights k = tolerable (at weights k)
+
+-- question 5: each weight passes it
 unfoldable pub weightsOk : List Float → Bool
-weightsOk weights = each (λ k. tolerable (at weights k)) (length weights)
+weightsOk weights = each (weightOk weights) (length weights)
 
 -- questions 1 to 3
 abbrev pub matrixAsked : ℕ → List ℕ → List ℕ → List Float → Outcome Unit
@@ -64,6 +80,12 @@ weightsAsked entries weights = do
   ask (weightsCounted entries weights) Refusal.WeightCount
   ask (weightsOk weights) Refusal.BadWeight
   passed
+
+-- What a matrix that passed has: few enough rows and entries, and a value for each entry.
+pub record Sizes (rows : ℕ) (columns : List ℕ) (values : List Float) : Type 0 where
+  pub few : rows ≤ 65536
+  pub short : length columns ≤ 1048576
+  pub counted : length values ≡ length columns
 
 -- What the walk over the rows asks of the offsets, once question 2 has passed: each row lies among the entries.
 pub record Rowed (rows : ℕ) (offsets columns : List ℕ) : Type 0 where
