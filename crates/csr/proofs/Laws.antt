@@ -1,22 +1,20 @@
 -- What a matrix and its weights have where their questions passed, and that such a matrix passes.
 -- Assumes nothing.
 use mathlib.Core.Path.{_≡_, refl, sym, _∙_}
-use mathlib.Core.Bool.{Bool, true, false, _&&_}
+use mathlib.Core.Bool.{Bool, true, false}
 use mathlib.Core.List.{List}
 use Prim.Native.Nat.{ℕ, _+_, _≤_, _<_}
 use native.Mathlib.Omega.{arith}
-use lib.Dec.{eqb, leb}
 use lib.Ieee.{Float}
 use lib.ListN.{length}
-use borrow.Author.Tests.{leb-true, eqb-true, le-leb}
+use borrow.Author.Tests.{eqb-true, le-leb}
 use Rattle.store.specs.Region.{idx}
-use Rattle.store.proofs.Each.{both-l, both-r}
 use Rattle.options.specs.declared.questions.Refusal.{Refusal}
 use Rattle.options.specs.declared.questions.Verdict.{Verdict}
 use Rattle.options.specs.Outcome.{Outcome, passed, ask, verdictOf}
-use Rattle.pattern.specs.Pattern.{Pattern, entries, columnOf, rowOf, Valid, Rising}
+use Rattle.pattern.specs.Pattern.{Pattern, rowOf, Valid, Rising}
 use Rattle.pattern.proofs.Row.{offset-mono, row-is, row-in}
-use Rattle.csr.specs.Questions.{sizeOk, offsetsOk, columnsOk, weightsCounted, weightsOk, matrixAsked, weightsAsked, entryOk, Sizes}
+use Rattle.csr.specs.Questions.{sizeOk, offsetsOk, columnsOk, weightsCounted, weightsOk, matrixAsked, weightsAsked, patternOf, entryOk, Sizes}
 use Rattle.csr.proofs.Walk.{size-told, offsets-fit, fit-offsets, fit-in, entry-told, told-entry, columns-at, at-columns}
 
 -- Where a question and the rest passed, the question holds and the rest passed.
@@ -24,10 +22,6 @@ pub asked-yes : {A : Type 0} (holds : Bool) (q : Refusal) (rest : Outcome A) →
     → (holds ≡ true) × (verdictOf rest ≡ Verdict.Passed)
 asked-yes true q rest e = (refl, e)
 asked-yes false q rest e = let none : _≡_ {A = ℕ} 0 1 = cc in absurd (omega arith)
-
--- the pattern that is lent
-abbrev pub patternOf : ℕ → List ℕ → List ℕ → Pattern
-patternOf rows offsets columns = record { rows = rows; offsets = offsets; columns = columns }
 
 module _ (rows : ℕ) (offsets columns : List ℕ) (values : List Float) where
   -- A matrix that passed: the three questions hold.

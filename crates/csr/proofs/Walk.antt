@@ -1,7 +1,7 @@
 -- The tests of the loops as the code has them, and what each question tells.
 -- Assumes nothing.
-use mathlib.Core.Path.{_≡_, refl, sym, ap, _∙_}
-use mathlib.Core.Bool.{Bool, true, false, _&&_, _||_, and-true}
+use mathlib.Core.Path.{_≡_, refl, sym, _∙_}
+use mathlib.Core.Bool.{Bool, true, false, _&&_, _||_, and-true, false≢true}
 use mathlib.Core.List.{List}
 use mathlib.Core.Logic.{⊎-elim}
 use Prim.Native.Nat.{ℕ, zero, suc, _+_, _-_, _≤_, _<_}
@@ -50,6 +50,15 @@ step-no offsets rows row h l = passed-no (stepOk offsets) rows row false h (sym 
 
 -- ---- question 2
 
+-- Five tests that hold together hold.
+all-five : (a b c d e : Bool) → (a && b && c && d && e) ≡ true → (a ≡ true) × (b ≡ true) × (c ≡ true) × (d ≡ true) × (e ≡ true)
+all-five true true true true true t = (refl, refl, refl, refl, refl)
+all-five false b c d e t = absurd (false≢true t)
+all-five true false c d e t = absurd (false≢true t)
+all-five true true false d e t = absurd (false≢true t)
+all-five true true true false e t = absurd (false≢true t)
+all-five true true true true false t = absurd (false≢true t)
+
 -- What question 2 tells of the offsets.
 pub record Fits (rows : ℕ) (offsets columns : List ℕ) (values : List Float) : Type 0 where
   pub size : length offsets ≡ rows + 1
@@ -75,18 +84,14 @@ module _ (rows : ℕ) (offsets columns : List ℕ) (values : List Float) where
   pub offsets-fit : offsetsOk rows offsets columns values ≡ true → Fits rows offsets columns values
   unfolding offsetsOk neverFall stepOk
   offsets-fit t =
-      let d = both-l (eqb (length offsets) (rows + 1) && eqb (idx offsets 0) 0 && neverFall rows offsets && eqb (idx offsets rows) (length columns)) _ t in
-      let c = both-l (eqb (length offsets) (rows + 1) && eqb (idx offsets 0) 0 && neverFall rows offsets) _ d in
-      let b = both-l (eqb (length offsets) (rows + 1) && eqb (idx offsets 0) 0) _ c in
+      let u = all-five (eqb (length offsets) (rows + 1)) (eqb (idx offsets 0) 0) (neverFall rows offsets)
+      (eqb (idx offsets rows) (length columns)) (eqb (length values) (length columns)) t in
       record {
-        size = eqb-true (length offsets) (rows + 1) (both-l (eqb (length offsets) (rows + 1)) _ b);
-        first = eqb-true (idx offsets 0) 0 (both-r (eqb (length offsets) (rows + 1)) _ b);
-        rises = λ r h. leb-true (idx offsets r) (idx offsets (r + 1))
-            (each-at (stepOk offsets) rows (both-r (eqb (length offsets) (rows + 1) && eqb (idx offsets 0) 0) _ c) r h);
-        last = eqb-true (idx offsets rows) (length columns)
-            (both-r (eqb (length offsets) (rows + 1) && eqb (idx offsets 0) 0 && neverFall rows offsets) _ d);
-        counted = eqb-true (length values) (length columns)
-            (both-r (eqb (length offsets) (rows + 1) && eqb (idx offsets 0) 0 && neverFall rows offsets && eqb (idx offsets rows) (length columns)) _ t);
+        size = eqb-true (length offsets) (rows + 1) (u .0);
+        first = eqb-true (idx offsets 0) 0 (u .1);
+        rises = λ r h. leb-true (idx offsets r) (idx offsets (r + 1)) (each-at (stepOk offsets) rows (u .2) r h);
+        last = eqb-true (idx offsets rows) (length columns) (u .3);
+        counted = eqb-true (length values) (length columns) (u .4);
       }
 
   -- It passes where the offsets are such.

@@ -9,6 +9,7 @@ use lib.ListN.{length}
 use lib.Ieee.{Float}
 use Rattle.store.specs.Region.{at, idx}
 use Rattle.store.specs.Vector.{each}
+use Rattle.pattern.specs.Pattern.{Pattern}
 use Rattle.options.specs.Options.{tolerable}
 use Rattle.options.specs.Outcome.{Outcome, passed, ask, _>>_}
 use Rattle.options.specs.declared.questions.Refusal.{Refusal}
@@ -80,6 +81,10 @@ weightsAsked entries weights = do
   ask (weightsCounted entries weights) Refusal.WeightCount
   ask (weightsOk weights) Refusal.BadWeight
   passed
+
+-- the pattern that is lent
+abbrev pub patternOf : ℕ → List ℕ → List ℕ → Pattern
+patternOf rows offsets columns = record { rows = rows; offsets = offsets; columns = columns }
 
 -- What a matrix that passed has: few enough rows and entries, and a value for each entry.
 pub record Sizes (rows : ℕ) (columns : List ℕ) (values : List Float) : Type 0 where

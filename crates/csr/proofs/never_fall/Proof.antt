@@ -2,7 +2,6 @@
 -- Assumes nothing.
 use Prim.Native.Nat.{_-_}
 use native.Mathlib.Omega.{arith}
-use borrow.Author.Needs.{needs}
 use Rattle.store.proofs.Each.{Passed, passed-start, passed-yes}
 use Rattle.csr.specs.Questions.{stepOk, neverFall}
 use Rattle.csr.proofs.Walk.{step-on, step-no}
