@@ -30,7 +30,8 @@ module _ (rows : ℕ) (offsets columns : List ℕ) (values : List Float) where
   matrix-holds v =
       let a = asked-yes (sizeOk rows columns) Refusal.TooLarge
       (ask (offsetsOk rows offsets columns values) Refusal.BadOffsets (ask (columnsOk rows offsets columns) Refusal.BadColumns passed)) v in
-      let b = asked-yes (offsetsOk rows offsets columns values) Refusal.BadOffsets (ask (columnsOk rows offsets columns) Refusal.BadColumns passed) (a .1) in
+      let b = asked-yes (offsetsOk rows offsets columns values) Refusal.BadOffsets
+      (ask (columnsOk rows offsets columns) Refusal.BadColumns passed) (a .1) in
       let c = asked-yes (columnsOk rows offsets columns) Refusal.BadColumns passed (b .1) in
       (a .0, b .0, c .0)
 
@@ -98,4 +99,5 @@ valid-matrix p values valid rising s =
 -- Weights that passed are as many as the entries.
 pub weights-length : (entries : ℕ) (weights : List Float) → verdictOf (weightsAsked entries weights) ≡ Verdict.Passed → length weights ≡ entries
 weights-length entries weights v =
-    eqb-true (length weights) entries (asked-yes (weightsCounted entries weights) Refusal.WeightCount (ask (weightsOk weights) Refusal.BadWeight passed) v .0)
+    let a = asked-yes (weightsCounted entries weights) Refusal.WeightCount (ask (weightsOk weights) Refusal.BadWeight passed) v in
+    eqb-true (length weights) entries (a .0)

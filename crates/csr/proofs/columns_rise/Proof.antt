@@ -20,16 +20,21 @@ loop-holds c = passed-start _ _
 
 row-rises-requires : tie.Need-row-rises-requires Inv-loop μ-loop
 row-rises-requires c κs =
-    row-ok (c .before .before .before .before .before .before .before .before .pre) (c .before .before .before .before .loop-test .taken) (c .before .before .wide .ensures) (c .wide2 .ensures)
+    row-ok (c .before .before .before .before .before .before .before .before .pre)
+    (c .before .before .before .before .loop-test .taken) (c .before .before .wide .ensures) (c .wide2 .ensures)
 
 loop-again : tie.Need-loop-again Inv-loop μ-loop
 loop-again c =
-    row-on _ _ (c .before .before .before .before .before .before .before .loop .inv) (c .before .before .before .before .before .before .loop-test .taken) (c .before .before .before .before .wide .ensures) (c .before .before .wide2 .ensures)
+    row-on _ _ (c .before .before .before .before .before .before .before .loop .inv)
+    (c .before .before .before .before .before .before .loop-test .taken)
+    (c .before .before .before .before .wide .ensures) (c .before .before .wide2 .ensures)
     (c .before .row-rises .ensures) (c .if1 .taken)
 
 returns : tie.Need-returns Inv-loop μ-loop
 returns c =
-    row-no _ _ _ _ _ _ _ (c .before .before .before .before .before .before .loop-test .taken) (c .before .before .before .before .wide .ensures) (c .before .before .wide2 .ensures)
+    row-no _ _ _ _ _ _ _
+    (c .before .before .before .before .before .before .loop-test .taken)
+    (c .before .before .before .before .wide .ensures) (c .before .before .wide2 .ensures)
     (c .before .row-rises .ensures) (c .if1 .left)
 
 returns-2 : tie.Need-returns-2 Inv-loop μ-loop
