@@ -23,6 +23,21 @@ static int equal(const uint32_t *found, const uint32_t *due, size_t n) {
     return memcmp(found, due, n * sizeof *due) == 0;
 }
 
+/* The matrix [2 -1; -1 2] in compressed rows, and arrays that each question refuses. */
+static void arrays(void) {
+    const uint32_t offsets[3] = {0, 2, 4}, columns[4] = {0, 1, 0, 1}, falling[4] = {1, 0, 0, 1};
+    const double values[4] = {2, -1, -1, 2};
+
+    expect(probe_check_matrix(2, offsets, 3, columns, 4, values, 4) == 0 &&
+               probe_check_matrix(65537, offsets, 3, columns, 4, values, 4) == 1 &&
+               probe_check_matrix(2, offsets, 3, columns, 4, values, 3) == 2 &&
+               probe_check_matrix(2, offsets, 3, falling, 4, values, 4) == 3,
+           "probe_check_matrix");
+    expect(probe_check_weights(values, 1, 1) == 0 && probe_check_weights(values, 1, 2) == 4 &&
+               probe_check_weights(values, 2, 2) == 5,
+           "probe_check_weights");
+}
+
 /* A path of 4 rows, diagonal 2, off-diagonal -1, equal weights: two aggregates. */
 static void path(void) {
     uint32_t w[55] = {0, 2, 5, 8, 10, 0, 1, 0, 1, 2, 1, 2, 3, 2, 3};
@@ -171,6 +186,7 @@ int main(void) {
     expect(probe_dot(store, 6, 1, 4, 2, out, 1) == 1 && out[0] == 11.0, "probe_dot");
     expect(probe_norm_l2(store, 6, 1, 2, out, 1) == 1 && out[0] == 5.0, "probe_norm_l2");
     expect(probe_all_finite(store, 6, 4, 2) == 1, "probe_all_finite");
+    arrays();
     path();
     kernel();
     smoothers();

@@ -34,6 +34,12 @@ uint8_t probe_norm_l2(const double *f, size_t f_length, size_t a, size_t n, doub
 /* Whether each of the n words at x is finite. Required: x + n <= f_length. */
 uint8_t probe_all_finite(const double *f, size_t f_length, size_t n, size_t x);
 
+/* 0, or the number of the question that refuses a matrix in compressed rows, 1 to 3, or its weights, 4 or 5.
+ * Nothing is required of the arrays. */
+uint64_t probe_check_matrix(size_t rows, const uint32_t *offsets, size_t offsets_length, const uint32_t *columns,
+                            size_t columns_length, const double *values, size_t values_length);
+uint64_t probe_check_weights(const double *weights, size_t weights_length, size_t entries);
+
 /* The aggregate of each row is written to the map; the answer is their count. The strengths are the weights, or,
  * where absolute is not 0, the absolute values of what stands there. Rows upward where forward is not 0.
  * Required: rows <= 65536, offsets + rows + 1 <= map, columns + entries <= map, map + rows <= w_length,

@@ -7,6 +7,7 @@ const RATTLE: [&str; 9] = [
     include_str!("../../crates/probe/src/numbers.rt"),
     include_str!("../../crates/probe/src/controls.rt"),
     include_str!("../../crates/probe/src/vectors.rt"),
+    include_str!("../../crates/probe/src/arrays.rt"),
     include_str!("../../crates/probe/src/coarsening.rt"),
     include_str!("../../crates/probe/src/kernels.rt"),
     include_str!("../../crates/probe/src/smoothing.rt"),

@@ -4,6 +4,7 @@
 
 pub mod aggregation;
 pub mod corrections;
+pub mod csr;
 pub mod galerkin;
 pub mod kernels;
 pub mod measures;
@@ -59,6 +60,16 @@ unsafe extern "C" {
         out_length: usize,
     ) -> u8;
     fn probe_all_finite(f: *const f64, f_length: usize, n: usize, x: usize) -> u8;
+    fn probe_check_matrix(
+        rows: usize,
+        offsets: *const u32,
+        offsets_length: usize,
+        columns: *const u32,
+        columns_length: usize,
+        values: *const f64,
+        values_length: usize,
+    ) -> u64;
+    fn probe_check_weights(weights: *const f64, weights_length: usize, entries: usize) -> u64;
     fn probe_pairs(
         w: *mut u32,
         w_length: usize,

@@ -4,6 +4,7 @@ mod acceleration;
 mod aggregation;
 mod agreement;
 mod coarse;
+mod csr;
 mod cycle;
 mod float;
 mod galerkin;
@@ -90,6 +91,7 @@ fn run(effort: Effort, seed: u64) -> ExitCode {
     measure::compare(&mut report, &mut random, effort);
     cycle::compare(&mut report, &mut random, effort);
     acceleration::compare(&mut report, &mut random, effort);
+    csr::compare(&mut report, &mut random, effort);
     report.print();
     if report.differences() == 0 {
         ExitCode::SUCCESS

@@ -1,5 +1,6 @@
 // Exports for the comparison with the Rust, never shipped: numbers and slices only.
 // compare/src/boundary.rs and compare/probe.h declare the same functions.
+mod arrays;
 mod coarsening;
 mod controls;
 mod corrections;

@@ -1,0 +1,99 @@
+-- Questions 1 to 5 of document 01, of a matrix in compressed rows and its weights as they are lent: arrays of any lengths.
+-- Definitions only.
+use mathlib.Core.Path.{_≡_}
+use mathlib.Core.Bool.{Bool, _&&_, _||_}
+use mathlib.Core.List.{List}
+use Prim.Native.Nat.{ℕ, _+_, _-_, _≤_, _<_}
+use lib.Dec.{eqb, leb, ltb}
+use lib.ListN.{length}
+use lib.Ieee.{Float}
+use Rattle.store.specs.Region.{at, idx}
+use Rattle.store.specs.Vector.{each}
+use Rattle.pattern.specs.Pattern.{Pattern}
+use Rattle.options.specs.Options.{tolerable}
+use Rattle.refusal.specs.Outcome.{Outcome, passed, ask, _>>_}
+use Rattle.refusal.specs.declared.Refusal.{Refusal}
+
+-- question 1: at most 65,536 rows and 1,048,576 entries
+unfoldable pub sizeOk : ℕ → List ℕ → Bool
+sizeOk rows columns = leb rows 65536 && leb (length columns) 1048576
+
+-- whether row r does not end before it starts
+unfoldable pub stepOk : List ℕ → ℕ → Bool
+stepOk offsets r = leb (idx offsets r) (idx offsets (r + 1))
+
+-- whether no row does
+unfoldable pub neverFall : ℕ → List ℕ → Bool
+neverFall rows offsets = each (stepOk offsets) rows
+
+-- question 2: rows + 1 offsets, starting at 0, never falling, ending at the entry count, and as many values as columns
+unfoldable pub offsetsOk : ℕ → List ℕ → List ℕ → List Float → Bool
+offsetsOk rows offsets columns values =
+    eqb (length offsets) (rows + 1)
+    && eqb (idx offsets 0) 0
+    && neverFall rows offsets
+    && eqb (idx offsets rows) (length columns)
+    && eqb (length values) (length columns)
+
+-- the test of entry e in a row that ends at `last`: its column is below the rows, and below the row's next one
+unfoldable pub entryOk : ℕ → List ℕ → ℕ → ℕ → Bool
+entryOk rows columns last e = ltb (idx columns e) rows && (leb last (e + 1) || ltb (idx columns e) (idx columns (e + 1)))
+
+-- the test of the row's k-th entry, counted from `first`
+unfoldable pub entryFrom : ℕ → List ℕ → ℕ → ℕ → ℕ → Bool
+entryFrom rows columns first last k = entryOk rows columns last (first + k)
+
+-- whether it holds of each entry from `first` up to `last`
+unfoldable pub rowOk : ℕ → List ℕ → ℕ → ℕ → Bool
+rowOk rows columns first last = each (entryFrom rows columns first last) (last - first)
+
+-- the test of row r
+unfoldable pub rowAt : ℕ → List ℕ → List ℕ → ℕ → Bool
+rowAt rows offsets columns r = rowOk rows columns (idx offsets r) (idx offsets (r + 1))
+
+-- question 3: in each row, each column is below the rows, and they rise strictly
+unfoldable pub columnsOk : ℕ → List ℕ → List ℕ → Bool
+columnsOk rows offsets columns = each (rowAt rows offsets columns) rows
+
+-- question 4: as many weights as entries
+abbrev pub weightsCounted : ℕ → List Float → Bool
+weightsCounted entries weights = eqb (length weights) entries
+
+-- the test of weight k: it is finite and not below zero; minus zero passes, a NaN does not
+unfoldable pub weightOk : List Float → ℕ → Bool
+weightOk weights k = tolerable (at weights k)
+
+-- question 5: each weight passes it
+unfoldable pub weightsOk : List Float → Bool
+weightsOk weights = each (weightOk weights) (length weights)
+
+-- questions 1 to 3
+abbrev pub matrixAsked : ℕ → List ℕ → List ℕ → List Float → Outcome Unit
+matrixAsked rows offsets columns values = do
+  ask (sizeOk rows columns) Refusal.TooLarge
+  ask (offsetsOk rows offsets columns values) Refusal.BadOffsets
+  ask (columnsOk rows offsets columns) Refusal.BadColumns
+  passed
+
+-- questions 4 and 5
+abbrev pub weightsAsked : ℕ → List Float → Outcome Unit
+weightsAsked entries weights = do
+  ask (weightsCounted entries weights) Refusal.WeightCount
+  ask (weightsOk weights) Refusal.BadWeight
+  passed
+
+-- the pattern that is lent
+abbrev pub patternOf : ℕ → List ℕ → List ℕ → Pattern
+patternOf rows offsets columns = record { rows = rows; offsets = offsets; columns = columns }
+
+-- What a matrix that passed has: few enough rows and entries, and a value for each entry.
+pub record Sizes (rows : ℕ) (columns : List ℕ) (values : List Float) : Type 0 where
+  pub few : rows ≤ 65536
+  pub short : length columns ≤ 1048576
+  pub counted : length values ≡ length columns
+
+-- What the walk over the rows asks of the offsets, once question 2 has passed: each row lies among the entries.
+pub record Rowed (rows : ℕ) (offsets columns : List ℕ) : Type 0 where
+  pub size : length offsets ≡ rows + 1
+  pub starts : (r : ℕ) → r < rows → idx offsets r ≤ idx offsets (r + 1)
+  pub ends : (r : ℕ) → r < rows → idx offsets (r + 1) ≤ length columns

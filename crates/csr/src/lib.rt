@@ -1,0 +1,147 @@
+// Document 01's questions 1 to 5, of the arrays that a caller lends: nothing is asked of them beforehand.
+ghost use mathlib.Core.Path.{_≡_};
+ghost use Prim.Native.Nat.{_+_, _<_, _≤_};
+ghost use lib.ListN.{length};
+ghost use Rattle.options.specs.Options.{tolerable};
+ghost use Rattle.refusal.specs.Outcome.{verdictOf};
+ghost use Rattle.csr.specs.Questions.{sizeOk, neverFall, offsetsOk, entryOk, rowOk, columnsOk, weightsOk, matrixAsked, weightsAsked, Rowed};
+use refusal::Refusal;
+use refusal::Verdict;
+
+// Question 1.
+fn size_fits(rows: usize, columns: &[u32]) -> bool
+    ensures { λ r. ⌜ r ≡ sizeOk rows (now (columns .entry)) ⌝ }
+{
+    (rows <= 65536) & (columns.len() <= 1048576)
+}
+
+// Whether no row ends before it starts.
+fn never_fall(rows: usize, offsets: &[u32]) -> bool
+    requires { ⌜ length (now offsets) ≡ rows + 1 ⌝ }
+    ensures { λ r. ⌜ r ≡ neverFall rows (now (offsets .entry)) ⌝ }
+{
+    let mut row = 0;
+    while row < rows {
+        if offsets[row] <= offsets[row + 1] {
+            row += 1;
+        } else {
+            return false;
+        }
+    }
+    true
+}
+
+// Question 2. As question 1 has passed, rows + 1 does not wrap.
+fn offsets_fit(rows: usize, offsets: &[u32], columns: &[u32], values: &[f64]) -> bool
+    requires { ⌜ rows ≤ 65536 ⌝ }
+    ensures { λ r. ⌜ r ≡ offsetsOk rows (now (offsets .entry)) (now (columns .entry)) (now (values .entry)) ⌝ }
+{
+    if offsets.len() != rows + 1 {
+        return false;
+    }
+    (offsets[0] == 0)
+        & never_fall(rows, offsets)
+        & (store::wide(offsets[rows]) == columns.len())
+        & (values.len() == columns.len())
+}
+
+// The last entry of a row has no next one to be compared with.
+fn entry_fits(rows: usize, columns: &[u32], last: usize, entry: usize) -> bool
+    requires { ⌜ entry < last ⌝ }
+    requires { ⌜ last ≤ length (now columns) ⌝ }
+    ensures { λ r. ⌜ r ≡ entryOk rows (now (columns .entry)) last entry ⌝ }
+{
+    let column = columns[entry];
+    let below = store::wide(column) < rows;
+    if last <= entry + 1 {
+        return below;
+    }
+    below & (column < columns[entry + 1])
+}
+
+// The entries of one row, from `first` up to `last`.
+fn row_rises(rows: usize, columns: &[u32], first: usize, last: usize) -> bool
+    requires { ⌜ first ≤ last ⌝ }
+    requires { ⌜ last ≤ length (now columns) ⌝ }
+    ensures { λ r. ⌜ r ≡ rowOk rows (now (columns .entry)) first last ⌝ }
+{
+    let count = last - first;
+    let mut k = 0;
+    while k < count {
+        if entry_fits(rows, columns, last, first + k) {
+            k += 1;
+        } else {
+            return false;
+        }
+    }
+    true
+}
+
+// Question 3. As question 2 has passed, each row lies among the entries.
+fn columns_rise(rows: usize, offsets: &[u32], columns: &[u32]) -> bool
+    requires { ⌜ Rowed rows (now offsets) (now columns) ⌝ }
+    ensures { λ r. ⌜ r ≡ columnsOk rows (now (offsets .entry)) (now (columns .entry)) ⌝ }
+{
+    let mut row = 0;
+    while row < rows {
+        let first = store::wide(offsets[row]);
+        let last = store::wide(offsets[row + 1]);
+        if row_rises(rows, columns, first, last) {
+            row += 1;
+        } else {
+            return false;
+        }
+    }
+    true
+}
+
+// Questions 1 to 3, of a square matrix in compressed rows.
+pub fn check_matrix(rows: usize, offsets: &[u32], columns: &[u32], values: &[f64]) -> Verdict
+    ensures { λ r. ⌜ r ≡ verdictOf (matrixAsked rows (now (offsets .entry)) (now (columns .entry)) (now (values .entry))) ⌝ }
+{
+    if !size_fits(rows, columns) {
+        return Verdict::Refused(Refusal::TooLarge);
+    }
+    if !offsets_fit(rows, offsets, columns, values) {
+        return Verdict::Refused(Refusal::BadOffsets);
+    }
+    if !columns_rise(rows, offsets, columns) {
+        return Verdict::Refused(Refusal::BadColumns);
+    }
+    Verdict::Passed
+}
+
+// Minus zero is not below zero.
+fn weight_fits(weight: f64) -> bool
+    ensures { λ r. ⌜ r ≡ tolerable weight ⌝ }
+{
+    float::is_finite(weight) & !(weight < 0.0)
+}
+
+// Question 5.
+fn weights_fit(weights: &[f64]) -> bool
+    ensures { λ r. ⌜ r ≡ weightsOk (now (weights .entry)) ⌝ }
+{
+    let mut k = 0;
+    while k < weights.len() {
+        if weight_fits(weights[k]) {
+            k += 1;
+        } else {
+            return false;
+        }
+    }
+    true
+}
+
+// Questions 4 and 5, of the weights of a matrix with that many entries.
+pub fn check_weights(weights: &[f64], entries: usize) -> Verdict
+    ensures { λ r. ⌜ r ≡ verdictOf (weightsAsked entries (now (weights .entry))) ⌝ }
+{
+    if weights.len() != entries {
+        return Verdict::Refused(Refusal::WeightCount);
+    }
+    if !weights_fit(weights) {
+        return Verdict::Refused(Refusal::BadWeight);
+    }
+    Verdict::Passed
+}
