@@ -33,12 +33,11 @@ fn count_row(w: &[u32], s: Faces, row: usize, found: usize) -> usize
     ensures { λ r. ⌜ Counted (now (w .entry)) s row r ⌝ }
 {
     let offsets = s.offsets;
-    let columns = s.columns;
     let end = wide(w[offsets + row + 1]);
     let mut e = wide(w[offsets + row]);
     let mut count = found;
     while e < end {
-        if wide(w[columns + e]) > row {
+        if index_at(w, s.columns, e, s.rows) > row {
             count += 1;
         }
         e += 1;
@@ -53,14 +52,15 @@ pub fn face_offsets(w: &mut [u32], s: Faces) -> usize
 {
     let rows = s.rows;
     let starts = s.starts;
-    w[starts] = 0;
     let mut found = 0;
     let mut row = 0;
     while row < rows {
-        found = count_row(w, s, row, found);
-        w[starts + row + 1] = found as u32;
+        let more = count_row(w, s, row, found);
+        w[starts + row] = found as u32;
+        found = more;
         row += 1;
     }
+    w[starts + rows] = found as u32;
     found
 }
 
@@ -69,12 +69,11 @@ fn row_from(w: &[u32], s: Faces, from: usize, e: usize) -> usize
     requires { ⌜ SeekOk (now w) s from e ⌝ }
     ensures { λ r. ⌜ Sought (now (w .entry)) s e r ⌝ }
 {
-    let offsets = s.offsets;
     let mut row = from;
-    let mut end = wide(w[offsets + row + 1]);
+    let mut end = wide(w[s.offsets + row + 1]);
     while end <= e {
         row += 1;
-        end = wide(w[offsets + row + 1]);
+        end = wide(w[s.offsets + row + 1]);
     }
     row
 }
