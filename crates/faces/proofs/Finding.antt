@@ -6,15 +6,16 @@ use mathlib.Core.List.{List}
 use mathlib.Core.Logic.{⊎-elim}
 use Prim.Native.Nat.{ℕ, _+_, _≤_, _<_}
 use native.Mathlib.Omega.{arith}
-use Rattle.store.specs.Region.{idx}
+use Rattle.store.specs.Region.{idx, Kept}
 use Rattle.store.proofs.Region.{le-or-lt}
 use Rattle.pattern.specs.Pattern.{Pattern, entries, columnOf, rowOf}
-use Rattle.pattern.proofs.Row.{row-is, row-in}
+use Rattle.pattern.proofs.Number.{bool?}
+use Rattle.pattern.proofs.Row.{row-is}
 use Rattle.faces.specs.declared.Faces.{Faces}
 use Rattle.faces.specs.Faces.{hasEntry, standsAt}
-use Rattle.faces.specs.Contract.{patternAt, Ordered, FindOk, Found, EntryOk, Entry, MirrorOk}
-use Rattle.faces.proofs.Entries.{has-at, has-no, columns-rise, stands-is, stands-entry}
-use Rattle.faces.proofs.Standing.{size-at, offset-at, next-at, next-less, column-at}
+use Rattle.faces.specs.Contract.{patternAt, Standing, Ordered, FindOk, Found, EntryOk, Entry, MirrorOk}
+use Rattle.faces.proofs.Entries.{has-at, has-no, columns-rise, stands-is, stands-entry, stands-there}
+use Rattle.faces.proofs.Standing.{size-at, offset-at, next-at, next-less, column-at, pattern-kept}
 
 -- ---- find
 
@@ -144,6 +145,31 @@ module _ {w : List ℕ} {s : Faces} {i lo hi : ℕ} (ok : EntryOk w s i) (first 
         let has : hasEntry (patternAt w s) i j ≡ false = has-no (stands .valid) (ok .ordered .rising) i j e (ok .near) (omega arith) before-it from-it
         (λ h is. other (omega arith) (column-at stands e (omega arith) ∙ is)) in
         record { is = rw has refl }
+
+-- The same in a store that agrees below `starts`.
+pub entry-back : {w z : List ℕ} {s : Faces} {i j e : ℕ} → Standing w s → Kept (s .starts) w z → Entry z s i j e → Entry w s i j e
+entry-back {w} {z} {s} {i} {j} stands kept at = record {
+  is = at .is ∙ ap (λ (p : Pattern). cond (hasEntry p i j) (standsAt p i j) (s .entries)) (pattern-kept stands kept);
+}
+
+-- An answer below the number of entries is the entry.
+pub entry-there : {w : List ℕ} {s : Faces} {i j e : ℕ} → Entry w s i j e → e < s .entries
+    → (hasEntry (patternAt w s) i j ≡ true) × (e ≡ standsAt (patternAt w s) i j)
+entry-there {w} {s} {i} {j} {e} at h = ⊎-elim
+    (λ (t : hasEntry (patternAt w s) i j ≡ true). (t, rw t at (at .is)))
+    (λ (f : hasEntry (patternAt w s) i j ≡ false). let is : e ≡ s .entries = rw f at (at .is) in absurd (omega arith))
+    (bool? (hasEntry (patternAt w s) i j))
+
+-- Another one says that there is none.
+pub entry-missing : {w : List ℕ} {s : Faces} {i j e : ℕ} → Ordered w s → Entry w s i j e → s .entries ≤ e → hasEntry (patternAt w s) i j ≡ false
+entry-missing {w} {s} {i} {j} {e} o at h = ⊎-elim
+    (λ (t : hasEntry (patternAt w s) i j ≡ true).
+    let is : e ≡ standsAt (patternAt w s) i j = rw t at (at .is) in
+    let near = stands-there (o .standing .valid) (o .rising) i j t .0 in
+    let size = size-at (o .standing) in
+    absurd (omega arith))
+    (λ (f : hasEntry (patternAt w s) i j ≡ false). f)
+    (bool? (hasEntry (patternAt w s) i j))
 
 -- ---- mirror_at
 

@@ -5,3 +5,5 @@ pub mod Counting
 pub mod Seeking
 pub mod Finding
 pub mod Coupling
+pub mod Asking
+pub mod Walking
