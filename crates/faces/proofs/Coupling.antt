@@ -61,6 +61,7 @@ coupled-is {p} valid rising diagonal i h = both-ways (ltb (idx (p .offsets) i + 
         (λ (v : (columnOf p start ≡ i → ⊥) × (eqb (columnOf p start) i ≡ false)).
         coupled-at p i start (omega arith) (row-is valid i start h (omega arith) (omega arith)) (v .0))
         (same? (columnOf p start) i)
+
     one : coupledOf p i ≡ true → ltb (idx (p .offsets) i + 1) (idx (p .offsets) (i + 1)) ≡ true
     one t =
         let v = coupled-which p i t in

@@ -105,6 +105,11 @@ module _ {f : ℕ → ℕ} {q : ℕ → Bool} where
   pub picking-wrote : {to n k : ℕ} {F G : List ℕ} → Picking f q to n k F G → Wrote to (howMany q n) (picked f q n) F G
   picking-wrote {to} {n} p = wrote (p .is) (length-picked f q n)
 
+  -- At the end all c of the m numbers that pass are.
+  pub picking-all : {to n k m c : ℕ} {F G : List ℕ} → Picking f q to n k F G → n ≡ m → c ≡ howMany q m → Wrote to c (picked f q m) F G
+  picking-all {to} {n} {k} {m} {c} {F} {G} p e all =
+      wrote (p .is ∙ ap (λ (i : ℕ). splice to (picked f q i) F) e) (length-picked f q m ∙ sym all)
+
 -- ---- one region, written in part
 
 -- One element more of a list that is written.

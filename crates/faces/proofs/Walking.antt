@@ -17,7 +17,7 @@ use Rattle.pattern.proofs.Number.{bool?, many-lt, many-mono, many-none}
 use Rattle.faces.specs.declared.Faces.{Faces}
 use Rattle.faces.specs.Faces.{above, facesOf, uppersOf, neighborsOf, hasEntry, standsAt, mirrorOf, mirroredOf, lowersOf}
 use Rattle.faces.specs.Contract.{patternAt, Standing, SeekOk, Sought, Entry, MirrorOk, PushOk, Pushed, FillOk, Filled, MirrorsOk, MirrorsDone}
-use Rattle.faces.proofs.Pick.{picked, length-picked, picked-self, many-few, Picking, picking-start, picking-on, picking-wrote, wrote-only}
+use Rattle.faces.proofs.Pick.{picked, length-picked, picked-self, many-few, Picking, picking-start, picking-on, picking-wrote, picking-all, wrote-only}
 use Rattle.faces.proofs.Counting.{above-is}
 use Rattle.faces.proofs.Entries.{row-mono}
 use Rattle.faces.proofs.Finding.{entry-back, entry-there, entry-missing}
@@ -170,11 +170,9 @@ module _ {F G : List ℕ} {s : Faces} {row face e : ℕ} (m : Mirroring F G s ro
       let reach = m .walking .reach in
       let size = size-at (m .ok .ordered .standing) in
       let same : e ≡ entries (patternAt F s) = omega arith in
-      let all : s .faces ≡ howMany (above (patternAt F s)) (entries (patternAt F s)) = m .ok .count in
-      let wrote = rw same at (picking-wrote (m .picking)) in
       record {
         answer = rw (size-at (m .ok .ordered .standing)) (passed-yes (m .passed) h);
-        lowers = λ t. rw all (wrote-at wrote (rw (← all) (m .ok .room)));
+        lowers = λ t. wrote-at (picking-all (m .picking) same (m .ok .count)) (m .ok .room);
         only = mirrors-only;
       }
 
@@ -196,3 +194,102 @@ push-below : (b : ℕ) (v M : List ℕ) (i x : ℕ) (wanted : Bool) → i < b
     → cond wanted (set (splice b v M) i x) (splice b v M) ≡ splice b v (cond wanted (set M i x) M)
 push-below b v M i x true h = set-splice-below b v M i x h
 push-below b v M i x false h = refl
+
+module _ {F G : List ℕ} {s : Faces} {row face e : ℕ} (f : Filling F G s row face e) (h : e < s .entries)
+    {r column : ℕ} (sought : Sought G s e r) (is : column ≡ idx G (s .columns + e)) where
+  -- A face has room.
+  filling-near : ltb r column ≡ true → face < s .faces
+  filling-near t = face-room (f .ok .standing) (f .ok .count) (f .columns .count) h (sym (test-of (f .walking) h sought is) ∙ t)
+
+  -- There are few faces, and few rows.
+  filling-few : (face ≤ 1048576) × (column ≤ 1048576)
+  filling-few =
+      let stands = f .ok .standing in
+      let few = many-few (above (patternAt F s)) e in
+      let count = f .columns .count in
+      let near = walking-column (f .walking) h .1 in
+      let less = stands .less in
+      let rows = stands .few in
+      (omega arith, omega arith)
+
+  -- Its column has room.
+  pub filling-room : PushOk (length G) (s .neighbors) face column (ltb r column)
+  filling-room =
+      let few = filling-few in
+      let size = f .walking .kept .size in
+      let uppers = f .ok .uppers in
+      let room = f .ok .room in
+      record { small = few .1; less = few .0; room = λ t. let l = filling-near t in omega arith }
+
+  module _ {H : List ℕ} {other : ℕ} (u : Pushed G H (s .neighbors) face column (ltb r column) other) where
+    -- the store under the entries, with the column pushed
+    abbrev under : List ℕ
+    under = cond (ltb r column) (set (f .middle) (s .neighbors + face) column) (f .middle)
+
+    columns-on : Picking (λ d. columnOf (patternAt F s) d) (above (patternAt F s)) (s .neighbors) (e + 1) other F under
+    columns-on = picking-on {v = column} {wanted = ltb r column} (f .columns) (record { next = u .next; is = refl }) (column-of (f .walking) h sought is) (test-of (f .walking) h sought is)
+
+    uppers-over : Picking (λ d. d) (above (patternAt F s)) (s .uppers) e face under H
+    uppers-over =
+        let v = picked (λ d. d) (above (patternAt F s)) e in
+        record {
+          is = u .is ∙ rw (f .uppers .is) (⊎-elim
+              (λ (t : ltb r column ≡ true). let l = filling-near t in push-below (s .uppers) v (f .middle) (s .neighbors + face) column (ltb r column) (omega (arith, f .ok .uppers)))
+              (λ (t : ltb r column ≡ false). rw t refl)
+              (bool? (ltb r column)));
+          count = f .uppers .count;
+        }
+
+    -- Its entry has room.
+    pub filling-room-2 : PushOk (length H) (s .uppers) face e (ltb r column)
+    filling-room-2 =
+        let few = filling-few in
+        let size : length H ≡ length F = picking-wrote uppers-over .size ∙ picking-wrote columns-on .size in
+        let room = f .ok .room in
+        let less = f .ok .standing .less in
+        record { small = omega arith; less = few .0; room = λ t. let l = filling-near t in omega arith }
+
+    pub filling-on : {I : List ℕ} {more : ℕ} → Pushed H I (s .uppers) face e (ltb r column) more → Filling F I s r more (e + 1)
+    filling-on {I} {more} v =
+        let up = picking-on uppers-over v refl (test-of (f .walking) h sought is) in
+        let order : s .starts ≤ s .uppers = omega (arith, f .ok .uppers, f .ok .neighbors) in
+        record {
+          ok = f .ok;
+          walking = walking-on (f .walking) h sought is (kept-on (kept-wrote (picking-wrote columns-on) (f .ok .neighbors)) (kept-wrote (picking-wrote up) order));
+          middle = under;
+          columns = record { is = columns-on .is; count = v .next ∙ sym (u .next) ∙ columns-on .count };
+          uppers = up;
+        }
+
+-- What has been pushed, at the end.
+filled-columns : {F G : List ℕ} {s : Faces} {row face e : ℕ} (f : Filling F G s row face e) → s .entries ≤ e
+    → Wrote (s .neighbors) (s .faces) (neighborsOf (patternAt F s)) F (f .middle)
+unfolding neighborsOf uppersOf facesOf picked
+filled-columns {F} {G} {s} {row} {face} {e} f h =
+    let reach = f .walking .reach in
+    let size = size-at (f .ok .standing) in
+    let same : e ≡ entries (patternAt F s) = omega arith in
+    picking-all (f .columns) same (f .ok .count)
+
+filled-uppers : {F G : List ℕ} {s : Faces} {row face e : ℕ} (f : Filling F G s row face e) → s .entries ≤ e
+    → Wrote (s .uppers) (s .faces) (uppersOf (patternAt F s)) (f .middle) G
+unfolding uppersOf facesOf
+filled-uppers {F} {G} {s} {row} {face} {e} f h =
+    let reach = f .walking .reach in
+    let size = size-at (f .ok .standing) in
+    let same : e ≡ entries (patternAt F s) = omega arith in
+    rw picked-self at (picking-all (f .uppers) same (f .ok .count))
+
+pub filling-done : {F G : List ℕ} {s : Faces} {row face e : ℕ} → Filling F G s row face e → s .entries ≤ e → Filled F G s
+filling-done {F} {G} {s} f h =
+    let first = filled-columns f h in
+    let last = filled-uppers f h in
+    let room = f .ok .room in
+    let between = f .ok .uppers in
+    let long : length (f .middle) ≡ length F = first .size in
+    record {
+      neighbors = wrote-off last (s .neighbors) (s .faces) (omega arith) ∙ wrote-at first (omega arith);
+      uppers = wrote-at last (omega arith);
+      kept = kept-on (kept-wrote first (omega arith)) (kept-wrote last (omega arith));
+      behind = λ a m l. wrote-off last a m (omega arith) ∙ wrote-off first a m (omega arith);
+    }

@@ -1,3 +1,9 @@
+-- `faces::fill_faces` meets its contract. The loop's invariant: the faces among the entries before e are written.
+-- Assumes nothing.
+use Prim.Native.Nat.{_-_}
+use Rattle.faces.proofs.Walking.{walking-seek, walking-column, Filling, filling-start, filling-room, filling-room-2, filling-on, filling-done}
+use native.Mathlib.Omega.{arith}
+use borrow.Author.Needs.{needs}
 use Rattle.faces.proofs.fill_faces.Statement.{statement}
 use Rattle.faces.proofs.fill_faces.Tie as tie
 use Rattle.faces.proofs.fill_faces.Reads as reads
@@ -7,50 +13,34 @@ use Rattle.faces.proofs.row_from.Reads as row-from-reads
 use Rattle.store.proofs.index_at.Reads as index-at-reads
 
 abbrev Inv-loop : tie.InvT-loop
-Inv-loop w₀ s entries row₀ face₀ e₀ w row face e = ?
+Inv-loop w₀ s entries row₀ face₀ e₀ w row face e = Filling w₀ w s row face e
 
 abbrev μ-loop : tie.MeasureT-loop
-μ-loop w₀ s entries row₀ face₀ e₀ w row face e = ?
+μ-loop w₀ s entries row₀ face₀ e₀ w row face e = s .entries - e
 
--- src/lib.rt:102:5
 loop-holds : tie.Need-loop-holds Inv-loop μ-loop
-loop-holds c = ?
+loop-holds c = filling-start (c .before .pre)
 
--- src/lib.rt:103:9
 row-from-requires : tie.Need-row-from-requires Inv-loop μ-loop
-row-from-requires c κs = ?
+row-from-requires c κs = walking-seek (c .before .before .loop .inv .walking) (c .before .loop-test .taken)
 
--- src/lib.rt:104:13
 index-at-requires : tie.Need-index-at-requires Inv-loop μ-loop
-index-at-requires c κs = ?
+index-at-requires c κs = walking-column (c .before .before .before .before .loop .inv .walking) (c .before .before .before .loop-test .taken)
 
--- src/lib.rt:105:9
 push-if-requires : tie.Need-push-if-requires Inv-loop μ-loop
-push-if-requires c κs = ?
+push-if-requires c κs = filling-room (c .before .before .before .before .before .before .loop .inv) (c .before .before .before .before .before .loop-test .taken) (c .before .before .before .row-from .ensures) (c .before .index-at .ensures .0)
 
--- src/lib.rt:106:9
 push-if-requires-2 : tie.Need-push-if-requires-2 Inv-loop μ-loop
-push-if-requires-2 c κs = ?
+push-if-requires-2 c κs = filling-room-2 (c .before .before .before .before .before .before .before .before .before .before .loop .inv) (c .before .before .before .before .before .before .before .before .before .loop-test .taken) (c .before .before .before .before .before .before .before .row-from .ensures) (c .before .before .before .before .before .index-at .ensures .0) (c .before .before .before .push-if .ensures)
 
--- src/lib.rt:107:9
-add-e : tie.Need-add-e Inv-loop μ-loop
-add-e c = ?
-
--- src/lib.rt:102:5
-loop-less : tie.Need-loop-less Inv-loop μ-loop
-loop-less c = ?
-
--- src/lib.rt:102:5
 loop-again : tie.Need-loop-again Inv-loop μ-loop
-loop-again c = ?
+loop-again c = filling-on (c .before .before .before .before .before .before .before .before .before .before .before .before .before .loop .inv) (c .before .before .before .before .before .before .before .before .before .before .before .before .loop-test .taken) (c .before .before .before .before .before .before .before .before .before .before .row-from .ensures) (c .before .before .before .before .before .before .before .before .index-at .ensures .0) (c .before .before .before .before .before .before .push-if .ensures) (c .before .before .push-if2 .ensures)
 
--- src/lib.rt:94:1
 same-length : tie.Need-same-length Inv-loop μ-loop
-same-length c = ?
+same-length c = c .before .loop .inv .walking .kept .size
 
--- src/lib.rt:94:1
 returns : tie.Need-returns Inv-loop μ-loop
-returns c = ?
+returns c = filling-done (c .before .loop .inv) (c .loop-test .left)
 
 pub fill-faces-spec : {M : Type 1} → statement M
 fill-faces-spec =
@@ -63,8 +53,8 @@ fill-faces-spec =
     index-at-requires
     push-if-requires
     push-if-requires-2
-    add-e
-    loop-less
+    (λ c. omega arith)
+    (λ c. omega arith)
     loop-again
     same-length
     returns)
