@@ -7,3 +7,4 @@ pub mod Finding
 pub mod Coupling
 pub mod Asking
 pub mod Walking
+pub mod Laws

@@ -1,12 +1,14 @@
 -- Lists of what passes a test: f c for each c below n that passes, rising, as `push_if` builds them, one number after the other.
 -- Assumes nothing.
 use mathlib.Core.Path.{_≡_, refl, sym, ap, _∙_}
-use mathlib.Core.Bool.{Bool, true, false, cond}
+use mathlib.Core.Bool.{Bool, true, false, cond, _&&_, _||_, not, or-true}
 use mathlib.Core.List.{List, [], _∷_, _++_, append-nil}
-use mathlib.Core.Logic.{⊎-elim}
+use mathlib.Core.Logic.{inl, inr, ⊎-elim}
 use Prim.Native.Nat.{ℕ, zero, suc, _+_, _-_, _≤_, _<_}
 use native.Mathlib.Numerals.{add-one}
 use native.Mathlib.Omega.{arith}
+use lib.Dec.{eqb}
+use borrow.Author.Tests.{eq-eqb, ne-eqb}
 use lib.ListN.{length, getD, set, List·getD-append}
 use lib.Seq.{ext-getD}
 use Rattle.store.specs.Region.{idx, Clear, part, splice, Wrote}
@@ -14,7 +16,7 @@ use Rattle.store.specs.Vector.{tab}
 use Rattle.store.proofs.Region.{le-or-lt, splice-nil, length-splice, length-part, getD-part, getD-splice-in, getD-splice-clear, set-splice-end, wrote}
 use Rattle.store.proofs.Vector.{length-tab, tab-same, tab-getD}
 use Rattle.pattern.specs.Pattern.{howMany, those}
-use Rattle.pattern.proofs.Number.{bool?, many-step, many-zero}
+use Rattle.pattern.proofs.Number.{bool?, Same, same?, many-step, many-zero, many-which, many-same, many-more}
 use Rattle.pattern.proofs.Place.{length-those, those-at}
 use Rattle.faces.specs.Contract.{Pushed}
 
@@ -31,6 +33,54 @@ many-few q (suc n) = go (q n) (many-few q n)
     go : (b : Bool) → howMany q n ≤ n → howMany q n + cond b 1 0 ≤ suc n
     go true h = omega arith
     go false h = omega arith
+
+-- Of two tests that never both hold, no more pass than there are numbers.
+pub many-apart : (q r : ℕ → Bool) (n : ℕ) → ((k : ℕ) → q k ≡ true → r k ≡ false) → howMany q n + howMany r n ≤ n
+unfolding howMany
+many-apart q r zero apart = omega arith
+many-apart q r (suc n) apart = go (q n) (r n) (apart n) (many-apart q r n apart)
+  where
+    go : (a b : Bool) → (a ≡ true → b ≡ false) → howMany q n + howMany r n ≤ n → howMany q n + cond a 1 0 + (howMany r n + cond b 1 0) ≤ suc n
+    go true b f h = rw (f refl) (omega arith)
+    go false true f h = omega arith
+    go false false f h = omega arith
+
+-- Where f takes those that pass q to different ones that pass r, no more pass q.
+pub many-into : (f : ℕ → ℕ) (q r : ℕ → Bool) (n m : ℕ) → ((c : ℕ) → c < n → q c ≡ true → (f c < m) × (r (f c) ≡ true))
+    → ((c d : ℕ) → c < d → d < n → q c ≡ true → q d ≡ true → f c ≡ f d → ⊥) → howMany q n ≤ howMany r m
+many-into f q r zero m to apart = omega (arith, many-zero q)
+many-into f q r (suc n) m to apart = ⊎-elim
+    (λ (t : q n ≡ true).
+    let b = f n in
+    let here = to n (omega arith) t in
+    let rest : ℕ → Bool = λ d. r d && not (eqb b d) in
+    let gone : rest b ≡ false = rw (eq-eqb b b refl, here .1) refl in
+    let less = many-into f q rest n m
+    (λ c l u. let v = to c (omega arith) u in (v .0, rw (v .1, ne-eqb b (f c) (λ e. apart c n l (omega arith) u t (sym e))) refl))
+    (λ c d l k. apart c d l (omega arith)) in
+    let more = many-more rest b m gone (here .0) in
+    let all = many-same r (λ d. rest d || eqb b d) m (λ k l. with-it k (here .1) (same? b k)) in
+    let step : howMany q (suc n) ≡ howMany q n + 1 = many-step q n ∙ rw t refl in
+    omega arith)
+    (λ (t : q n ≡ false).
+    let less = many-into f q r n m (λ c l u. to c (omega arith) u) (λ c d l k. apart c d l (omega arith)) in
+    let step : howMany q (suc n) ≡ howMany q n + 0 = many-step q n ∙ rw t refl in
+    omega arith)
+    (bool? (q n))
+  where
+    with-it : (k : ℕ) → r (f n) ≡ true → Same (f n) k → r k ≡ ((r k && not (eqb (f n) k)) || eqb (f n) k)
+    with-it k t (inl e) = rw (e .1, or-true (r k && false)) (ap r (sym (e .0)) ∙ t)
+    with-it k t (inr e) = rw (e .1) (keep (r k))
+      where
+        keep : (x : Bool) → x ≡ ((x && true) || false)
+        keep true = refl
+        keep false = refl
+
+-- Number k of those that pass.
+pub those-which : (q : ℕ → Bool) (n k : ℕ) → k < howMany q n → (c : ℕ) × (c < n) × (q c ≡ true) × (howMany q c ≡ k) × (idx (those q n) k ≡ c)
+those-which q n k h =
+    let v = many-which q n k h in
+    (v .0, v .1, v .2, v .3, rw (v .3) at (those-at q n (v .0) (v .1) (v .2)))
 
 module _ (f : ℕ → ℕ) (q : ℕ → Bool) where
   -- As many are picked as pass.
