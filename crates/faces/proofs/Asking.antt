@@ -17,7 +17,8 @@ use Rattle.store.proofs.Vector.{length-tab}
 use Rattle.pattern.specs.Pattern.{Pattern}
 use Rattle.faces.specs.declared.Faces.{Faces}
 use Rattle.faces.specs.Faces.{hasEntry, standsAt, diagonalsAsked, diagonalsOf}
-use Rattle.faces.specs.Contract.{patternAt, DiagonalsOk, DiagonalsDone, EntryOk, Entry}
+use Rattle.faces.specs.Contract.{patternAt, DiagonalsOk, DiagonalsDone}
+use Rattle.faces.specs.Steps.{EntryOk, Entry}
 use Rattle.faces.proofs.Pick.{set-tab, wrote-only}
 use Rattle.faces.proofs.Finding.{entry-back, entry-there, entry-missing}
 use Rattle.faces.proofs.Standing.{ordered-on}

@@ -18,7 +18,8 @@ use Rattle.pattern.proofs.Number.{many-step, many-zero}
 use Rattle.pattern.proofs.Row.{row-is}
 use Rattle.faces.specs.declared.Faces.{Faces}
 use Rattle.faces.specs.Faces.{above, facesOf, faceOffsetsOf}
-use Rattle.faces.specs.Contract.{patternAt, Standing, RowOk, CountOk, Counted, OffsetsOk, OffsetsDone}
+use Rattle.faces.specs.Contract.{patternAt, Standing, OffsetsOk, OffsetsDone}
+use Rattle.faces.specs.Steps.{CountOk, Counted}
 use Rattle.faces.proofs.Pick.{many-few, set-tab}
 use Rattle.faces.proofs.Entries.{offset-few}
 use Rattle.faces.proofs.Standing.{size-at, offset-at, next-at, column-at, next-less, pattern-kept, standing-on}
@@ -32,7 +33,8 @@ above-is p e row column r c = rw (r, c) refl
 
 -- The invariant: `count` entries before e stand above the diagonal.
 pub record Counting (w : List ℕ) (s : Faces) (row end e count : ℕ) : Type 0 where
-  pub ok : RowOk w s row
+  pub standing : Standing w s
+  pub near : row < s .rows
   pub ends : end ≡ idx (patternAt w s .offsets) (row + 1)
   pub few : end ≤ s .entries
   pub low : idx (patternAt w s .offsets) row ≤ e
@@ -43,24 +45,24 @@ pub record Counting (w : List ℕ) (s : Faces) (row end e count : ℕ) : Type 0 
 pub counting-start : {w : List ℕ} {s : Faces} {row end e count : ℕ} → CountOk w s row count → end ≡ idx w (s .offsets + row + 1)
     → e ≡ idx w (s .offsets + row) → Counting w s row end e count
 counting-start {w} {s} {row} {end} {e} {count} ok is at =
-    let stands = ok .row .standing in
-    let near = ok .row .near in
+    let stands = ok .standing in
+    let near = ok .near in
     let start : e ≡ idx (patternAt w s .offsets) row = at ∙ offset-at stands row (omega arith) in
     let ends : end ≡ idx (patternAt w s .offsets) (row + 1) = is ∙ next-at stands row near in
     let few : idx w (s .offsets + row + 1) ≤ s .entries = next-less stands row near in
     let rises : idx (patternAt w s .offsets) row ≤ idx (patternAt w s .offsets) (row + 1) = stands .valid .rises row near in
     let counted : count ≡ howMany (above (patternAt w s)) e = ok .before ∙ ap (howMany (above (patternAt w s))) (sym start) in
     let less = many-few (above (patternAt w s)) e in
-    record { ok = ok .row; ends = ends; few = omega arith; low = omega arith; high = omega arith; counted = counted; less = omega arith }
+    record { standing = stands; near = near; ends = ends; few = omega arith; low = omega arith; high = omega arith; counted = counted; less = omega arith }
 
 module _ {w : List ℕ} {s : Faces} {row end e count column : ℕ} (c : Counting w s row end e count) (h : e < end)
     (is : column ≡ idx w (s .columns + e)) where
   test : above (patternAt w s) e ≡ ltb row column
   test =
-      let stands = c .ok .standing in
+      let stands = c .standing in
       let few = c .few in
       let ends = c .ends in
-      above-is (patternAt w s) e row column (row-is (stands .valid) row e (c .ok .near) (c .low) (omega arith))
+      above-is (patternAt w s) e row column (row-is (stands .valid) row e (c .near) (c .low) (omega arith))
       (sym (is ∙ column-at stands e (omega arith)))
 
   -- An entry above the diagonal counts.
@@ -70,7 +72,7 @@ module _ {w : List ℕ} {s : Faces} {row end e count column : ℕ} (c : Counting
       let step : howMany (above (patternAt w s)) (e + 1) ≡ howMany (above (patternAt w s)) e + 1 =
       ap (howMany (above (patternAt w s))) (add-one e) ∙ many-step (above (patternAt w s)) e ∙ rw t refl in
       let low = c .low in let less = c .less in let counted = c .counted in
-      record { ok = c .ok; ends = c .ends; few = c .few; low = omega arith; high = omega arith; counted = omega arith; less = omega arith }
+      record { standing = c .standing; near = c .near; ends = c .ends; few = c .few; low = omega arith; high = omega arith; counted = omega arith; less = omega arith }
 
   -- Another one does not.
   pub counting-no : {more : ℕ} → column ≤ row → more ≡ count → Counting w s row end (e + 1) more
@@ -79,7 +81,7 @@ module _ {w : List ℕ} {s : Faces} {row end e count column : ℕ} (c : Counting
       let step : howMany (above (patternAt w s)) (e + 1) ≡ howMany (above (patternAt w s)) e + 0 =
       ap (howMany (above (patternAt w s))) (add-one e) ∙ many-step (above (patternAt w s)) e ∙ rw t refl in
       let low = c .low in let less = c .less in let counted = c .counted in
-      record { ok = c .ok; ends = c .ends; few = c .few; low = omega arith; high = omega arith; counted = omega arith; less = omega arith }
+      record { standing = c .standing; near = c .near; ends = c .ends; few = c .few; low = omega arith; high = omega arith; counted = omega arith; less = omega arith }
 
 pub counting-done : {w : List ℕ} {s : Faces} {row end e count : ℕ} → Counting w s row end e count → end ≤ e → Counted w s row count
 counting-done {w} {s} {row} {end} {e} c h =
@@ -119,7 +121,8 @@ module _ {F G : List ℕ} {s : Faces} {row found : ℕ} (o : Offsetting F G s ro
 
   pub offsetting-count : row < s .rows → CountOk G s row found
   offsetting-count h = record {
-    row = record { standing = standing-on (o .ok .standing) offsetting-kept; near = h };
+    standing = standing-on (o .ok .standing) offsetting-kept;
+    near = h;
     before = o .next ∙ ap (λ (p : Pattern). before p row) (sym (pattern-kept (o .ok .standing) offsetting-kept));
   }
 

@@ -18,7 +18,8 @@ use Rattle.pattern.proofs.Number.{both-ways, same?, some-at, some-which, many-s
 use Rattle.pattern.proofs.Row.{row-is, row-in}
 use Rattle.faces.specs.declared.Faces.{Faces}
 use Rattle.faces.specs.Faces.{coupledOf, coupledCountOf, coupledRowsOf}
-use Rattle.faces.specs.Contract.{patternAt, RowOk, CoupledOk, CoupledCount, CoupledRowsOk, CoupledRows, PushOk, Pushed}
+use Rattle.faces.specs.Contract.{patternAt, CoupledOk, CoupledCount, CoupledRowsOk, CoupledRows}
+use Rattle.faces.specs.Steps.{PushOk, Pushed}
 use Rattle.faces.proofs.Pick.{picked, picked-self, many-few, Picking, picking-start, picking-on, picking-wrote}
 use Rattle.faces.proofs.Entries.{offset-few, columns-rise}
 use Rattle.faces.proofs.Standing.{offset-at, next-at, next-less, pattern-kept, standing-on, coupled-on}
@@ -84,13 +85,13 @@ coupled-is {p} valid rising diagonal i h = both-ways (ltb (idx (p .offsets) i + 
         (same? (v .0) (d .0)))
 
 -- What `is_coupled` tests.
-pub coupled-test : {w : List ℕ} {s : Faces} {row start end : ℕ} → CoupledOk w s → RowOk w s row → start ≡ idx w (s .offsets + row)
+pub coupled-test : {w : List ℕ} {s : Faces} {row start end : ℕ} → CoupledOk w s → row < s .rows → start ≡ idx w (s .offsets + row)
     → end ≡ idx w (s .offsets + row + 1) → ltb (start + 1) end ≡ coupledOf (patternAt w s) row
 coupled-test {w} {s} {row} {start} {end} ok near first last =
-    let near' = near .near in
-    let a : start ≡ idx (patternAt w s .offsets) row = first ∙ offset-at (near .standing) row (omega arith) in
-    let b : end ≡ idx (patternAt w s .offsets) (row + 1) = last ∙ next-at (near .standing) row (near .near) in
-    rw (a, b) (coupled-is (near .standing .valid) (ok .ordered .rising) (ok .diagonal) row (near .near))
+    let stands = ok .ordered .standing in
+    let a : start ≡ idx (patternAt w s .offsets) row = first ∙ offset-at stands row (omega arith) in
+    let b : end ≡ idx (patternAt w s .offsets) (row + 1) = last ∙ next-at stands row near in
+    rw (a, b) (coupled-is (stands .valid) (ok .ordered .rising) (ok .diagonal) row near)
 
 -- ---- coupled_count
 
@@ -148,9 +149,6 @@ module _ {F G : List ℕ} {s : Faces} {to row count : ℕ} (l : Listing F G s to
 
   pub listing-coupled : CoupledOk G s
   listing-coupled = coupled-on (l .ok .coupled) listing-kept
-
-  pub listing-row : row < s .rows → RowOk G s row
-  listing-row h = record { standing = listing-coupled .ordered .standing; near = h }
 
   module _ {r : Bool} (h : row < s .rows) (is : r ≡ coupledOf (patternAt G s) row) where
     same : r ≡ coupledOf (patternAt F s) row

@@ -13,7 +13,8 @@ use Rattle.pattern.proofs.Number.{bool?}
 use Rattle.pattern.proofs.Row.{row-is}
 use Rattle.faces.specs.declared.Faces.{Faces}
 use Rattle.faces.specs.Faces.{hasEntry, standsAt}
-use Rattle.faces.specs.Contract.{patternAt, Standing, Ordered, FindOk, Found, EntryOk, Entry, MirrorOk}
+use Rattle.faces.specs.Contract.{patternAt, Standing, Ordered}
+use Rattle.faces.specs.Steps.{FindOk, Found, EntryOk, Entry, MirrorOk}
 use Rattle.faces.proofs.Entries.{has-at, has-no, columns-rise, stands-is, stands-entry, stands-there}
 use Rattle.faces.proofs.Standing.{size-at, offset-at, next-at, next-less, column-at, pattern-kept}
 

@@ -18,7 +18,7 @@ use Rattle.store.proofs.Vector.{length-tab, tab-same, tab-getD}
 use Rattle.pattern.specs.Pattern.{howMany, those}
 use Rattle.pattern.proofs.Number.{bool?, Same, same?, many-step, many-zero, many-which, many-same, many-more}
 use Rattle.pattern.proofs.Place.{length-those, those-at}
-use Rattle.faces.specs.Contract.{Pushed}
+use Rattle.faces.specs.Steps.{Pushed}
 
 -- f c for each c below n that passes q
 unfoldable pub picked : (ℕ → ℕ) → (ℕ → Bool) → ℕ → List ℕ

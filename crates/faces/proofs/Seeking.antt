@@ -10,7 +10,8 @@ use Rattle.store.proofs.Region.{le-or-lt}
 use Rattle.pattern.specs.Pattern.{rowOf}
 use Rattle.pattern.proofs.Row.{offset-mono, row-is, row-in}
 use Rattle.faces.specs.declared.Faces.{Faces}
-use Rattle.faces.specs.Contract.{patternAt, SeekOk, Sought}
+use Rattle.faces.specs.Contract.{patternAt}
+use Rattle.faces.specs.Steps.{SeekOk, Sought}
 use Rattle.faces.proofs.Standing.{size-at, next-at}
 
 -- The row at hand is one of the rows.

@@ -16,7 +16,8 @@ use Rattle.pattern.specs.Pattern.{howMany, Pattern, entries, columnOf, rowOf}
 use Rattle.pattern.proofs.Number.{bool?, many-lt, many-mono, many-none}
 use Rattle.faces.specs.declared.Faces.{Faces}
 use Rattle.faces.specs.Faces.{above, facesOf, uppersOf, neighborsOf, hasEntry, standsAt, mirrorOf, mirroredOf, lowersOf}
-use Rattle.faces.specs.Contract.{patternAt, Standing, SeekOk, Sought, Entry, MirrorOk, PushOk, Pushed, FillOk, Filled, MirrorsOk, MirrorsDone}
+use Rattle.faces.specs.Contract.{patternAt, Standing, FillOk, Filled, MirrorsOk, MirrorsDone}
+use Rattle.faces.specs.Steps.{SeekOk, Sought, Entry, MirrorOk, PushOk, Pushed}
 use Rattle.faces.proofs.Pick.{picked, length-picked, picked-self, many-few, Picking, picking-start, picking-on, picking-wrote, picking-all, wrote-only}
 use Rattle.faces.proofs.Counting.{above-is}
 use Rattle.faces.proofs.Entries.{row-mono}

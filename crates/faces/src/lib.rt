@@ -1,12 +1,12 @@
 // The pattern part of `SymmetricMatrix::new` of matrix.rs: the faces of a matrix, one for each entry above the diagonal, the
 // mirror of each, the diagonal entries and the coupled rows. Everything is a region of one store of words; no value is read.
-ghost use Rattle.faces.specs.Contract.{OffsetsOk, OffsetsDone, FillOk, Filled, MirrorsOk, MirrorsDone, DiagonalsOk, DiagonalsDone};
-ghost use Rattle.faces.specs.Contract.{CoupledOk, CoupledCount, CoupledRowsOk, CoupledRows};
-ghost use Rattle.faces.specs.Contract.{RowOk, CountOk, Counted, SeekOk, Sought, FindOk, Found, EntryOk, Entry, MirrorOk, PushOk, Pushed};
-ghost use Rattle.faces.specs.Contract.{patternAt};
-ghost use Rattle.faces.specs.Faces.{coupledOf};
 ghost use mathlib.Core.Path.{_≡_};
+ghost use Prim.Native.Nat.{_<_};
 ghost use lib.ListN.{length};
+ghost use Rattle.faces.specs.Faces.{coupledOf};
+ghost use Rattle.faces.specs.Contract.{patternAt, OffsetsOk, OffsetsDone, FillOk, Filled, MirrorsOk, MirrorsDone};
+ghost use Rattle.faces.specs.Contract.{DiagonalsOk, DiagonalsDone, CoupledOk, CoupledCount, CoupledRowsOk, CoupledRows};
+ghost use Rattle.faces.specs.Steps.{CountOk, Counted, SeekOk, Sought, PushOk, Pushed, FindOk, Found, EntryOk, Entry, MirrorOk};
 use options::Refusal;
 use options::Verdict;
 use store::index_at;
@@ -102,8 +102,9 @@ pub fn fill_faces(w: &mut [u32], s: Faces)
     while e < entries {
         row = row_from(w, s, row, e);
         let column = index_at(w, s.columns, e, s.rows);
-        push_if(w, s.neighbors, face, column, column > row);
-        face = push_if(w, s.uppers, face, e, column > row);
+        let above = column > row;
+        push_if(w, s.neighbors, face, column, above);
+        face = push_if(w, s.uppers, face, e, above);
         e += 1;
     }
 }
@@ -205,7 +206,7 @@ pub fn diagonals(w: &mut [u32], s: Faces, level: u64) -> Verdict
 // Whether a row that has its diagonal entry has another one.
 fn is_coupled(w: &[u32], s: Faces, row: usize) -> bool
     requires { ⌜ CoupledOk (now w) s ⌝ }
-    requires { ⌜ RowOk (now w) s row ⌝ }
+    requires { ⌜ row < s .rows ⌝ }
     ensures { λ r. ⌜ r ≡ coupledOf (patternAt (now (w .entry)) s) row ⌝ }
 {
     let offsets = s.offsets;

@@ -23,10 +23,10 @@ loop-holds : tie.Need-loop-holds Inv-loop μ-loop
 loop-holds c = counting-start (c .before .before .before .before .before .pre) (c .before .before .wide .ensures) (c .wide2 .ensures)
 
 index-at-requires : tie.Need-index-at-requires Inv-loop μ-loop
-index-at-requires c κs = (omega (arith, c .before .loop .inv .few, c .before .loop .inv .ok .standing .columns, c .before .loop .inv .ok .standing .inside, c .loop-test .taken), column-near (c .before .loop .inv .ok .standing) (c .before .loop .e) (omega (arith, c .before .loop .inv .few, c .loop-test .taken)))
+index-at-requires c κs = (omega (arith, c .before .loop .inv .few, c .before .loop .inv .standing .columns, c .before .loop .inv .standing .inside, c .loop-test .taken), column-near (c .before .loop .inv .standing) (c .before .loop .e) (omega (arith, c .before .loop .inv .few, c .loop-test .taken)))
 
 add-count : tie.Need-add-count Inv-loop μ-loop
-add-count c = omega (arith, c .before .before .before .loop .inv .less, c .before .before .before .loop .inv .few, c .before .before .before .loop .inv .ok .standing .less, c .before .before .loop-test .taken)
+add-count c = omega (arith, c .before .before .before .loop .inv .less, c .before .before .before .loop .inv .few, c .before .before .before .loop .inv .standing .less, c .before .before .loop-test .taken)
 
 loop-again : tie.Need-loop-again Inv-loop μ-loop
 loop-again c =

@@ -21,7 +21,7 @@ loop-holds : tie.Need-loop-holds Inv-loop μ-loop
 loop-holds c = coupling-start
 
 is-coupled-requires : tie.Need-is-coupled-requires Inv-loop μ-loop
-is-coupled-requires c κs = (c .before .before .before .pre, record { standing = c .before .before .before .pre .ordered .standing; near = c .loop-test .taken })
+is-coupled-requires c κs = (c .before .before .before .pre, c .loop-test .taken)
 
 add-count : tie.Need-add-count Inv-loop μ-loop
 add-count c = omega (arith, coupling-few (c .before .before .before .loop .inv), c .before .before .loop-test .taken)

@@ -1,7 +1,7 @@
 -- `faces::coupled_rows` meets its contract. The loop's invariant: the coupled rows before `row` have been pushed.
 -- Assumes nothing.
 use Prim.Native.Nat.{_-_}
-use Rattle.faces.proofs.Coupling.{Listing, listing-start, listing-size, listing-coupled, listing-row, listing-room, listing-on, listing-done}
+use Rattle.faces.proofs.Coupling.{Listing, listing-start, listing-size, listing-coupled, listing-room, listing-on, listing-done}
 use native.Mathlib.Omega.{arith}
 use borrow.Author.Needs.{needs}
 use Rattle.faces.proofs.coupled_rows.Statement.{statement}
@@ -21,7 +21,7 @@ loop-holds : tie.Need-loop-holds Inv-loop μ-loop
 loop-holds c = listing-start (c .before .pre)
 
 is-coupled-requires : tie.Need-is-coupled-requires Inv-loop μ-loop
-is-coupled-requires c κs = (listing-coupled (c .before .before .loop .inv), listing-row (c .before .before .loop .inv) (c .before .loop-test .taken))
+is-coupled-requires c κs = (listing-coupled (c .before .before .loop .inv), c .before .loop-test .taken)
 
 push-if-requires : tie.Need-push-if-requires Inv-loop μ-loop
 push-if-requires c κs = listing-room (c .before .before .before .before .loop .inv) (c .before .before .before .loop-test .taken) (c .before .is-coupled .ensures)

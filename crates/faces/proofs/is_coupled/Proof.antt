@@ -1,7 +1,7 @@
 -- `faces::is_coupled` meets its contract.
 -- Assumes nothing.
 use Rattle.faces.proofs.Coupling.{coupled-test}
-use Rattle.faces.proofs.Standing.{next-less, offset-less}
+use Rattle.faces.proofs.Standing.{offset-less}
 use native.Mathlib.Omega.{arith}
 use borrow.Author.Needs.{needs}
 use Rattle.faces.proofs.is_coupled.Statement.{statement}
@@ -11,7 +11,7 @@ use Rattle.faces.proofs.is_coupled.Lts as lts
 use Rattle.store.proofs.wide.Reads as wide-reads
 
 add-result : tie.Need-add-result
-add-result c = omega (arith, c .before .before .wide .ensures, offset-less (c .before .before .before .before .before .pre .1 .standing) (c .before .before .before .before .before .args .row) (omega (arith, c .before .before .before .before .before .pre .1 .near)), c .before .before .before .before .before .pre .1 .standing .less)
+add-result c = omega (arith, c .before .before .wide .ensures, offset-less (c .before .before .before .before .before .pre .0 .ordered .standing) (c .before .before .before .before .before .args .row) (omega (arith, c .before .before .before .before .before .pre .1)), c .before .before .before .before .before .pre .0 .ordered .standing .less)
 
 returns : tie.Need-returns
 returns c = coupled-test (c .before .before .before .before .before .pre .0) (c .before .before .before .before .before .pre .1) (c .before .before .wide .ensures) (c .wide2 .ensures)
