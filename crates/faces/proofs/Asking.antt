@@ -1,14 +1,13 @@
 -- The loop of `diagonals`.
 -- Assumes nothing.
 use mathlib.Core.Path.{_≡_, refl, sym, ap, _∙_}
-use mathlib.Core.Bool.{true, false}
 use mathlib.Core.List.{List}
 use Prim.Native.Nat.{ℕ, _+_, _≤_, _<_}
 use native.Mathlib.Omega.{arith}
 use lib.ListN.{length, set}
 use Rattle.options.specs.declared.questions.Refusal.{Refusal}
 use Rattle.options.specs.declared.questions.Verdict.{Verdict}
-use Rattle.options.specs.Outcome.{Outcome, passed, ask, askFrom, verdictOf}
+use Rattle.options.specs.Outcome.{Outcome, passed, ask, askFrom}
 use Rattle.options.proofs.Outcome.{ask-yes, ask-no, each-step, each-stop, each-done, verdict-passed, verdict-refused}
 use Rattle.store.specs.Region.{part, splice, Kept}
 use Rattle.store.specs.Vector.{tab}
@@ -54,19 +53,22 @@ module _ {level : ℕ} {F G : List ℕ} {s : Faces} {row : ℕ} (a : Asking leve
   asking-entry h = record { ordered = ordered-on (a .ok .ordered) asking-kept; near = h }
 
   -- A row with its diagonal entry.
-  pub asking-yes : {e : ℕ} → row < s .rows → Entry G s row row e → e < s .entries → Asking level F (set G (s .diagonals + row) e) s (row + 1)
+  pub asking-yes : {e : ℕ} → row < s .rows → Entry G s row row e → e < s .entries → Asking level F (set G (s .diagonals + row) e) s
+      (row + 1)
   asking-yes {e} h at l =
       let p = patternAt F s in
       let there = entry-there (entry-back (a .ok .ordered .standing) asking-kept at) l in
       record {
         ok = a .ok;
         reach = omega arith;
-        asked = a .asked ∙ each-step row (s .rows) (asks level p) passed h (ask-yes (hasEntry p row row) (Refusal.MissingDiagonal level row) passed (there .0));
+        asked = a .asked ∙ each-step row (s .rows) (asks level p) passed h
+            (ask-yes (hasEntry p row row) (Refusal.MissingDiagonal level row) passed (there .0));
         is = rw (a .is, there .1) (set-tab (s .diagonals) row (own p) F);
       }
 
   -- A row without it ends the questions.
-  pub asking-no : {e : ℕ} → row < s .rows → Entry G s row row e → s .entries ≤ e → DiagonalsDone F G s level (Verdict.Refused (Refusal.MissingDiagonal level row))
+  pub asking-no : {e : ℕ} → row < s .rows → Entry G s row row e → s .entries ≤ e → DiagonalsDone F G s level
+      (Verdict.Refused (Refusal.MissingDiagonal level row))
   asking-no {e} h at l =
       let p = patternAt F s in
       let none = entry-missing (a .ok .ordered) (entry-back (a .ok .ordered .standing) asking-kept at) l in
@@ -89,6 +91,7 @@ module _ {level : ℕ} {F G : List ℕ} {s : Faces} {row : ℕ} (a : Asking leve
       let long : length (tab (own p) (s .rows)) ≡ s .rows = length-tab (own p) (s .rows) in
       record {
         verdict = sym (verdict-passed (diagonalsAsked level p) (a .asked ∙ each-done row (s .rows) (asks level p) passed h));
-        diagonals = λ t. ap (part (s .diagonals) (s .rows)) is ∙ part-splice (s .diagonals) (s .rows) (tab (own p) (s .rows)) F long (a .ok .room);
+        diagonals = λ t. ap (part (s .diagonals) (s .rows)) is ∙ part-splice (s .diagonals) (s .rows) (tab (own p) (s .rows)) F long
+            (a .ok .room);
         only = wrote-only (s .diagonals) (s .rows) (tab (own p) (s .rows)) F G is (omega arith) (a .ok .room);
       }

@@ -9,7 +9,7 @@ use native.Mathlib.Omega.{arith}
 use lib.Dec.{ltb}
 use lib.ListN.{length, set}
 use borrow.Author.Tests.{lt-ltb, le-ltb}
-use Rattle.store.specs.Region.{idx, splice, Wrote, Kept}
+use Rattle.store.specs.Region.{idx, splice, Kept}
 use Rattle.store.specs.Vector.{tab}
 use Rattle.store.proofs.Region.{splice-nil, wrote, kept-wrote}
 use Rattle.store.proofs.Vector.{length-tab}
@@ -53,7 +53,16 @@ counting-start {w} {s} {row} {end} {e} {count} ok is at =
     let rises : idx (patternAt w s .offsets) row ≤ idx (patternAt w s .offsets) (row + 1) = stands .valid .rises row near in
     let counted : count ≡ howMany (above (patternAt w s)) e = ok .before ∙ ap (howMany (above (patternAt w s))) (sym start) in
     let less = many-few (above (patternAt w s)) e in
-    record { standing = stands; near = near; ends = ends; few = omega arith; low = omega arith; high = omega arith; counted = counted; less = omega arith }
+    record {
+      standing = stands;
+      near = near;
+      ends = ends;
+      few = omega arith;
+      low = omega arith;
+      high = omega arith;
+      counted = counted;
+      less = omega arith;
+    }
 
 module _ {w : List ℕ} {s : Faces} {row end e count column : ℕ} (c : Counting w s row end e count) (h : e < end)
     (is : column ≡ idx w (s .columns + e)) where
@@ -72,7 +81,17 @@ module _ {w : List ℕ} {s : Faces} {row end e count column : ℕ} (c : Counting
       let step : howMany (above (patternAt w s)) (e + 1) ≡ howMany (above (patternAt w s)) e + 1 =
       ap (howMany (above (patternAt w s))) (add-one e) ∙ many-step (above (patternAt w s)) e ∙ rw t refl in
       let low = c .low in let less = c .less in let counted = c .counted in
-      record { standing = c .standing; near = c .near; ends = c .ends; few = c .few; low = omega arith; high = omega arith; counted = omega arith; less = omega arith }
+      record {
+        standing = c .standing;
+        near = c .near;
+        ends = c .ends;
+        few = c .few;
+        low = omega arith;
+        high = omega arith;
+        counted =
+            omega arith;
+        less = omega arith;
+      }
 
   -- Another one does not.
   pub counting-no : {more : ℕ} → column ≤ row → more ≡ count → Counting w s row end (e + 1) more
@@ -81,7 +100,17 @@ module _ {w : List ℕ} {s : Faces} {row end e count column : ℕ} (c : Counting
       let step : howMany (above (patternAt w s)) (e + 1) ≡ howMany (above (patternAt w s)) e + 0 =
       ap (howMany (above (patternAt w s))) (add-one e) ∙ many-step (above (patternAt w s)) e ∙ rw t refl in
       let low = c .low in let less = c .less in let counted = c .counted in
-      record { standing = c .standing; near = c .near; ends = c .ends; few = c .few; low = omega arith; high = omega arith; counted = omega arith; less = omega arith }
+      record {
+        standing = c .standing;
+        near = c .near;
+        ends = c .ends;
+        few = c .few;
+        low = omega arith;
+        high = omega arith;
+        counted =
+            omega arith;
+        less = omega arith;
+      }
 
 pub counting-done : {w : List ℕ} {s : Faces} {row end e count : ℕ} → Counting w s row end e count → end ≤ e → Counted w s row count
 counting-done {w} {s} {row} {end} {e} c h =

@@ -1,7 +1,7 @@
 -- Coupled rows: a row that has its diagonal entry is coupled if it has two entries; the loops of `coupled_count` and `coupled_rows`.
 -- Assumes nothing.
 use mathlib.Core.Path.{_≡_, refl, sym, ap, _∙_}
-use mathlib.Core.Bool.{Bool, true, false, cond, _&&_, not}
+use mathlib.Core.Bool.{Bool, true, false, _&&_, not}
 use mathlib.Core.List.{List}
 use mathlib.Core.Logic.{⊎-elim}
 use Prim.Native.Nat.{ℕ, _+_, _≤_, _<_}
@@ -10,19 +10,19 @@ use native.Mathlib.Omega.{arith}
 use lib.Dec.{eqb, ltb}
 use lib.ListN.{length}
 use borrow.Author.Tests.{eqb-true, eqb-false, eq-eqb, ne-eqb, lt-ltb, ltb-true, not-true}
-use Rattle.store.specs.Region.{idx, splice, Wrote, Kept}
+use Rattle.store.specs.Region.{idx, Kept}
 use Rattle.store.proofs.Region.{le-or-lt, kept-wrote}
 use Rattle.store.proofs.Each.{both-l, both-r}
-use Rattle.pattern.specs.Pattern.{some, howMany, those, Pattern, entries, columnOf, rowOf, Valid, Rising, Diagonal}
+use Rattle.pattern.specs.Pattern.{howMany, Pattern, entries, columnOf, rowOf, Valid, Rising, Diagonal}
 use Rattle.pattern.proofs.Number.{both-ways, same?, some-at, some-which, many-step, many-zero, many-lt}
 use Rattle.pattern.proofs.Row.{row-is, row-in}
 use Rattle.faces.specs.declared.Faces.{Faces}
 use Rattle.faces.specs.Faces.{coupledOf, coupledCountOf, coupledRowsOf}
 use Rattle.faces.specs.Contract.{patternAt, CoupledOk, CoupledCount, CoupledRowsOk, CoupledRows}
 use Rattle.faces.specs.Steps.{PushOk, Pushed}
-use Rattle.faces.proofs.Pick.{picked, picked-self, many-few, Picking, picking-start, picking-on, picking-wrote}
+use Rattle.faces.proofs.Pick.{picked-self, many-few, Picking, picking-start, picking-on, picking-wrote}
 use Rattle.faces.proofs.Entries.{offset-few, columns-rise}
-use Rattle.faces.proofs.Standing.{offset-at, next-at, next-less, pattern-kept, standing-on, coupled-on}
+use Rattle.faces.proofs.Standing.{offset-at, next-at, pattern-kept, coupled-on}
 
 -- ---- a row
 
@@ -165,7 +165,8 @@ module _ {F G : List ℕ} {s : Faces} {to row count : ℕ} (l : Listing F G s to
         record {
           small = omega arith;
           less = omega arith;
-          room = λ t. let m = many-lt (coupledOf (patternAt F s)) row (s .rows) h (sym same ∙ t) in let room = l .ok .room in omega arith;
+          room = λ t. let m = many-lt (coupledOf (patternAt F s)) row (s .rows) h (sym same ∙ t) in let room = l .ok .room in omega
+              arith;
         }
 
     pub listing-on : {H : List ℕ} {more : ℕ} → Pushed G H to count row r more → Listing F H s to (row + 1) more

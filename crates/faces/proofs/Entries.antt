@@ -1,7 +1,7 @@
 -- Entries of a pattern: rows rise with them, and where the one in a given row and column stands.
 -- Assumes nothing.
-use mathlib.Core.Path.{_≡_, refl, sym, ap, _∙_}
-use mathlib.Core.Bool.{Bool, true, false, cond, _&&_}
+use mathlib.Core.Path.{_≡_, refl, sym, _∙_}
+use mathlib.Core.Bool.{true, false, _&&_}
 use mathlib.Core.Logic.{⊎-elim}
 use Prim.Native.Nat.{ℕ, _+_, _-_, _≤_, _<_}
 use native.Mathlib.Omega.{arith}
@@ -10,8 +10,8 @@ use borrow.Author.Tests.{eqb-true, eq-eqb, leb-true, le-leb, lt-ltb, le-ltb}
 use Rattle.store.specs.Region.{idx}
 use Rattle.store.proofs.Region.{le-or-lt}
 use Rattle.store.proofs.Each.{both-l, both-r}
-use Rattle.pattern.specs.Pattern.{some, howMany, Pattern, entries, columnOf, rowOf, Valid, Rising}
-use Rattle.pattern.proofs.Number.{bool?, not-both, some-at, some-which, some-none, many-first, many-sub}
+use Rattle.pattern.specs.Pattern.{howMany, Pattern, entries, columnOf, rowOf, Valid, Rising}
+use Rattle.pattern.proofs.Number.{bool?, some-at, some-which, many-first, many-sub}
 use Rattle.pattern.proofs.Row.{offset-mono, row-is, row-in}
 use Rattle.galerkin.proofs.Mirror.{column-rises}
 use Rattle.faces.specs.Faces.{hasEntry, standsAt}
@@ -49,7 +49,8 @@ module _ {p : Pattern} (valid : Valid p) where
   offset-few i h = let m = offset-mono valid i (p .rows) h (omega arith) in let l = valid .last in omega arith
 
   -- Where a row has no entry in a column, there is none.
-  pub has-none : (i j : ℕ) → ((e : ℕ) → idx (p .offsets) i ≤ e → e < idx (p .offsets) (i + 1) → columnOf p e ≡ j → ⊥) → hasEntry p i j ≡ false
+  pub has-none : (i j : ℕ) → ((e : ℕ) → idx (p .offsets) i ≤ e → e < idx (p .offsets) (i + 1) → columnOf p e ≡ j → ⊥) → hasEntry p i j ≡
+      false
   has-none i j none = ⊎-elim
       (λ t.
       let v = has-which p i j t in
@@ -59,7 +60,8 @@ module _ {p : Pattern} (valid : Valid p) where
 
   module _ (rising : Rising p) where
     -- Within a row columns rise.
-    pub columns-rise : (i d e : ℕ) → i < p .rows → idx (p .offsets) i ≤ d → d < e → e < idx (p .offsets) (i + 1) → columnOf p d < columnOf p e
+    pub columns-rise : (i d e : ℕ) → i < p .rows → idx (p .offsets) i ≤ d → d < e → e < idx (p .offsets) (i + 1) → columnOf p d <
+        columnOf p e
     columns-rise i d e h lo l hi =
         let few = offset-few (i + 1) (omega arith) in
         column-rises p valid rising (e - d - 1) d e (omega arith) (omega arith)

@@ -71,7 +71,8 @@ module _ {w : List ℕ} {columns lo hi column a b m x : ℕ} (ok : FindOk w colu
             (le-or-lt e m);
       }
 
-pub searching-done : {w : List ℕ} {columns lo hi column a b : ℕ} → Searching w columns lo hi column a b → b ≤ a → Found w columns lo hi column a
+pub searching-done : {w : List ℕ} {columns lo hi column a b : ℕ} → Searching w columns lo hi column a b → b ≤ a → Found w columns lo hi
+    column a
 searching-done {w} {columns} {lo} {hi} {column} {a} {b} s h =
     let order = s .order in
     let high = s .high in
@@ -79,7 +80,8 @@ searching-done {w} {columns} {lo} {hi} {column} {a} {b} s h =
 
 -- ---- entry_at
 
-module _ {w : List ℕ} {s : Faces} {i lo hi : ℕ} (ok : EntryOk w s i) (first : lo ≡ idx w (s .offsets + i)) (last : hi ≡ idx w (s .offsets + i + 1)) where
+module _ {w : List ℕ} {s : Faces} {i lo hi : ℕ} (ok : EntryOk w s i) (first : lo ≡ idx w (s .offsets + i))
+    (last : hi ≡ idx w (s .offsets + i + 1)) where
   abbrev p : Pattern
   p = patternAt w s
 
@@ -132,8 +134,11 @@ module _ {w : List ℕ} {s : Faces} {i lo hi : ℕ} (ok : EntryOk w s i) (first 
         let l = found .low in
         let size = size-at stands in
         let column : columnOf (patternAt w s) e ≡ j = sym (column-at stands e (omega arith)) ∙ sym is ∙ same in
-        let has : hasEntry (patternAt w s) i j ≡ true = has-at (patternAt w s) i j e (omega arith) (row-is (stands .valid) i e (ok .near) (omega arith) (omega arith)) column in
-        record { is = rw has (sym (stands-is (stands .valid) (ok .ordered .rising) i j e (omega arith) (omega arith) before-it from-it)) }
+        let has : hasEntry (patternAt w s) i j ≡ true = has-at (patternAt w s) i j e (omega arith)
+        (row-is (stands .valid) i e (ok .near) (omega arith) (omega arith)) column in
+        record {
+          is = rw has (sym (stands-is (stands .valid) (ok .ordered .rising) i j e (omega arith) (omega arith) before-it from-it));
+        }
 
     -- It stands nowhere.
     pub entry-no : (e < hi → idx w (s .columns + e) ≡ j → ⊥) → Entry w s i j (s .entries)
@@ -143,7 +148,8 @@ module _ {w : List ℕ} {s : Faces} {i lo hi : ℕ} (ok : EntryOk w s i) (first 
         let b = end-is in
         let c = few in
         let l = found .low in
-        let has : hasEntry (patternAt w s) i j ≡ false = has-no (stands .valid) (ok .ordered .rising) i j e (ok .near) (omega arith) before-it from-it
+        let has : hasEntry (patternAt w s) i j ≡ false = has-no (stands .valid) (ok .ordered .rising) i j e (ok .near) (omega arith)
+        before-it from-it
         (λ h is. other (omega arith) (column-at stands e (omega arith) ∙ is)) in
         record { is = rw has refl }
 
@@ -162,7 +168,8 @@ entry-there {w} {s} {i} {j} {e} at h = ⊎-elim
     (bool? (hasEntry (patternAt w s) i j))
 
 -- Another one says that there is none.
-pub entry-missing : {w : List ℕ} {s : Faces} {i j e : ℕ} → Ordered w s → Entry w s i j e → s .entries ≤ e → hasEntry (patternAt w s) i j ≡ false
+pub entry-missing : {w : List ℕ} {s : Faces} {i j e : ℕ} → Ordered w s → Entry w s i j e → s .entries ≤ e → hasEntry (patternAt w s) i j
+    ≡ false
 entry-missing {w} {s} {i} {j} {e} o at h = ⊎-elim
     (λ (t : hasEntry (patternAt w s) i j ≡ true).
     let is : e ≡ standsAt (patternAt w s) i j = rw t at (at .is) in
@@ -190,5 +197,6 @@ module _ {w : List ℕ} {s : Faces} {row column e : ℕ} (ok : MirrorOk w s row 
       let r : rowOf (patternAt w s) e ≡ column = sym (ok .is) ∙ sym same in
       let c : columnOf (patternAt w s) e ≡ row = sym (ok .stands) ∙ same in
       let has : hasEntry (patternAt w s) column row ≡ true = has-at (patternAt w s) column row e inside r c in
-      let stands : standsAt (patternAt w s) column row ≡ e = rw (r, c) at (stands-entry (ok .ordered .standing .valid) (ok .ordered .rising) e inside) in
+      let stands : standsAt (patternAt w s) column row ≡ e = rw (r, c) at
+      (stands-entry (ok .ordered .standing .valid) (ok .ordered .rising) e inside) in
       record { is = rw has (sym stands) }

@@ -7,16 +7,15 @@ use Prim.Native.Nat.{ℕ, zero, suc, _+_, _-_, _≤_, _<_}
 use native.Mathlib.Omega.{arith}
 use lib.Dec.{ltb}
 use borrow.Author.Tests.{ltb-true, lt-ltb, le-ltb}
-use Rattle.options.specs.declared.questions.Refusal.{Refusal}
 use Rattle.options.specs.declared.questions.Verdict.{Verdict}
-use Rattle.options.specs.Outcome.{Outcome, passed, ask, askRows, verdictOf}
+use Rattle.options.specs.Outcome.{passed, askRows, verdictOf}
 use Rattle.options.proofs.Outcome.{verdict-passed, passes}
 use Rattle.store.specs.Region.{idx}
 use Rattle.store.specs.Vector.{each}
 use Rattle.store.proofs.Each.{each-at}
 use Rattle.store.proofs.Region.{le-or-lt}
 use Rattle.store.proofs.Vector.{getD-tab}
-use Rattle.pattern.specs.Pattern.{howMany, those, Pattern, entries, columnOf, rowOf, Valid, Rising, Mirrored, Diagonal}
+use Rattle.pattern.specs.Pattern.{howMany, Pattern, entries, columnOf, rowOf, Valid, Rising, Mirrored, Diagonal}
 use Rattle.pattern.proofs.Number.{bool?, many-mono, many-lt}
 use Rattle.pattern.proofs.Place.{those-at}
 use Rattle.galerkin.specs.Theorem.{FacesOf}
@@ -54,7 +53,8 @@ module _ (level : ℕ) (p : Pattern) where
   asked-was zero row all = refl
   asked-was (suc fuel) row all = rw (all row (omega arith)) (asked-was fuel (row + 1) (λ i h. all i (omega arith)))
 
-  asked-is : (fuel row : ℕ) → askRows fuel row (asks level p) passed ≡ passed → (i : ℕ) → row ≤ i → i < row + fuel → hasEntry p i i ≡ true
+  asked-is : (fuel row : ℕ) → askRows fuel row (asks level p) passed ≡ passed → (i : ℕ) → row ≤ i → i < row + fuel → hasEntry p i i ≡
+      true
   unfolding askRows
   asked-is zero row e i l h = absurd (omega arith)
   asked-is (suc fuel) row e i l h = ⊎-elim
@@ -69,7 +69,8 @@ module _ (level : ℕ) (p : Pattern) where
 pub diagonal-is : {p : Pattern} (level : ℕ) → Valid p → verdictOf (diagonalsAsked level p) ≡ Verdict.Passed → Diagonal p
 unfolding diagonalsAsked
 diagonal-is {p} level valid t = record {
-  diagonal = λ i h. has-which p i i (asked-is level p (p .rows - 0) 0 (passes (diagonalsAsked level p) refl t) i (omega arith) (omega arith));
+  diagonal = λ i h. has-which p i i (asked-is level p (p .rows - 0) 0 (passes (diagonalsAsked level p) refl t) i (omega arith)
+      (omega arith));
 }
 
 -- Where each row has its diagonal entry, it passes.
@@ -106,7 +107,8 @@ upper-entry p k h = face-which p k h .0
 -- A face's neighbour is one of the rows.
 pub near : {p : Pattern} → Valid p → (k : ℕ) → k < facesOf p → idx (neighborsOf p) k < p .rows
 unfolding neighborsOf
-near {p} valid k h = rw (getD-tab (λ j. columnOf p (idx (uppersOf p) j)) (facesOf p) k 0 h) (valid .inside (idx (uppersOf p) k) (upper-entry p k h))
+near {p} valid k h = rw (getD-tab (λ j. columnOf p (idx (uppersOf p) j)) (facesOf p) k 0 h)
+    (valid .inside (idx (uppersOf p) k) (upper-entry p k h))
 
 -- Face offsets never fall.
 pub starts-rise : {p : Pattern} → Valid p → (i : ℕ) → i < p .rows → idx (faceOffsetsOf p) i ≤ idx (faceOffsetsOf p) (i + 1)

@@ -2,14 +2,14 @@
 -- Assumes nothing.
 use mathlib.Core.Path.{_≡_, refl, sym, ap, _∙_}
 use mathlib.Core.Bool.{Bool, true, false, cond, _&&_, _||_, not, or-true}
-use mathlib.Core.List.{List, [], _∷_, _++_, append-nil}
+use mathlib.Core.List.{List, [], _∷_, _++_}
 use mathlib.Core.Logic.{inl, inr, ⊎-elim}
 use Prim.Native.Nat.{ℕ, zero, suc, _+_, _-_, _≤_, _<_}
 use native.Mathlib.Numerals.{add-one}
 use native.Mathlib.Omega.{arith}
 use lib.Dec.{eqb}
 use borrow.Author.Tests.{eq-eqb, ne-eqb}
-use lib.ListN.{length, getD, set, List·getD-append}
+use lib.ListN.{length, set, List·getD-append}
 use lib.Seq.{ext-getD}
 use Rattle.store.specs.Region.{idx, Clear, part, splice, Wrote}
 use Rattle.store.specs.Vector.{tab}
@@ -40,7 +40,8 @@ unfolding howMany
 many-apart q r zero apart = omega arith
 many-apart q r (suc n) apart = go (q n) (r n) (apart n) (many-apart q r n apart)
   where
-    go : (a b : Bool) → (a ≡ true → b ≡ false) → howMany q n + howMany r n ≤ n → howMany q n + cond a 1 0 + (howMany r n + cond b 1 0) ≤ suc n
+    go : (a b : Bool) → (a ≡ true → b ≡ false) → howMany q n + howMany r n ≤ n → howMany q n + cond a 1 0 + (howMany r n + cond b 1 0) ≤
+        suc n
     go true b f h = rw (f refl) (omega arith)
     go false true f h = omega arith
     go false false f h = omega arith
@@ -77,7 +78,8 @@ many-into f q r (suc n) m to apart = ⊎-elim
         keep false = refl
 
 -- Number k of those that pass.
-pub those-which : (q : ℕ → Bool) (n k : ℕ) → k < howMany q n → (c : ℕ) × (c < n) × (q c ≡ true) × (howMany q c ≡ k) × (idx (those q n) k ≡ c)
+pub those-which : (q : ℕ → Bool) (n k : ℕ) → k < howMany q n → (c : ℕ) × (c < n) × (q c ≡ true) × (howMany q c ≡ k) ×
+    (idx (those q n) k ≡ c)
 those-which q n k h =
     let v = many-which q n k h in
     (v .0, v .1, v .2, v .3, rw (v .3) at (those-at q n (v .0) (v .1) (v .2)))
@@ -130,7 +132,11 @@ pub record Picking (f : ℕ → ℕ) (q : ℕ → Bool) (to n k : ℕ) (F G : Li
 module _ {f : ℕ → ℕ} {q : ℕ → Bool} where
   -- At the start nothing has been pushed.
   pub picking-start : {to : ℕ} {F : List ℕ} → Picking f q to 0 0 F F
-  picking-start {to} {F} = record { is = sym (ap (λ (v : List ℕ). splice to v F) (picked-none f q) ∙ splice-nil to F); count = sym (many-zero q) }
+  picking-start {to} {F} = record {
+    is = sym (ap (λ (v : List ℕ). splice to v F) (picked-none f q) ∙ splice-nil to F);
+    count = sym
+        (many-zero q);
+  }
 
   -- The next number is pushed, if it passes.
   pub picking-on : {to n k v r : ℕ} {F G H : List ℕ} {wanted : Bool} → Picking f q to n k F G → Pushed G H to k v wanted r
@@ -140,7 +146,8 @@ module _ {f : ℕ → ℕ} {q : ℕ → Bool} where
       let w : wanted ≡ true = t ∙ y in
       let long : k ≡ length (picked f q n) = p .count ∙ sym (length-picked f q n) in
       record {
-        is = rw w at (u .is) ∙ rw (p .is, long, e) (set-splice-end to (picked f q n) F (f n)) ∙ ap (λ (x : List ℕ). splice to x F) (sym (picked-yes f q n y));
+        is = rw w at (u .is) ∙ rw (p .is, long, e) (set-splice-end to (picked f q n) F (f n)) ∙ ap (λ (x : List ℕ). splice to x F)
+            (sym (picked-yes f q n y));
         count = u .next ∙ rw (w, p .count) (sym (many-step q n ∙ rw y refl));
       })
       (λ (y : q n ≡ false).

@@ -1,6 +1,6 @@
 -- The loop of `row_from`.
 -- Assumes nothing.
-use mathlib.Core.Path.{_≡_, sym, ap, _∙_}
+use mathlib.Core.Path.{_≡_, sym, _∙_}
 use mathlib.Core.List.{List}
 use mathlib.Core.Logic.{⊎-elim}
 use Prim.Native.Nat.{ℕ, _+_, _≤_, _<_}
@@ -27,8 +27,10 @@ pub record Seeking (w : List ℕ) (s : Faces) (e row end : ℕ) : Type 0 where
   pub near : row < s .rows
   pub ends : end ≡ idx (patternAt w s .offsets) (row + 1)
 
-pub seek-start : {w : List ℕ} {s : Faces} {e row end : ℕ} → SeekOk w s row e → end ≡ idx w (s .offsets + row + 1) → Seeking w s e row end
-seek-start {w} {s} {e} {row} {end} ok is = record { ok = ok; near = seek-near ok; ends = is ∙ next-at (ok .standing) row (seek-near ok) }
+pub seek-start : {w : List ℕ} {s : Faces} {e row end : ℕ} → SeekOk w s row e → end ≡ idx w (s .offsets + row + 1) → Seeking w s e row
+    end
+seek-start {w} {s} {e} {row} {end} ok is = record
+    { ok = ok; near = seek-near ok; ends = is ∙ next-at (ok .standing) row (seek-near ok) }
 
 module _ {w : List ℕ} {s : Faces} {e row end : ℕ} (k : Seeking w s e row end) where
   -- A row that ends at or before the entry is passed.
@@ -40,7 +42,8 @@ module _ {w : List ℕ} {s : Faces} {e row end : ℕ} (k : Seeking w s e row end
         standing = k .ok .standing;
         near = k .ok .near;
         behind = ⊎-elim
-            (λ (v : rowOf (patternAt w s) e ≤ row). let m = offset-mono (k .ok .standing .valid) (rowOf (patternAt w s) e + 1) (row + 1) (omega arith) (omega (arith, k .near)) in
+            (λ (v : rowOf (patternAt w s) e ≤ row). let m = offset-mono (k .ok .standing .valid) (rowOf (patternAt w s) e + 1) (row + 1)
+            (omega arith) (omega (arith, k .near)) in
             let u = b .2 in absurd (omega arith))
             (λ (v : row < rowOf (patternAt w s) e). omega arith)
             (le-or-lt (rowOf (patternAt w s) e) row);

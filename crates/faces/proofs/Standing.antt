@@ -4,10 +4,9 @@ use mathlib.Core.Path.{_≡_, refl, sym, ap, _∙_, subst}
 use mathlib.Core.List.{List}
 use Prim.Native.Nat.{ℕ, _+_, _≤_, _<_}
 use native.Mathlib.Omega.{arith}
-use lib.ListN.{length}
 use Rattle.store.specs.Region.{idx, part, Kept}
 use Rattle.store.proofs.Region.{length-part, getD-part, kept-part}
-use Rattle.pattern.specs.Pattern.{Pattern, entries, columnOf, rowOf, Valid, Rising, Diagonal}
+use Rattle.pattern.specs.Pattern.{Pattern, entries, columnOf, Valid, Rising, Diagonal}
 use Rattle.faces.specs.declared.Faces.{Faces}
 use Rattle.faces.specs.Contract.{patternAt, Standing, Ordered, CoupledOk}
 use Rattle.faces.proofs.Entries.{offset-few}
@@ -23,7 +22,8 @@ module _ {w : List ℕ} {s : Faces} (stands : Standing w s) where
 
   -- So is the next one.
   pub next-at : (i : ℕ) → i < s .rows → idx w (s .offsets + i + 1) ≡ idx (patternAt w s .offsets) (i + 1)
-  next-at i h = let e : s .offsets + i + 1 ≡ s .offsets + (i + 1) = omega arith in ap (λ (k : ℕ). idx w k) e ∙ offset-at (i + 1) (omega arith)
+  next-at i h = let e : s .offsets + i + 1 ≡ s .offsets + (i + 1) = omega arith in ap (λ (k : ℕ). idx w k) e ∙ offset-at (i + 1)
+      (omega arith)
 
   -- A column is the word at its place.
   pub column-at : (e : ℕ) → e < s .entries → idx w (s .columns + e) ≡ columnOf (patternAt w s) e
@@ -48,8 +48,10 @@ module _ {w : List ℕ} {s : Faces} (stands : Standing w s) where
     pub pattern-kept : patternAt z s ≡ patternAt w s
     pattern-kept =
         let l = stands in
-        let o : part (s .offsets) (s .rows + 1) z ≡ part (s .offsets) (s .rows + 1) w = kept-part kept (s .offsets) (s .rows + 1) (omega arith) in
-        let c : part (s .columns) (s .entries) z ≡ part (s .columns) (s .entries) w = kept-part kept (s .columns) (s .entries) (omega arith) in
+        let o : part (s .offsets) (s .rows + 1) z ≡ part (s .offsets) (s .rows + 1) w = kept-part kept (s .offsets) (s .rows + 1)
+        (omega arith) in
+        let c : part (s .columns) (s .entries) z ≡ part (s .columns) (s .entries) w = kept-part kept (s .columns) (s .entries)
+        (omega arith) in
         rw (o, c) refl
 
     -- It stands.

@@ -9,13 +9,12 @@ use native.Mathlib.Omega.{arith}
 use lib.Dec.{ltb}
 use lib.ListN.{length, set}
 use Rattle.store.specs.Region.{idx, part, splice, Wrote, Kept}
-use Rattle.store.specs.Vector.{each}
 use Rattle.store.proofs.Each.{Passed, passed-start, passed-on, passed-no, passed-yes}
-use Rattle.store.proofs.Region.{set-splice-below, wrote-at, wrote-off, kept-self, kept-on, kept-less, kept-wrote, kept-part}
+use Rattle.store.proofs.Region.{set-splice-below, wrote-at, wrote-off, kept-self, kept-on, kept-wrote}
 use Rattle.pattern.specs.Pattern.{howMany, Pattern, entries, columnOf, rowOf}
-use Rattle.pattern.proofs.Number.{bool?, many-lt, many-mono, many-none}
+use Rattle.pattern.proofs.Number.{bool?, many-lt, many-mono}
 use Rattle.faces.specs.declared.Faces.{Faces}
-use Rattle.faces.specs.Faces.{above, facesOf, uppersOf, neighborsOf, hasEntry, standsAt, mirrorOf, mirroredOf, lowersOf}
+use Rattle.faces.specs.Faces.{above, facesOf, uppersOf, neighborsOf, hasEntry, mirrorOf, mirroredOf, lowersOf}
 use Rattle.faces.specs.Contract.{patternAt, Standing, FillOk, Filled, MirrorsOk, MirrorsDone}
 use Rattle.faces.specs.Steps.{SeekOk, Sought, Entry, MirrorOk, PushOk, Pushed}
 use Rattle.faces.proofs.Pick.{picked, length-picked, picked-self, many-few, Picking, picking-start, picking-on, picking-wrote, picking-all, wrote-only}
@@ -53,7 +52,8 @@ module _ {F G : List ℕ} {s : Faces} {row e : ℕ} (k : Walking F G s row e) (h
     row-of = sought .row ∙ ap (λ (p : Pattern). rowOf p e) (pattern-kept (k .standing) (k .kept))
 
     column-of : column ≡ columnOf (patternAt F s) e
-    column-of = is ∙ column-at (standing-on (k .standing) (k .kept)) e h ∙ ap (λ (p : Pattern). columnOf p e) (pattern-kept (k .standing) (k .kept))
+    column-of = is ∙ column-at (standing-on (k .standing) (k .kept)) e h ∙ ap (λ (p : Pattern). columnOf p e)
+        (pattern-kept (k .standing) (k .kept))
 
     test-of : ltb r column ≡ above (patternAt F s) e
     test-of = sym (above-is (patternAt F s) e r column (sym row-of) (sym column-of))
@@ -67,7 +67,8 @@ module _ {F G : List ℕ} {s : Faces} {row e : ℕ} (k : Walking F G s row e) (h
     }
 
 -- A face before the last entry is not the last.
-face-room : {F : List ℕ} {s : Faces} {e face : ℕ} → Standing F s → s .faces ≡ facesOf (patternAt F s) → face ≡ howMany (above (patternAt F s)) e
+face-room : {F : List ℕ} {s : Faces} {e face : ℕ} → Standing F s → s .faces ≡ facesOf (patternAt F s) → face ≡ howMany
+    (above (patternAt F s)) e
     → e < s .entries → above (patternAt F s) e ≡ true → face < s .faces
 unfolding facesOf
 face-room {F} {s} {e} {face} stands all count h t =
@@ -125,7 +126,8 @@ module _ {F G : List ℕ} {s : Faces} {row face e : ℕ} (m : Mirroring F G s ro
 
     module _ {mirror : ℕ} (at : Entry G s column r mirror) where
       at-first : Entry F s (columnOf (patternAt F s) e) (rowOf (patternAt F s) e) mirror
-      at-first = rw (row-of (m .walking) h sought is, column-of (m .walking) h sought is) at (entry-back (m .ok .ordered .standing) (m .walking .kept) at)
+      at-first = rw (row-of (m .walking) h sought is, column-of (m .walking) h sought is) at
+          (entry-back (m .ok .ordered .standing) (m .walking .kept) at)
 
       -- A face has room for its mirror.
       pub mirroring-room : mirror < s .entries → PushOk (length G) (s .lowers) face mirror (ltb r column)
@@ -160,7 +162,8 @@ module _ {F G : List ℕ} {s : Faces} {row face e : ℕ} (m : Mirroring F G s ro
       mirroring-no l =
           let none = entry-missing (m .ok .ordered) at-first l in
           record {
-            answer = rw (size-at (m .ok .ordered .standing)) (passed-no (hasMirror (patternAt F s)) (s .entries) e false h (sym none) refl);
+            answer = rw (size-at (m .ok .ordered .standing))
+                (passed-no (hasMirror (patternAt F s)) (s .entries) e false h (sym none) refl);
             lowers = λ t. let z : _≡_ {A = ℕ} 0 1 = cc in absurd (omega arith);
             only = mirrors-only;
           }
@@ -188,7 +191,14 @@ pub record Filling (F G : List ℕ) (s : Faces) (row face e : ℕ) : Type 0 wher
   pub uppers : Picking (λ d. d) (above (patternAt F s)) (s .uppers) e face middle G
 
 pub filling-start : {F : List ℕ} {s : Faces} → FillOk F s → Filling F F s 0 0 0
-filling-start {F} ok = record { ok = ok; walking = walking-start (ok .standing); middle = F; columns = picking-start; uppers = picking-start }
+filling-start {F} ok = record {
+  ok = ok;
+  walking = walking-start (ok .standing);
+  middle = F;
+  columns = picking-start;
+  uppers =
+      picking-start;
+}
 
 -- A store below a list that is written is one in the store under it.
 push-below : (b : ℕ) (v M : List ℕ) (i x : ℕ) (wanted : Bool) → i < b
@@ -228,14 +238,16 @@ module _ {F G : List ℕ} {s : Faces} {row face e : ℕ} (f : Filling F G s row 
     under = cond (ltb r column) (set (f .middle) (s .neighbors + face) column) (f .middle)
 
     columns-on : Picking (λ d. columnOf (patternAt F s) d) (above (patternAt F s)) (s .neighbors) (e + 1) other F under
-    columns-on = picking-on {v = column} {wanted = ltb r column} (f .columns) (record { next = u .next; is = refl }) (column-of (f .walking) h sought is) (test-of (f .walking) h sought is)
+    columns-on = picking-on {v = column} {wanted = ltb r column} (f .columns) (record { next = u .next; is = refl })
+        (column-of (f .walking) h sought is) (test-of (f .walking) h sought is)
 
     uppers-over : Picking (λ d. d) (above (patternAt F s)) (s .uppers) e face under H
     uppers-over =
         let v = picked (λ d. d) (above (patternAt F s)) e in
         record {
           is = u .is ∙ rw (f .uppers .is) (⊎-elim
-              (λ (t : ltb r column ≡ true). let l = filling-near t in push-below (s .uppers) v (f .middle) (s .neighbors + face) column (ltb r column) (omega (arith, f .ok .uppers)))
+              (λ (t : ltb r column ≡ true). let l = filling-near t in push-below (s .uppers) v (f .middle) (s .neighbors + face) column
+              (ltb r column) (omega (arith, f .ok .uppers)))
               (λ (t : ltb r column ≡ false). rw t refl)
               (bool? (ltb r column)));
           count = f .uppers .count;
@@ -256,7 +268,8 @@ module _ {F G : List ℕ} {s : Faces} {row face e : ℕ} (f : Filling F G s row 
         let order : s .starts ≤ s .uppers = omega (arith, f .ok .uppers, f .ok .neighbors) in
         record {
           ok = f .ok;
-          walking = walking-on (f .walking) h sought is (kept-on (kept-wrote (picking-wrote columns-on) (f .ok .neighbors)) (kept-wrote (picking-wrote up) order));
+          walking = walking-on (f .walking) h sought is
+              (kept-on (kept-wrote (picking-wrote columns-on) (f .ok .neighbors)) (kept-wrote (picking-wrote up) order));
           middle = under;
           columns = record { is = columns-on .is; count = v .next ∙ sym (u .next) ∙ columns-on .count };
           uppers = up;

@@ -5,7 +5,7 @@ use mathlib.Core.List.{List}
 use Prim.Native.Nat.{ℕ, _+_, _-_}
 use lib.Dec.{eqb, ltb}
 use Rattle.options.specs.declared.questions.Refusal.{Refusal}
-use Rattle.options.specs.Outcome.{Outcome, passed, ask, _>>_, askEach}
+use Rattle.options.specs.Outcome.{Outcome, passed, ask, askEach}
 use Rattle.store.specs.Region.{idx}
 use Rattle.store.specs.Vector.{tab, each}
 use Rattle.pattern.specs.Pattern.{some, howMany, those, Pattern, entries, columnOf, rowOf}

@@ -4,12 +4,8 @@ use mathlib.Core.Logic.{⊎-elim}
 use Prim.Native.Nat.{_-_}
 use Rattle.faces.proofs.Coupling.{Coupling, coupling-start, coupling-few, coupling-yes, coupling-no, coupling-done}
 use native.Mathlib.Omega.{arith}
-use borrow.Author.Needs.{needs}
 use Rattle.faces.proofs.coupled_count.Statement.{statement}
 use Rattle.faces.proofs.coupled_count.Tie as tie
-use Rattle.faces.proofs.coupled_count.Reads as reads
-use Rattle.faces.proofs.coupled_count.Lts as lts
-use Rattle.faces.proofs.is_coupled.Reads as is-coupled-reads
 
 abbrev Inv-loop : tie.InvT-loop
 Inv-loop w s rows count₀ row₀ count row = Coupling w s row count
@@ -28,8 +24,10 @@ add-count c = omega (arith, coupling-few (c .before .before .before .loop .inv),
 
 loop-again : tie.Need-loop-again Inv-loop μ-loop
 loop-again c =
-    ⊎-elim (λ v. coupling-yes (c .before .before .before .loop .inv) (c .before .before .loop-test .taken) (c .before .is-coupled .ensures) (v .0 .taken) (v .1))
-    (λ v. coupling-no (c .before .before .before .loop .inv) (c .before .before .loop-test .taken) (c .before .is-coupled .ensures) (v .0 .left) (v .1)) (c .if1 .came)
+    ⊎-elim (λ v. coupling-yes (c .before .before .before .loop .inv) (c .before .before .loop-test .taken)
+    (c .before .is-coupled .ensures) (v .0 .taken) (v .1))
+    (λ v. coupling-no (c .before .before .before .loop .inv) (c .before .before .loop-test .taken)
+    (c .before .is-coupled .ensures) (v .0 .left) (v .1)) (c .if1 .came)
 
 returns : tie.Need-returns Inv-loop μ-loop
 returns c = coupling-done (c .before .loop .inv) (c .loop-test .left)

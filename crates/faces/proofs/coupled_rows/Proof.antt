@@ -3,13 +3,8 @@
 use Prim.Native.Nat.{_-_}
 use Rattle.faces.proofs.Coupling.{Listing, listing-start, listing-size, listing-coupled, listing-room, listing-on, listing-done}
 use native.Mathlib.Omega.{arith}
-use borrow.Author.Needs.{needs}
 use Rattle.faces.proofs.coupled_rows.Statement.{statement}
 use Rattle.faces.proofs.coupled_rows.Tie as tie
-use Rattle.faces.proofs.coupled_rows.Reads as reads
-use Rattle.faces.proofs.coupled_rows.Lts as lts
-use Rattle.faces.proofs.is_coupled.Reads as is-coupled-reads
-use Rattle.faces.proofs.push_if.Reads as push-if-reads
 
 abbrev Inv-loop : tie.InvT-loop
 Inv-loop w₀ s to rows count₀ row₀ w count row = Listing w₀ w s to row count
@@ -24,10 +19,13 @@ is-coupled-requires : tie.Need-is-coupled-requires Inv-loop μ-loop
 is-coupled-requires c κs = (listing-coupled (c .before .before .loop .inv), c .before .loop-test .taken)
 
 push-if-requires : tie.Need-push-if-requires Inv-loop μ-loop
-push-if-requires c κs = listing-room (c .before .before .before .before .loop .inv) (c .before .before .before .loop-test .taken) (c .before .is-coupled .ensures)
+push-if-requires c κs = listing-room (c .before .before .before .before .loop .inv) (c .before .before .before .loop-test .taken)
+    (c .before .is-coupled .ensures)
 
 loop-again : tie.Need-loop-again Inv-loop μ-loop
-loop-again c = listing-on (c .before .before .before .before .before .before .before .loop .inv) (c .before .before .before .before .before .before .loop-test .taken) (c .before .before .before .before .is-coupled .ensures) (c .before .before .push-if .ensures)
+loop-again c = listing-on (c .before .before .before .before .before .before .before .loop .inv)
+    (c .before .before .before .before .before .before .loop-test .taken) (c .before .before .before .before .is-coupled .ensures)
+    (c .before .before .push-if .ensures)
 
 same-length : tie.Need-same-length Inv-loop μ-loop
 same-length c = listing-size (c .before .loop .inv)

@@ -3,12 +3,8 @@
 use Prim.Native.Nat.{_-_}
 use Rattle.faces.proofs.Asking.{Asking, asking-start, asking-size, asking-entry, asking-yes, asking-no, asking-done}
 use native.Mathlib.Omega.{arith}
-use borrow.Author.Needs.{needs}
 use Rattle.faces.proofs.diagonals.Statement.{statement}
 use Rattle.faces.proofs.diagonals.Tie as tie
-use Rattle.faces.proofs.diagonals.Reads as reads
-use Rattle.faces.proofs.diagonals.Lts as lts
-use Rattle.faces.proofs.entry_at.Reads as entry-at-reads
 
 abbrev Inv-loop : tie.InvT-loop
 Inv-loop w₀ s level rows entries to row₀ w row = Asking level w₀ w s row
@@ -26,22 +22,42 @@ cast-w : tie.Need-cast-w Inv-loop μ-loop
 cast-w c = omega (arith, c .before .before .before .before .loop .inv .ok .ordered .standing .less, c .if1 .taken)
 
 add-w : tie.Need-add-w Inv-loop μ-loop
-add-w c = omega (arith, asking-size (c .before .before .before .before .loop .inv), c .before .before .before .before .loop .inv .ok .room, c .before .before .before .loop-test .taken)
+add-w c = omega (
+  arith,
+  asking-size (c .before .before .before .before .loop .inv),
+  c .before .before .before .before .loop .inv
+      .ok .room,
+  c .before .before .before .loop-test .taken,
+)
 
 mul-w : tie.Need-mul-w Inv-loop μ-loop
-mul-w c = omega (arith, asking-size (c .before .before .before .before .loop .inv), c .before .before .before .before .loop .inv .ok .room, c .before .before .before .loop-test .taken)
+mul-w c = omega (
+  arith,
+  asking-size (c .before .before .before .before .loop .inv),
+  c .before .before .before .before .loop .inv
+      .ok .room,
+  c .before .before .before .loop-test .taken,
+)
 
 slice-write-w : tie.Need-slice-write-w Inv-loop μ-loop
-slice-write-w c = omega (arith, asking-size (c .before .before .before .before .loop .inv), c .before .before .before .before .loop .inv .ok .room, c .before .before .before .loop-test .taken)
+slice-write-w c = omega (
+  arith,
+  asking-size (c .before .before .before .before .loop .inv),
+  c .before .before .before .before
+      .loop .inv .ok .room,
+  c .before .before .before .loop-test .taken,
+)
 
 loop-again : tie.Need-loop-again Inv-loop μ-loop
-loop-again c = asking-yes (c .before .before .before .before .loop .inv) (c .before .before .before .loop-test .taken) (c .before .entry-at .ensures) (c .if1 .taken)
+loop-again c = asking-yes (c .before .before .before .before .loop .inv) (c .before .before .before .loop-test .taken)
+    (c .before .entry-at .ensures) (c .if1 .taken)
 
 same-length : tie.Need-same-length Inv-loop μ-loop
 same-length c = asking-size (c .before .before .before .before .loop .inv)
 
 returns : tie.Need-returns Inv-loop μ-loop
-returns c = asking-no (c .before .before .before .before .loop .inv) (c .before .before .before .loop-test .taken) (c .before .entry-at .ensures) (c .if1 .left)
+returns c = asking-no (c .before .before .before .before .loop .inv) (c .before .before .before .loop-test .taken)
+    (c .before .entry-at .ensures) (c .if1 .left)
 
 same-length-2 : tie.Need-same-length-2 Inv-loop μ-loop
 same-length-2 c = asking-size (c .before .loop .inv)

@@ -4,12 +4,8 @@ use Prim.Native.Nat.{_-_}
 use lib.ListN.{length-set}
 use Rattle.faces.proofs.Counting.{Offsetting, offsetting-start, offsetting-size, offsetting-count, offsetting-few, offsetting-on, offsetting-done}
 use native.Mathlib.Omega.{arith}
-use borrow.Author.Needs.{needs}
 use Rattle.faces.proofs.face_offsets.Statement.{statement}
 use Rattle.faces.proofs.face_offsets.Tie as tie
-use Rattle.faces.proofs.face_offsets.Reads as reads
-use Rattle.faces.proofs.face_offsets.Lts as lts
-use Rattle.faces.proofs.count_row.Reads as count-row-reads
 
 abbrev Inv-loop : tie.InvT-loop
 Inv-loop w₀ s rows starts found₀ row₀ w found row = Offsetting w₀ w s row found
@@ -24,16 +20,39 @@ count-row-requires : tie.Need-count-row-requires Inv-loop μ-loop
 count-row-requires c κs = offsetting-count (c .before .before .loop .inv) (c .before .loop-test .taken)
 
 cast-w : tie.Need-cast-w Inv-loop μ-loop
-cast-w c = omega (arith, offsetting-few (c .before .before .before .loop .inv), c .before .before .before .loop .inv .ok .standing .less)
+cast-w c = omega (
+  arith,
+  offsetting-few (c .before .before .before .loop .inv),
+  c .before .before .before .loop .inv .ok .standing
+      .less,
+)
 
 add-w : tie.Need-add-w Inv-loop μ-loop
-add-w c = omega (arith, offsetting-size (c .before .before .before .loop .inv), c .before .before .before .loop .inv .ok .room, c .before .before .loop-test .taken)
+add-w c = omega (
+  arith,
+  offsetting-size (c .before .before .before .loop .inv),
+  c .before .before .before .loop .inv .ok .room,
+  c
+      .before .before .loop-test .taken,
+)
 
 mul-w : tie.Need-mul-w Inv-loop μ-loop
-mul-w c = omega (arith, offsetting-size (c .before .before .before .loop .inv), c .before .before .before .loop .inv .ok .room, c .before .before .loop-test .taken)
+mul-w c = omega (
+  arith,
+  offsetting-size (c .before .before .before .loop .inv),
+  c .before .before .before .loop .inv .ok .room,
+  c
+      .before .before .loop-test .taken,
+)
 
 slice-write-w : tie.Need-slice-write-w Inv-loop μ-loop
-slice-write-w c = omega (arith, offsetting-size (c .before .before .before .loop .inv), c .before .before .before .loop .inv .ok .room, c .before .before .loop-test .taken)
+slice-write-w c = omega (
+  arith,
+  offsetting-size (c .before .before .before .loop .inv),
+  c .before .before .before .loop .inv .ok
+      .room,
+  c .before .before .loop-test .taken,
+)
 
 loop-again : tie.Need-loop-again Inv-loop μ-loop
 loop-again c = offsetting-on (c .before .before .before .loop .inv) (c .before .before .loop-test .taken) (c .count-row .ensures)

@@ -3,14 +3,8 @@
 use Prim.Native.Nat.{_-_}
 use Rattle.faces.proofs.Walking.{walking-seek, walking-column, Filling, filling-start, filling-room, filling-room-2, filling-on, filling-done}
 use native.Mathlib.Omega.{arith}
-use borrow.Author.Needs.{needs}
 use Rattle.faces.proofs.fill_faces.Statement.{statement}
 use Rattle.faces.proofs.fill_faces.Tie as tie
-use Rattle.faces.proofs.fill_faces.Reads as reads
-use Rattle.faces.proofs.fill_faces.Lts as lts
-use Rattle.faces.proofs.push_if.Reads as push-if-reads
-use Rattle.faces.proofs.row_from.Reads as row-from-reads
-use Rattle.store.proofs.index_at.Reads as index-at-reads
 
 abbrev Inv-loop : tie.InvT-loop
 Inv-loop w₀ s entries row₀ face₀ e₀ w row face e = Filling w₀ w s row face e
@@ -25,16 +19,26 @@ row-from-requires : tie.Need-row-from-requires Inv-loop μ-loop
 row-from-requires c κs = walking-seek (c .before .before .loop .inv .walking) (c .before .loop-test .taken)
 
 index-at-requires : tie.Need-index-at-requires Inv-loop μ-loop
-index-at-requires c κs = walking-column (c .before .before .before .before .loop .inv .walking) (c .before .before .before .loop-test .taken)
+index-at-requires c κs = walking-column (c .before .before .before .before .loop .inv .walking)
+    (c .before .before .before .loop-test .taken)
 
 push-if-requires : tie.Need-push-if-requires Inv-loop μ-loop
-push-if-requires c κs = filling-room (c .before .before .before .before .before .before .loop .inv) (c .before .before .before .before .before .loop-test .taken) (c .before .before .before .row-from .ensures) (c .before .index-at .ensures .0)
+push-if-requires c κs = filling-room (c .before .before .before .before .before .before .loop .inv)
+    (c .before .before .before .before .before .loop-test .taken) (c .before .before .before .row-from .ensures)
+    (c .before .index-at .ensures .0)
 
 push-if-requires-2 : tie.Need-push-if-requires-2 Inv-loop μ-loop
-push-if-requires-2 c κs = filling-room-2 (c .before .before .before .before .before .before .before .before .before .before .loop .inv) (c .before .before .before .before .before .before .before .before .before .loop-test .taken) (c .before .before .before .before .before .before .before .row-from .ensures) (c .before .before .before .before .before .index-at .ensures .0) (c .before .before .before .push-if .ensures)
+push-if-requires-2 c κs = filling-room-2 (c .before .before .before .before .before .before .before .before .before .before .loop
+    .inv) (c .before .before .before .before .before .before .before .before .before .loop-test .taken)
+    (c .before .before .before .before .before .before .before .row-from .ensures)
+    (c .before .before .before .before .before .index-at .ensures .0) (c .before .before .before .push-if .ensures)
 
 loop-again : tie.Need-loop-again Inv-loop μ-loop
-loop-again c = filling-on (c .before .before .before .before .before .before .before .before .before .before .before .before .before .loop .inv) (c .before .before .before .before .before .before .before .before .before .before .before .before .loop-test .taken) (c .before .before .before .before .before .before .before .before .before .before .row-from .ensures) (c .before .before .before .before .before .before .before .before .index-at .ensures .0) (c .before .before .before .before .before .before .push-if .ensures) (c .before .before .push-if2 .ensures)
+loop-again c = filling-on (c .before .before .before .before .before .before .before .before .before .before .before .before
+    .before .loop .inv) (c .before .before .before .before .before .before .before .before .before .before .before .before
+    .loop-test .taken) (c .before .before .before .before .before .before .before .before .before .before .row-from .ensures)
+    (c .before .before .before .before .before .before .before .before .index-at .ensures .0)
+    (c .before .before .before .before .before .before .push-if .ensures) (c .before .before .push-if2 .ensures)
 
 same-length : tie.Need-same-length Inv-loop μ-loop
 same-length c = c .before .loop .inv .walking .kept .size

@@ -6,9 +6,6 @@ use native.Mathlib.Omega.{arith}
 use borrow.Author.Needs.{needs}
 use Rattle.faces.proofs.find.Statement.{statement}
 use Rattle.faces.proofs.find.Tie as tie
-use Rattle.faces.proofs.find.Reads as reads
-use Rattle.faces.proofs.find.Lts as lts
-use Rattle.store.proofs.wide.Reads as wide-reads
 
 abbrev Inv-loop : tie.InvT-loop
 Inv-loop w columns lo hi column a₀ b₀ a b = Searching w columns lo hi column a b
@@ -20,10 +17,12 @@ loop-holds : tie.Need-loop-holds Inv-loop μ-loop
 loop-holds c = searching-start (c .before .pre)
 
 loop-again : tie.Need-loop-again Inv-loop μ-loop
-loop-again c = search-up (c .before .before .before .before .before .before .pre) (c .before .before .before .before .loop .inv) (omega arith) (omega arith) (c .before .wide .ensures) (c .if1 .taken)
+loop-again c = search-up (c .before .before .before .before .before .before .pre) (c .before .before .before .before .loop .inv)
+    (omega arith) (omega arith) (c .before .wide .ensures) (c .if1 .taken)
 
 loop-again-2 : tie.Need-loop-again-2 Inv-loop μ-loop
-loop-again-2 c = search-down (c .before .before .before .before .before .before .pre) (c .before .before .before .before .loop .inv) (omega arith) (omega arith) (c .before .wide .ensures) (c .if1 .left)
+loop-again-2 c = search-down (c .before .before .before .before .before .before .pre)
+    (c .before .before .before .before .loop .inv) (omega arith) (omega arith) (c .before .wide .ensures) (c .if1 .left)
 
 returns : tie.Need-returns Inv-loop μ-loop
 returns c = searching-done (c .before .loop .inv) (c .loop-test .left)

@@ -6,15 +6,21 @@ use native.Mathlib.Omega.{arith}
 use borrow.Author.Needs.{needs}
 use Rattle.faces.proofs.is_coupled.Statement.{statement}
 use Rattle.faces.proofs.is_coupled.Tie as tie
-use Rattle.faces.proofs.is_coupled.Reads as reads
-use Rattle.faces.proofs.is_coupled.Lts as lts
-use Rattle.store.proofs.wide.Reads as wide-reads
 
 add-result : tie.Need-add-result
-add-result c = omega (arith, c .before .before .wide .ensures, offset-less (c .before .before .before .before .before .pre .0 .ordered .standing) (c .before .before .before .before .before .args .row) (omega (arith, c .before .before .before .before .before .pre .1)), c .before .before .before .before .before .pre .0 .ordered .standing .less)
+add-result c = omega (
+  arith,
+  c .before .before .wide .ensures,
+  offset-less
+      (c .before .before .before .before .before .pre .0 .ordered .standing) (c .before .before .before .before .before .args .row)
+      (omega (arith, c .before .before .before .before .before .pre .1)),
+  c .before .before .before .before .before .pre .0 .ordered
+      .standing .less,
+)
 
 returns : tie.Need-returns
-returns c = coupled-test (c .before .before .before .before .before .pre .0) (c .before .before .before .before .before .pre .1) (c .before .before .wide .ensures) (c .wide2 .ensures)
+returns c = coupled-test (c .before .before .before .before .before .pre .0) (c .before .before .before .before .before .pre .1)
+    (c .before .before .wide .ensures) (c .wide2 .ensures)
 
 pub is-coupled-spec : {M : Type 1} → statement M
 is-coupled-spec =

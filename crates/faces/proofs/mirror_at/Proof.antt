@@ -1,13 +1,8 @@
 -- `faces::mirror_at` meets its contract.
 -- Assumes nothing.
 use Rattle.faces.proofs.Finding.{mirror-entry, mirror-own}
-use native.Mathlib.Omega.{arith}
-use borrow.Author.Needs.{needs}
 use Rattle.faces.proofs.mirror_at.Statement.{statement}
 use Rattle.faces.proofs.mirror_at.Tie as tie
-use Rattle.faces.proofs.mirror_at.Reads as reads
-use Rattle.faces.proofs.mirror_at.Lts as lts
-use Rattle.faces.proofs.entry_at.Reads as entry-at-reads
 
 returns : tie.Need-returns
 returns c = mirror-own (c .before .before .pre) (c .if1 .taken)

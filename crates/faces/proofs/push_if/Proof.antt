@@ -5,8 +5,6 @@ use native.Mathlib.Omega.{arith}
 use borrow.Author.Needs.{needs}
 use Rattle.faces.proofs.push_if.Statement.{statement}
 use Rattle.faces.proofs.push_if.Tie as tie
-use Rattle.faces.proofs.push_if.Reads as reads
-use Rattle.faces.proofs.push_if.Lts as lts
 
 add-w : tie.Need-add-w
 add-w c = omega (arith, c .before .pre .room (c .if1 .taken))

@@ -6,9 +6,6 @@ use native.Mathlib.Omega.{arith}
 use borrow.Author.Needs.{needs}
 use Rattle.faces.proofs.row_from.Statement.{statement}
 use Rattle.faces.proofs.row_from.Tie as tie
-use Rattle.faces.proofs.row_from.Reads as reads
-use Rattle.faces.proofs.row_from.Lts as lts
-use Rattle.store.proofs.wide.Reads as wide-reads
 
 abbrev Inv-loop : tie.InvT-loop
 Inv-loop w s from e row₀ end₀ row end = Seeking w s e row end
@@ -35,22 +32,44 @@ add-row : tie.Need-add-row Inv-loop μ-loop
 add-row c = omega (arith, c .before .loop .inv .near, c .before .loop .inv .ok .standing)
 
 add-wide-3 : tie.Need-add-wide-3 Inv-loop μ-loop
-add-wide-3 c = omega (arith, seek-near (seek-next (c .before .before .loop .inv) (c .before .loop-test .taken)), c .before .before .loop .inv .ok .standing)
+add-wide-3 c = omega (
+  arith,
+  seek-near (seek-next (c .before .before .loop .inv) (c .before .loop-test .taken)),
+  c .before .before
+      .loop .inv .ok .standing,
+)
 
 add-wide-4 : tie.Need-add-wide-4 Inv-loop μ-loop
-add-wide-4 c = omega (arith, seek-near (seek-next (c .before .before .loop .inv) (c .before .loop-test .taken)), c .before .before .loop .inv .ok .standing)
+add-wide-4 c = omega (
+  arith,
+  seek-near (seek-next (c .before .before .loop .inv) (c .before .loop-test .taken)),
+  c .before .before
+      .loop .inv .ok .standing,
+)
 
 mul-wide-2 : tie.Need-mul-wide-2 Inv-loop μ-loop
-mul-wide-2 c = omega (arith, seek-near (seek-next (c .before .before .loop .inv) (c .before .loop-test .taken)), c .before .before .loop .inv .ok .standing)
+mul-wide-2 c = omega (
+  arith,
+  seek-near (seek-next (c .before .before .loop .inv) (c .before .loop-test .taken)),
+  c .before .before
+      .loop .inv .ok .standing,
+)
 
 shared-slice-read-wide-2 : tie.Need-shared-slice-read-wide-2 Inv-loop μ-loop
-shared-slice-read-wide-2 c = omega (arith, seek-near (seek-next (c .before .before .before .loop .inv) (c .before .before .loop-test .taken)), c .before .before .before .loop .inv .ok .standing)
+shared-slice-read-wide-2 c = omega (
+  arith,
+  seek-near
+      (seek-next (c .before .before .before .loop .inv) (c .before .before .loop-test .taken)),
+  c .before .before .before .loop .inv
+      .ok .standing,
+)
 
 loop-less : tie.Need-loop-less Inv-loop μ-loop
 loop-less c = omega (arith, c .before .before .before .before .loop .inv .near)
 
 loop-again : tie.Need-loop-again Inv-loop μ-loop
-loop-again c = seek-start (seek-next (c .before .before .before .before .loop .inv) (c .before .before .before .loop-test .taken)) (c .wide2 .ensures)
+loop-again c = seek-start (seek-next (c .before .before .before .before .loop .inv) (c .before .before .before .loop-test .taken))
+    (c .wide2 .ensures)
 
 returns : tie.Need-returns Inv-loop μ-loop
 returns c = seek-done (c .before .loop .inv) (c .loop-test .left)
