@@ -37,6 +37,7 @@ pub record Asking (level : ℕ) (F G : List ℕ) (s : Faces) (row : ℕ) : Type 
   pub asked : diagonalsAsked level (patternAt F s) ≡ askFrom row (s .rows) (asks level (patternAt F s)) passed
   pub is : G ≡ splice (s .diagonals) (tab (own (patternAt F s)) row) F
 
+-- Before the first row.
 pub asking-start : {level : ℕ} {F : List ℕ} {s : Faces} → DiagonalsOk F s → Asking level F F s 0
 unfolding diagonalsAsked tab
 asking-start {level} {F} {s} ok = record { ok = ok; reach = omega arith; asked = refl; is = sym (splice-nil (s .diagonals) F) }
@@ -49,6 +50,7 @@ module _ {level : ℕ} {F G : List ℕ} {s : Faces} {row : ℕ} (a : Asking leve
   pub asking-size : length G ≡ length F
   asking-size = asking-kept .size
 
+  -- What `entry_at` requires of the next row.
   pub asking-entry : row < s .rows → EntryOk G s row
   asking-entry h = record { ordered = ordered-on (a .ok .ordered) asking-kept; near = h }
 

@@ -42,6 +42,7 @@ pub record Counting (w : List ℕ) (s : Faces) (row end e count : ℕ) : Type 0 
   pub counted : count ≡ howMany (above (patternAt w s)) e
   pub less : count ≤ e
 
+-- At the start of the row.
 pub counting-start : {w : List ℕ} {s : Faces} {row end e count : ℕ} → CountOk w s row count → end ≡ idx w (s .offsets + row + 1)
     → e ≡ idx w (s .offsets + row) → Counting w s row end e count
 counting-start {w} {s} {row} {end} {e} {count} ok is at =
@@ -112,6 +113,7 @@ module _ {w : List ℕ} {s : Faces} {row end e count column : ℕ} (c : Counting
         less = omega arith;
       }
 
+-- At its end.
 pub counting-done : {w : List ℕ} {s : Faces} {row end e count : ℕ} → Counting w s row end e count → end ≤ e → Counted w s row count
 counting-done {w} {s} {row} {end} {e} c h =
     let high = c .high in
@@ -131,6 +133,7 @@ pub record Offsetting (F G : List ℕ) (s : Faces) (row found : ℕ) : Type 0 wh
   pub is : G ≡ splice (s .starts) (tab (before (patternAt F s)) row) F
   pub next : found ≡ before (patternAt F s) row
 
+-- Before the first row.
 pub offsetting-start : {F : List ℕ} {s : Faces} → OffsetsOk F s → Offsetting F F s 0 0
 unfolding tab
 offsetting-start {F} {s} ok = record {
@@ -148,6 +151,7 @@ module _ {F G : List ℕ} {s : Faces} {row found : ℕ} (o : Offsetting F G s ro
   pub offsetting-size : length G ≡ length F
   offsetting-size = offsetting-kept .size
 
+  -- What `count_row` requires of the next row.
   pub offsetting-count : row < s .rows → CountOk G s row found
   offsetting-count h = record {
     standing = standing-on (o .ok .standing) offsetting-kept;
@@ -169,6 +173,7 @@ module _ {F G : List ℕ} {s : Faces} {row found : ℕ} (o : Offsetting F G s ro
   written : set G (s .starts + row) found ≡ splice (s .starts) (tab (before (patternAt F s)) (row + 1)) F
   written = rw (o .is, o .next) (set-tab (s .starts) row (before (patternAt F s)) F)
 
+  -- A row more.
   pub offsetting-on : {more : ℕ} → row < s .rows → Counted G s row more → Offsetting F (set G (s .starts + row) found) s (row + 1) more
   offsetting-on {more} h c = record {
     ok = o .ok;
@@ -177,6 +182,7 @@ module _ {F G : List ℕ} {s : Faces} {row found : ℕ} (o : Offsetting F G s ro
     next = c .count ∙ ap (λ (p : Pattern). before p (row + 1)) (pattern-kept (o .ok .standing) offsetting-kept);
   }
 
+  -- After the last row its offset is the number of faces.
   pub offsetting-done : s .rows ≤ row → OffsetsDone F (set G (s .starts + s .rows) found) s found
   unfolding faceOffsetsOf facesOf
   offsetting-done h =

@@ -100,6 +100,7 @@ pub record Coupling (w : List ℕ) (s : Faces) (row count : ℕ) : Type 0 where
   pub reach : row ≤ s .rows
   pub counted : count ≡ howMany (coupledOf (patternAt w s)) row
 
+-- Before the first row.
 pub coupling-start : {w : List ℕ} {s : Faces} → Coupling w s 0 0
 coupling-start {w} {s} = record { reach = omega arith; counted = sym (many-zero (coupledOf (patternAt w s))) }
 
@@ -107,6 +108,7 @@ coupling-start {w} {s} = record { reach = omega arith; counted = sym (many-zero 
 pub coupling-few : {w : List ℕ} {s : Faces} {row count : ℕ} → Coupling w s row count → count ≤ row
 coupling-few {w} {s} {row} c = let l = many-few (coupledOf (patternAt w s)) row in let e = c .counted in omega arith
 
+-- A coupled row counts.
 pub coupling-yes : {w : List ℕ} {s : Faces} {row count more : ℕ} {r : Bool} → Coupling w s row count → row < s .rows
     → r ≡ coupledOf (patternAt w s) row → r ≡ true → more ≡ count + 1 → Coupling w s (row + 1) more
 coupling-yes {w} {s} {row} {count} {more} {r} c h is t e = record {
@@ -114,6 +116,7 @@ coupling-yes {w} {s} {row} {count} {more} {r} c h is t e = record {
   counted = e ∙ rw (c .counted, add-one row) (sym (many-step (coupledOf (patternAt w s)) row ∙ rw (sym is ∙ t) refl));
 }
 
+-- Another one does not.
 pub coupling-no : {w : List ℕ} {s : Faces} {row count more : ℕ} {r : Bool} → Coupling w s row count → row < s .rows
     → r ≡ coupledOf (patternAt w s) row → r ≡ false → more ≡ count → Coupling w s (row + 1) more
 coupling-no {w} {s} {row} {count} {more} {r} c h is t e = record {
@@ -121,6 +124,7 @@ coupling-no {w} {s} {row} {count} {more} {r} c h is t e = record {
   counted = e ∙ c .counted ∙ rw (add-one row) (sym (many-step (coupledOf (patternAt w s)) row ∙ rw (sym is ∙ t) (omega arith)));
 }
 
+-- After the last row all are counted.
 pub coupling-done : {w : List ℕ} {s : Faces} {row count : ℕ} → Coupling w s row count → s .rows ≤ row → CoupledCount w s count
 unfolding coupledCountOf
 coupling-done {w} {s} {row} c h =
@@ -136,6 +140,7 @@ pub record Listing (F G : List ℕ) (s : Faces) (to row count : ℕ) : Type 0 wh
   pub reach : row ≤ s .rows
   pub picking : Picking (λ i. i) (coupledOf (patternAt F s)) to row count F G
 
+-- Before the first row.
 pub listing-start : {F : List ℕ} {s : Faces} {to : ℕ} → CoupledRowsOk F s to → Listing F F s to 0 0
 listing-start ok = record { ok = ok; reach = omega arith; picking = picking-start }
 
@@ -147,6 +152,7 @@ module _ {F G : List ℕ} {s : Faces} {to row count : ℕ} (l : Listing F G s to
   pub listing-size : length G ≡ length F
   listing-size = listing-kept .size
 
+  -- What `is_coupled` requires.
   pub listing-coupled : CoupledOk G s
   listing-coupled = coupled-on (l .ok .coupled) listing-kept
 
@@ -169,9 +175,11 @@ module _ {F G : List ℕ} {s : Faces} {to row count : ℕ} (l : Listing F G s to
               arith;
         }
 
+    -- A row more.
     pub listing-on : {H : List ℕ} {more : ℕ} → Pushed G H to count row r more → Listing F H s to (row + 1) more
     listing-on u = record { ok = l .ok; reach = omega arith; picking = picking-on (l .picking) u refl same }
 
+  -- After the last row all are listed.
   pub listing-done : s .rows ≤ row → CoupledRows F G s to
   unfolding coupledCountOf coupledRowsOf
   listing-done h =

@@ -28,6 +28,7 @@ pub record Searching (w : List ℕ) (columns lo hi column a b : ℕ) : Type 0 wh
   pub below : (e : ℕ) → lo ≤ e → e < a → idx w (columns + e) < column
   pub past : (e : ℕ) → b ≤ e → e < hi → column ≤ idx w (columns + e)
 
+-- At the start nothing has been looked at.
 pub searching-start : {w : List ℕ} {columns lo hi column : ℕ} → FindOk w columns lo hi → Searching w columns lo hi column lo hi
 searching-start ok = record {
   low = omega arith;
@@ -71,6 +72,7 @@ module _ {w : List ℕ} {columns lo hi column a b m x : ℕ} (ok : FindOk w colu
             (le-or-lt e m);
       }
 
+-- At the end a is the place.
 pub searching-done : {w : List ℕ} {columns lo hi column a b : ℕ} → Searching w columns lo hi column a b → b ≤ a → Found w columns lo hi
     column a
 searching-done {w} {columns} {lo} {hi} {column} {a} {b} s h =

@@ -27,6 +27,7 @@ pub record Seeking (w : List ℕ) (s : Faces) (e row end : ℕ) : Type 0 where
   pub near : row < s .rows
   pub ends : end ≡ idx (patternAt w s .offsets) (row + 1)
 
+-- At the start the row that is given ends there.
 pub seek-start : {w : List ℕ} {s : Faces} {e row end : ℕ} → SeekOk w s row e → end ≡ idx w (s .offsets + row + 1) → Seeking w s e row
     end
 seek-start {w} {s} {e} {row} {end} ok is = record

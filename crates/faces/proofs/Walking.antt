@@ -30,10 +30,12 @@ pub record Walking (F G : List ℕ) (s : Faces) (row e : ℕ) : Type 0 where
   pub reach : e ≤ s .entries
   pub behind : row ≤ rowOf (patternAt F s) e
 
+-- Before the first entry.
 walking-start : {F : List ℕ} {s : Faces} → Standing F s → Walking F F s 0 0
 walking-start stands = record { standing = stands; kept = kept-self; reach = omega arith; behind = omega arith }
 
 module _ {F G : List ℕ} {s : Faces} {row e : ℕ} (k : Walking F G s row e) (h : e < s .entries) where
+  -- What `row_from` requires of the next entry.
   pub walking-seek : SeekOk G s row e
   walking-seek = record {
     standing = standing-on (k .standing) (k .kept);
@@ -48,16 +50,20 @@ module _ {F G : List ℕ} {s : Faces} {row e : ℕ} (k : Walking F G s row e) (h
       (omega (arith, stands .columns, stands .inside), column-near stands e h)
 
   module _ {r column : ℕ} (sought : Sought G s e r) (is : column ≡ idx G (s .columns + e)) where
+    -- The row that was found.
     row-of : r ≡ rowOf (patternAt F s) e
     row-of = sought .row ∙ ap (λ (p : Pattern). rowOf p e) (pattern-kept (k .standing) (k .kept))
 
+    -- The column that was read.
     column-of : column ≡ columnOf (patternAt F s) e
     column-of = is ∙ column-at (standing-on (k .standing) (k .kept)) e h ∙ ap (λ (p : Pattern). columnOf p e)
         (pattern-kept (k .standing) (k .kept))
 
+    -- Whether the entry stands above the diagonal.
     test-of : ltb r column ≡ above (patternAt F s) e
     test-of = sym (above-is (patternAt F s) e r column (sym row-of) (sym column-of))
 
+    -- An entry more.
     walking-on : {H : List ℕ} → Kept (s .starts) F H → Walking F H s r (e + 1)
     walking-on kept = record {
       standing = k .standing;
@@ -67,9 +73,8 @@ module _ {F G : List ℕ} {s : Faces} {row e : ℕ} (k : Walking F G s row e) (h
     }
 
 -- A face before the last entry is not the last.
-face-room : {F : List ℕ} {s : Faces} {e face : ℕ} → Standing F s → s .faces ≡ facesOf (patternAt F s) → face ≡ howMany
-    (above (patternAt F s)) e
-    → e < s .entries → above (patternAt F s) e ≡ true → face < s .faces
+face-room : {F : List ℕ} {s : Faces} {e face : ℕ} → Standing F s → s .faces ≡ facesOf (patternAt F s)
+    → face ≡ howMany (above (patternAt F s)) e → e < s .entries → above (patternAt F s) e ≡ true → face < s .faces
 unfolding facesOf
 face-room {F} {s} {e} {face} stands all count h t =
     let size = size-at stands in
@@ -89,6 +94,7 @@ pub record Mirroring (F G : List ℕ) (s : Faces) (row face e : ℕ) : Type 0 wh
   pub passed : Passed (hasMirror (patternAt F s)) (s .entries) e
   pub picking : Picking (mirrorOf (patternAt F s)) (above (patternAt F s)) (s .lowers) e face F G
 
+-- Before the first entry.
 pub mirroring-start : {F : List ℕ} {s : Faces} → MirrorsOk F s → Mirroring F F s 0 0 0
 mirroring-start {F} {s} ok = record {
   ok = ok;
@@ -110,6 +116,7 @@ module _ {F G : List ℕ} {s : Faces} {row face e : ℕ} (m : Mirroring F G s ro
       let all = m .ok .count in
       omega arith
 
+  -- Only the mirrors' region has changed.
   mirrors-only : Wrote (s .lowers) (s .faces) (part (s .lowers) (s .faces) G) F G
   mirrors-only =
       let p = patternAt F s in
@@ -119,12 +126,14 @@ module _ {F G : List ℕ} {s : Faces} {row face e : ℕ} (m : Mirroring F G s ro
       wrote-only (s .lowers) (s .faces) (picked (mirrorOf p) (above p) e) F G (m .picking .is) (omega arith) (m .ok .room)
 
   module _ (h : e < s .entries) {r column : ℕ} (sought : Sought G s e r) (is : column ≡ idx G (s .columns + e)) where
+    -- What `mirror_at` requires of the next entry.
     pub mirroring-entry : MirrorOk G s r column e
     mirroring-entry =
         let o = ordered-on (m .ok .ordered) (m .walking .kept) in
         record { ordered = o; near = h; is = sought .row; stands = is ∙ column-at (o .standing) e h }
 
     module _ {mirror : ℕ} (at : Entry G s column r mirror) where
+      -- The answer of `mirror_at`, of the pattern at the start.
       at-first : Entry F s (columnOf (patternAt F s) e) (rowOf (patternAt F s) e) mirror
       at-first = rw (row-of (m .walking) h sought is, column-of (m .walking) h sought is) at
           (entry-back (m .ok .ordered .standing) (m .walking .kept) at)
@@ -144,6 +153,7 @@ module _ {F G : List ℕ} {s : Faces} {row face e : ℕ} (m : Mirroring F G s ro
             room = λ t. let f = face-room stands (m .ok .count) count h (sym (test-of (m .walking) h sought is) ∙ t) in omega arith;
           }
 
+      -- An entry with its mirror.
       pub mirroring-on : {H : List ℕ} {more : ℕ} → mirror < s .entries → Pushed G H (s .lowers) face mirror (ltb r column) more
           → Mirroring F H s r more (e + 1)
       mirroring-on {H} {more} l u =
@@ -168,6 +178,7 @@ module _ {F G : List ℕ} {s : Faces} {row face e : ℕ} (m : Mirroring F G s ro
             only = mirrors-only;
           }
 
+  -- After the last entry each has its mirror.
   pub mirroring-done : s .entries ≤ e → MirrorsDone F G s true
   unfolding mirroredOf lowersOf facesOf uppersOf picked
   mirroring-done h =
@@ -190,6 +201,7 @@ pub record Filling (F G : List ℕ) (s : Faces) (row face e : ℕ) : Type 0 wher
   pub columns : Picking (λ d. columnOf (patternAt F s) d) (above (patternAt F s)) (s .neighbors) e face F middle
   pub uppers : Picking (λ d. d) (above (patternAt F s)) (s .uppers) e face middle G
 
+-- Before the first entry.
 pub filling-start : {F : List ℕ} {s : Faces} → FillOk F s → Filling F F s 0 0 0
 filling-start {F} ok = record {
   ok = ok;
@@ -262,6 +274,7 @@ module _ {F G : List ℕ} {s : Faces} {row face e : ℕ} (f : Filling F G s row 
         let less = f .ok .standing .less in
         record { small = omega arith; less = few .0; room = λ t. let l = filling-near t in omega arith }
 
+    -- An entry more.
     pub filling-on : {I : List ℕ} {more : ℕ} → Pushed H I (s .uppers) face e (ltb r column) more → Filling F I s r more (e + 1)
     filling-on {I} {more} v =
         let up = picking-on uppers-over v refl (test-of (f .walking) h sought is) in
@@ -294,6 +307,7 @@ filled-uppers {F} {G} {s} {row} {face} {e} f h =
     let same : e ≡ entries (patternAt F s) = omega arith in
     rw picked-self at (picking-all (f .uppers) same (f .ok .count))
 
+-- After the last entry all faces are written.
 pub filling-done : {F G : List ℕ} {s : Faces} {row face e : ℕ} → Filling F G s row face e → s .entries ≤ e → Filled F G s
 filling-done {F} {G} {s} f h =
     let first = filled-columns f h in

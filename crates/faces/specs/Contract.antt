@@ -37,6 +37,7 @@ pub record Ordered (w : List ℕ) (s : Faces) : Type 0 where
 
 -- ---- face offsets
 
+-- The pattern, and room for the face offsets at `starts`.
 pub record OffsetsOk (w : List ℕ) (s : Faces) : Type 0 where
   pub standing : Standing w s
   pub room : s .starts + s .rows + 1 ≤ length w
@@ -48,6 +49,7 @@ pub record OffsetsDone (w z : List ℕ) (s : Faces) (r : ℕ) : Type 0 where
 
 -- ---- faces
 
+-- The pattern, with as many faces as the sizes say, and room for their columns, then for their entries.
 pub record FillOk (w : List ℕ) (s : Faces) : Type 0 where
   pub standing : Standing w s
   pub count : s .faces ≡ facesOf (patternAt w s)
@@ -64,6 +66,7 @@ pub record Filled (w z : List ℕ) (s : Faces) : Type 0 where
 
 -- ---- mirrors
 
+-- The pattern in order, with as many faces as the sizes say, and room for their mirrors.
 pub record MirrorsOk (w : List ℕ) (s : Faces) : Type 0 where
   pub ordered : Ordered w s
   pub count : s .faces ≡ facesOf (patternAt w s)
@@ -78,6 +81,7 @@ pub record MirrorsDone (w z : List ℕ) (s : Faces) (r : Bool) : Type 0 where
 
 -- ---- diagonal entries
 
+-- The pattern in order, and room for an entry of each row.
 pub record DiagonalsOk (w : List ℕ) (s : Faces) : Type 0 where
   pub ordered : Ordered w s
   pub below : s .starts ≤ s .diagonals
@@ -91,17 +95,21 @@ pub record DiagonalsDone (w z : List ℕ) (s : Faces) (level : ℕ) (r : Verdict
 
 -- ---- coupled rows
 
+-- The pattern in order, each row with its diagonal entry.
 pub record CoupledOk (w : List ℕ) (s : Faces) : Type 0 where
   pub ordered : Ordered w s
   pub diagonal : Diagonal (patternAt w s)
 
+-- r rows are coupled.
 pub record CoupledCount (w : List ℕ) (s : Faces) (r : ℕ) : Type 0 where
   pub count : r ≡ coupledCountOf (patternAt w s)
 
+-- The same, and room at `to` for the coupled rows.
 pub record CoupledRowsOk (w : List ℕ) (s : Faces) (to : ℕ) : Type 0 where
   pub coupled : CoupledOk w s
   pub below : s .starts ≤ to
   pub room : to + coupledCountOf (patternAt w s) ≤ length w
 
+-- The coupled rows at `to`.
 pub record CoupledRows (w z : List ℕ) (s : Faces) (to : ℕ) : Type 0 where
   pub wrote : Wrote to (coupledCountOf (patternAt w s)) (coupledRowsOf (patternAt w s)) w z

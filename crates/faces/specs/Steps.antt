@@ -31,13 +31,13 @@ pub record SeekOk (w : List ℕ) (s : Faces) (from e : ℕ) : Type 0 where
 pub record Sought (w : List ℕ) (s : Faces) (e r : ℕ) : Type 0 where
   pub row : r ≡ rowOf (patternAt w s) e
 
--- If it is wanted, v has room at place k of the list at `to`.
+-- If v is wanted, there is room for it behind the k words at `to`.
 pub record PushOk (size to k v : ℕ) (wanted : Bool) : Type 0 where
   pub small : v ≤ 1048576
   pub less : k ≤ 1048576
   pub room : wanted ≡ true → to + k < size
 
--- It is pushed, and there are r words then.
+-- If v is wanted, it stands there; r words are there then.
 pub record Pushed (w z : List ℕ) (to k v : ℕ) (wanted : Bool) (r : ℕ) : Type 0 where
   pub next : r ≡ k + cond wanted 1 0
   pub is : z ≡ cond wanted (set w (to + k) v) w

@@ -78,7 +78,7 @@ fn row_from(w: &[u32], s: Faces, from: usize, e: usize) -> usize
     row
 }
 
-// v as the last of the k words at `to`, if it is wanted; how many there are then.
+// v behind the k words at `to`, if it is wanted; how many words there are then.
 fn push_if(w: &mut [u32], to: usize, k: usize, v: usize, wanted: bool) -> usize
     requires { ⌜ PushOk (length (now w)) to k v wanted ⌝ }
     ensures { λ r. ⌜ Pushed (now (w .entry)) (now (w .exit)) to k v wanted r ⌝ }
