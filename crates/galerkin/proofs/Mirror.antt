@@ -24,7 +24,7 @@ module _ (p : Pattern) (valid : Valid p) (rising : Rising p) where
       row-is valid (rowOf p f) e (v .0) (omega arith) (omega arith)
 
   -- Within a row columns rise.
-  column-rises : (n d f : ℕ) → f ≡ d + suc n → f < entries p → rowOf p d ≡ rowOf p f → columnOf p d < columnOf p f
+  pub column-rises : (n d f : ℕ) → f ≡ d + suc n → f < entries p → rowOf p d ≡ rowOf p f → columnOf p d < columnOf p f
   column-rises zero d f is h same = let q : f ≡ d + 1 = omega arith in rw q (rising .rising d (omega arith) (rw q at same))
   column-rises (suc n) d f is h same =
       let e = d + suc n in

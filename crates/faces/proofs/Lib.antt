@@ -1,0 +1,10 @@
+pub mod Pick
+pub mod Entries
+pub mod Standing
+pub mod Counting
+pub mod Seeking
+pub mod Finding
+pub mod Coupling
+pub mod Asking
+pub mod Walking
+pub mod Laws

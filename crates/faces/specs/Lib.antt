@@ -1,0 +1,3 @@
+pub mod Faces
+pub mod Contract
+pub mod Steps
