@@ -1,5 +1,5 @@
 // smoother.rs: one Gauss-Seidel sweep and one DIC sweep over regions of the store.
-ghost use Prim.Native.Nat.{_+_, _<_, _≤_};
+ghost use Prim.Native.Nat.{_+_, _<_};
 ghost use lib.ListN.{length};
 ghost use Rattle.float.specs.Float.{add64, sub64};
 ghost use Rattle.store.specs.Region.{part};
