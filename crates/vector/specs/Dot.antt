@@ -9,6 +9,7 @@ use Rattle.store.specs.Loop.{for}
 use Rattle.store.specs.Region.{at}
 use Rattle.store.specs.Vector.{each}
 use Rattle.vector.specs.declared.Product.{Product}
+use Rattle.vector.specs.declared.Sums.{Sums}
 use Rattle.vector.specs.declared.Product.the-variants.{Finite, NotFinite}
 
 -- one product more
@@ -18,6 +19,10 @@ termOf u v k sum = add64 sum (mul64 (at u k) (at v k))
 -- `chunk`: the products from lo to hi, added up from −0
 unfoldable pub blockOf : List Float → List Float → ℕ → ℕ → Float
 blockOf u v lo hi = for (termOf u v) lo hi negZero
+
+-- the block from lo on and the next
+abbrev pub blocksOf : List Float → List Float → ℕ → Sums
+blocksOf u v lo = record { first = blockOf u v lo (lo + 1024); second = blockOf u v (lo + 1024) (lo + 2048) }
 
 -- block i more: 1,024 products, or what is left of the n
 unfoldable pub blockTurn : ℕ → List Float → List Float → ℕ → Float → Float

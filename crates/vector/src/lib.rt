@@ -1,9 +1,11 @@
 // vector.rs: dot product and norm over regions of the store, and its finiteness tests.
 ghost use mathlib.Core.Path.{_≡_};
-ghost use Prim.Native.Nat.{_+_, _≤_, min};
+ghost use Prim.Native.Nat.{_+_, _*_, _≤_, min};
 ghost use lib.ListN.{length};
 ghost use Rattle.store.specs.Region.{part};
-ghost use Rattle.vector.specs.Dot.{blockOf, dotOf, productOf, normOf, allFinite};
+ghost use Rattle.float.specs.Float.{negZero};
+ghost use Rattle.store.specs.Loop.{for};
+ghost use Rattle.vector.specs.Dot.{blockOf, blocksOf, blockTurn, dotOf, productOf, normOf, allFinite};
 
 // What a reduction gives: the source's `Ok(value)`, or its refusal of a value that is not finite.
 pub enum Product {
@@ -44,6 +46,53 @@ fn least(a: usize, b: usize) -> usize
     if a < b { a } else { b }
 }
 
+// Two block sums.
+struct Sums {
+    first: f64,
+    second: f64,
+}
+
+// The block from lo on and the next, side by side: each sum is a chain of additions, and neither waits for the other.
+fn dot_blocks(f: &[f64], a: usize, b: usize, n: usize, lo: usize) -> Sums
+    requires { ⌜ a + n ≤ length (now f) ⌝ }
+    requires { ⌜ b + n ≤ length (now f) ⌝ }
+    requires { ⌜ lo + 2048 ≤ n ⌝ }
+    ensures { λ r. ⌜ r ≡ blocksOf (part a n (now (f .entry))) (part b n (now (f .entry))) lo ⌝ }
+{
+    let hi = lo + 1024;
+    let mut first = -0.0;
+    let mut second = -0.0;
+    let mut k = lo;
+    let mut l = hi;
+    while k < hi {
+        first = first + f[a + k] * f[b + k];
+        second = second + f[a + l] * f[b + l];
+        k += 1;
+        l += 1;
+    }
+    Sums {
+        first: first,
+        second: second,
+    }
+}
+
+// The sums of the first 2 * pairs blocks, which are full, added up.
+fn dot_pairs(f: &[f64], a: usize, b: usize, n: usize, pairs: usize) -> f64
+    requires { ⌜ a + n ≤ length (now f) ⌝ }
+    requires { ⌜ b + n ≤ length (now f) ⌝ }
+    requires { ⌜ 2048 * pairs ≤ n ⌝ }
+    ensures { λ r. ⌜ r ≡ for (blockTurn n (part a n (now (f .entry))) (part b n (now (f .entry)))) 0 (2 * pairs) negZero ⌝ }
+{
+    let mut sum = -0.0;
+    let mut p = 0;
+    while p < pairs {
+        let sums = dot_blocks(f, a, b, n, 2048 * p);
+        sum = sum + sums.first + sums.second;
+        p += 1;
+    }
+    sum
+}
+
 // The block sums, added up.
 fn dot_sum(f: &[f64], a: usize, b: usize, n: usize) -> f64
     requires { ⌜ a + n ≤ length (now f) ⌝ }
@@ -51,8 +100,9 @@ fn dot_sum(f: &[f64], a: usize, b: usize, n: usize) -> f64
     ensures { λ r. ⌜ r ≡ dotOf n (part a n (now (f .entry))) (part b n (now (f .entry))) ⌝ }
 {
     let blocks = (n + 1023) / 1024;
-    let mut sum = -0.0;
-    let mut i = 0;
+    let pairs = n / 2048;
+    let mut sum = dot_pairs(f, a, b, n, pairs);
+    let mut i = 2 * pairs;
     while i < blocks {
         let lo = i * 1024;
         let hi = least(lo + 1024, n);

@@ -3,22 +3,26 @@
 use Prim.Native.Nat.{_-_}
 use native.Mathlib.Omega.{arith}
 use borrow.Author.Needs.{needs}
-use Rattle.store.proofs.Loop.{Left, left-start, left-on, left-end}
+use Rattle.store.proofs.Loop.{Left, left-on, left-end}
 use Rattle.store.specs.Region.{part}
 use Rattle.vector.specs.Dot.{blockTurn, dotOf}
-use Rattle.vector.proofs.Laws.{block-on}
+use Rattle.vector.proofs.Laws.{block-on, pairs-left}
 use Rattle.vector.proofs.dot_sum.Statement.{statement}
 use Rattle.vector.proofs.dot_sum.Tie as tie
+use Rattle.vector.proofs.dot_sum.Reads as reads
+use Rattle.vector.proofs.dot_sum.Lts as lts
+use Rattle.vector.proofs.dot_block.Reads as dot-block-reads
+use Rattle.vector.proofs.dot_pairs.Reads as dot-pairs-reads
+use Rattle.vector.proofs.least.Reads as least-reads
 
 abbrev Inv-loop : tie.InvT-loop
-Inv-loop f a b n blocks sum₀ i₀ sum i = Left (blockTurn n (part a n f) (part b n f)) i blocks sum (dotOf n (part a n f) (part b n f))
+Inv-loop f a b n blocks pairs sum₀ i₀ sum i = Left (blockTurn n (part a n f) (part b n f)) i blocks sum (dotOf n (part a n f) (part b n f))
 
 abbrev μ-loop : tie.MeasureT-loop
-μ-loop f a b n blocks sum₀ i₀ sum i = blocks - i
+μ-loop f a b n blocks pairs sum₀ i₀ sum i = blocks - i
 
 loop-holds : tie.Need-loop-holds Inv-loop μ-loop
-unfolding dotOf
-loop-holds c = left-start
+loop-holds c = pairs-left _ _ _ _ (omega arith) (c .dot-pairs .ensures)
 
 loop-again : tie.Need-loop-again Inv-loop μ-loop
 loop-again c = search (left-on, block-on, needs)
@@ -33,11 +37,13 @@ dot-sum-spec =
     Inv-loop
     μ-loop
     (λ c. omega arith)
+    (λ c κs. omega arith)
+    (λ c. omega arith)
     loop-holds
     (λ c. omega arith)
     (λ c. omega arith)
-    (λ c κs. search needs)
-    (λ c κs. search needs)
+    (λ c κs. omega arith)
+    (λ c κs. omega arith)
     (λ c. omega arith)
     (λ c. omega arith)
     loop-again
