@@ -1,0 +1,4 @@
+pub mod Regions
+pub mod Coupling
+pub mod Forming
+pub mod Stepping

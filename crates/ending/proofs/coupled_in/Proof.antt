@@ -1,0 +1,15 @@
+-- `ending::coupled_in` meets its contract.
+-- Assumes nothing.
+use Rattle.ending.proofs.Words.{count-ready, count-is}
+use borrow.Author.Needs.{needs}
+use Rattle.ending.proofs.coupled_in.Statement.{statement}
+use Rattle.ending.proofs.coupled_in.Tie as tie
+
+coupled-count-requires : tie.Need-coupled-count-requires
+coupled-count-requires c κs = count-ready (c .before .before .pre) (c .faces-in .ensures)
+
+returns : tie.Need-returns
+returns c = count-is (c .coupled-count .ensures) (c .before .faces-in .ensures)
+
+pub coupled-in-spec : {M : Type 1} → statement M
+coupled-in-spec = tie.close (tie.spec (λ c κs. search needs) coupled-count-requires returns)

@@ -1,0 +1,19 @@
+-- `ending::mark` meets its contract.
+-- Assumes nothing.
+use native.Mathlib.Omega.{arith}
+use lib.ListN.{length-set}
+use Rattle.ending.proofs.Words.{mark-done}
+use borrow.Author.Needs.{needs}
+use Rattle.ending.proofs.mark.Statement.{statement}
+use Rattle.ending.proofs.mark.Tie as tie
+
+slice-write-w-2 : tie.Need-slice-write-w-2
+slice-write-w-2 c = simp length-set (omega arith)
+
+returns : tie.Need-returns
+returns c = mark-done _ _ _
+
+pub mark-spec : {M : Type 1} → statement M
+mark-spec =
+    tie.close
+    (tie.spec (λ c. search needs) (λ c. search needs) (λ c. search needs) (λ c. search needs) (λ c. search needs) (λ c. search needs) slice-write-w-2 (λ c. search needs) returns)

@@ -1,0 +1,227 @@
+-- `build` of hierarchy.rs over lists and numbers, with questions 1 to 18 in the order of the Rust. Definitions only.
+use mathlib.Core.Bool.{Bool, true, false, not, cond, _&&_, _||_}
+use mathlib.Core.List.{List, [], _∷_}
+use Prim.Native.Nat.{ℕ, zero, suc, _+_, _-_, _*_, _%_}
+use lib.Dec.{eqb, leb}
+use lib.ListN.{length}
+use lib.Ieee.{Float}
+use Rattle.store.specs.Region.{idx}
+use Rattle.options.specs.declared.MultigridOptions.{MultigridOptions}
+use Rattle.refusal.specs.declared.Refusal.{Refusal}
+use Rattle.options.specs.Options.{controlsAsked}
+use Rattle.refusal.specs.Outcome.{Outcome, accepted, refused, passed, ask, _>>=_, _>>_}
+use Rattle.vector.specs.Dot.{allFinite}
+use Rattle.values.specs.Update.{Coefficients, updateOf}
+use Rattle.values.specs.Mirrors.{mirrorsEqual}
+use Rattle.aggregation.specs.Pairs.{Pairing, weighted, strengthsOf, pairsOf}
+use Rattle.pattern.specs.Pattern.{Pattern, entries, coarse, coarsePositions, composeOf}
+use Rattle.galerkin.specs.Values.{galerkinOf, restrictWeightsOf}
+use Rattle.faces.specs.Faces.{facesOf, faceOffsetsOf, neighborsOf, uppersOf, lowersOf, mirroredOf, diagonalsOf, diagonalsAsked, coupledCountOf, coupledRowsOf}
+use Rattle.csr.specs.Questions.{matrixAsked, weightsAsked}
+use Rattle.hierarchy.specs.Level.{Shape, Numbers, Level, Hierarchy}
+use Rattle.hierarchy.specs.Refresh.{coefficientsOf, innerNumbers, lastNumbers, withSums}
+
+-- ---- question 9
+
+-- so many u32 words and f64 words
+pub record Charge : Type 0 where
+  pub words : ℕ
+  pub floats : ℕ
+
+-- the fixed charge, of the finest matrix
+abbrev pub fixedCharge : MultigridOptions → ℕ → ℕ → Charge
+fixedCharge o rows entries = record {
+  words = 16 * rows + 12 * entries + 64;
+  floats = (12 + 2 * o .«krylov_dimension») * rows + 8 * entries + o .«coarsest_cells» * o .«coarsest_cells»;
+}
+
+-- the charge so far and that of a level more
+abbrev pub andLevel : Pattern → Charge → Charge
+andLevel p c = record {
+  words = c .words + (5 * p .rows + 4 * entries p + 8);
+  floats = c .floats + (20 * p .rows + 4 * entries p);
+}
+
+-- whether stores of those sizes hold a charge
+abbrev pub holds : Charge → Charge → Bool
+holds stores c = leb (c .words) (stores .words) && leb (c .floats) (stores .floats)
+
+-- ---- shapes
+
+-- the shape of a matrix of pattern p that leads to `links` and `positions`
+abbrev pub shapeOf : Pattern → Bool → List ℕ → List ℕ → Shape
+shapeOf p terminal links positions = record {
+  pattern = p;
+  starts = faceOffsetsOf p;
+  neighbors = neighborsOf p;
+  uppers = uppersOf p;
+  lowers = lowersOf p;
+  diagonals = diagonalsOf p;
+  terminal = terminal;
+  links = links;
+  positions = positions;
+}
+
+-- of the last level
+abbrev pub lastShape : Pattern → Shape
+lastShape p = shapeOf p true (coupledRowsOf p) []
+
+-- of a level with the aggregates `map`, of which there are `count`
+abbrev pub innerShape : Pattern → List ℕ → ℕ → Shape
+innerShape p map count = shapeOf p false map (coarsePositions p map count)
+
+-- ---- matrices of the build
+
+-- a matrix and the weight of each entry, which nobody reads where no weights are given
+pub record Mesh : Type 0 where
+  pub pattern : Pattern
+  pub values : List Float
+  pub weights : List Float
+
+-- the matrix that merged steps made last, the aggregate in it of each row of the level, and the pairings made so far
+pub record Merged : Type 0 where
+  pub mesh : Mesh
+  pub map : List ℕ
+  pub stage : ℕ
+
+abbrev pub merged : Mesh → List ℕ → ℕ → Merged
+merged m map stage = record { mesh = m; map = map; stage = stage }
+
+-- whether n is even
+abbrev pub even : ℕ → Bool
+even n = eqb (n % 2) 0
+
+-- questions 12 and 13 of a matrix
+abbrev pub kernelAsked : ℕ → Mesh → Outcome Coefficients
+kernelAsked level m = updateOf level (m .pattern .rows) (diagonalsOf (m .pattern)) (uppersOf (m .pattern)) (m .values)
+
+module _ (given : Bool) where
+  -- `pairs` of a matrix by its weights, or by its values where none are given; upward at even stages
+  abbrev pub paired : ℕ → Mesh → Pairing
+  paired stage m =
+      let p = m .pattern in
+      pairsOf (weighted (p .rows) (p .offsets) (p .columns) (strengthsOf (not given) (cond given (m .weights) (m .values)))) (even stage)
+
+  -- `galerkin` and `restrict_weights`: the matrix of the aggregates
+  abbrev pub coarsened : Mesh → List ℕ → ℕ → Mesh
+  coarsened m map count =
+      let p = m .pattern in
+      let q = coarse p map count in
+      let at = coarsePositions p map count in
+      record {
+        pattern = q;
+        values = galerkinOf (entries q) (entries p) at (m .values) (facesOf q) (uppersOf q) (lowersOf q);
+        weights = cond given (restrictWeightsOf (entries q) (entries p) at (m .weights) count (q .offsets) (q .columns)) [];
+      }
+
+  -- the same with question 18
+  abbrev pub coarsenedAsked : Mesh → List ℕ → ℕ → Outcome Mesh
+  coarsenedAsked m map count =
+      let c = coarsened m map count in
+      ask (allFinite (entries (c .pattern)) (c .values)) Refusal.BadCoarseValue (accepted c)
+
+module _ (o : MultigridOptions) where
+  -- whether few enough rows are coupled for the last level
+  abbrev pub fewCoupled : Pattern → Bool
+  fewCoupled p = leb (coupledCountOf p) (o .«coarsest_cells»)
+
+  -- whether a level is the last by its pattern alone, with so many more allowed
+  abbrev pub endsAt : ℕ → Pattern → Bool
+  endsAt more p = fewCoupled p || eqb (facesOf p) 0 || eqb more 0
+
+  -- the last level: question 14, then 15
+  abbrev pub lastLevel : ℕ → Mesh → Coefficients → Outcome (List Level)
+  lastLevel level m c = do
+    ask (fewCoupled (m .pattern)) Refusal.TooManyCoupled
+    n ← lastNumbers o level (lastShape (m .pattern)) (m .values) c
+    accepted (record { shape = lastShape (m .pattern); numbers = n } ∷ [])
+
+module _ (o : MultigridOptions) (given : Bool) where
+  -- ---- merged steps
+
+  -- a pairing g of the matrix made last: where it joins nothing the steps end, else they go on with the coarser matrix (18)
+  abbrev pub joinedStep : (Merged → Outcome Merged) → Merged → Pairing → Outcome Merged
+  joinedStep further s g =
+      cond (eqb (g .count) (s .mesh .pattern .rows)) (accepted (merged (s .mesh) (s .map) (s .stage + 1)))
+      (do
+        next ← coarsenedAsked given (s .mesh) (g .map) (g .count)
+        further (merged next (composeOf (length (s .map)) (s .map) (g .map)) (s .stage + 1)))
+
+  -- one merged step, at the level being formed: the matrix's kernel (12 and 13), and a pairing unless few rows are coupled
+  abbrev pub mergeStep : (Merged → Outcome Merged) → ℕ → Merged → Outcome Merged
+  mergeStep further level s = do
+    _ ← kernelAsked level (s .mesh)
+    cond (fewCoupled o (s .mesh .pattern)) (accepted s) (joinedStep further s (paired given (s .stage) (s .mesh)))
+
+  -- so many merged steps at most
+  unfoldable pub mergeOf : ℕ → ℕ → Merged → Outcome Merged
+  mergeOf zero level s = accepted s
+  mergeOf (suc steps) level s = mergeStep (mergeOf steps level) level s
+
+  -- ---- levels
+
+  -- a level with aggregates: 16 and 17, 18 of the first coarse matrix, the merged steps, and 18 of the matrix that is summed afresh
+  -- from the level by the composed map; then 9 of the next level, and the levels from there
+  abbrev pub innerLevel : (ℕ → Charge → Mesh → Outcome (List Level)) → Charge → ℕ → ℕ → Charge → Mesh → Coefficients → Pairing → Outcome (List Level)
+  innerLevel deeper stores level stage used m c g = do
+    n ← innerNumbers o level (innerShape (m .pattern) (g .map) (g .count)) (m .values) c
+    first ← coarsenedAsked given m (g .map) (g .count)
+    s ← mergeOf (o .«merge_levels» - 1) (level + 1) (merged first (g .map) (stage + 1))
+    next ← coarsenedAsked given m (s .map) (s .mesh .pattern .rows)
+    ask (holds stores (andLevel (next .pattern) used)) Refusal.StoreTooSmall
+    levels ← deeper (s .stage) (andLevel (next .pattern) used) (record { pattern = next .pattern; values = next .values; weights = s .mesh .weights })
+    accepted (record { shape = innerShape (m .pattern) (s .map) (s .mesh .pattern .rows); numbers = n } ∷ levels)
+
+  -- a level whose charge is paid: 11, 12 and 13; then it is the last, or it is paired, and the last if that joins nothing
+  abbrev pub levelStep : (ℕ → Charge → Mesh → Outcome (List Level)) → Charge → ℕ → ℕ → ℕ → Charge → Mesh → Outcome (List Level)
+  levelStep deeper stores more level stage used m = do
+    _ ← diagonalsAsked level (m .pattern)
+    c ← kernelAsked level m
+    cond (endsAt o more (m .pattern)) (lastLevel o level m c)
+        (let g = paired given stage m in
+        cond (eqb (g .count) (m .pattern .rows)) (lastLevel o level m c) (innerLevel deeper stores level stage used m c g))
+
+  -- the levels from `level` on, so many more than one at most
+  unfoldable pub growOf : Charge → ℕ → ℕ → ℕ → Charge → Mesh → Outcome (List Level)
+  growOf stores zero level stage used m = levelStep (λ _ _ _. accepted []) stores 0 level stage used m
+  growOf stores (suc more) level stage used m = levelStep (growOf stores more (level + 1)) stores (suc more) level stage used m
+
+-- ---- the build
+
+-- what is lent: so many words, floats and records of statistics
+pub record Lent : Type 0 where
+  pub stores : Charge
+  pub records : ℕ
+
+-- the arguments of `new` and `new_with_face_weights`
+pub record Input : Type 0 where
+  pub rows : ℕ
+  pub offsets : List ℕ
+  pub columns : List ℕ
+  pub values : List Float
+  pub given : Bool
+  pub weights : List Float
+  pub options : MultigridOptions
+
+abbrev pub patternIn : Input → Pattern
+patternIn x = record { rows = x .rows; offsets = x .offsets; columns = x .columns }
+
+-- question 10: each entry has its mirror, both finite and equal as numbers
+unfoldable pub symmetricOf : Pattern → List Float → Bool
+symmetricOf p values = mirroredOf p && mirrorsEqual (facesOf p) (uppersOf p) (lowersOf p) values
+
+-- the build: a hierarchy, or the first refusal
+unfoldable pub buildOf : Lent → Input → Outcome Hierarchy
+buildOf l x = do
+  let p = patternIn x
+  let o = x .options
+  let fixed = fixedCharge o (x .rows) (entries p)
+  _ ← matrixAsked (x .rows) (x .offsets) (x .columns) (x .values)
+  _ ← cond (x .given) (weightsAsked (entries p) (x .weights)) passed
+  _ ← controlsAsked o
+  ask (leb 1 (x .rows)) Refusal.NoRows
+  ask (holds (l .stores) fixed && leb (o .«max_levels») (l .records)) Refusal.StoreTooSmall
+  ask (holds (l .stores) (andLevel p fixed)) Refusal.StoreTooSmall
+  ask (symmetricOf p (x .values)) Refusal.UnequalMirrors
+  levels ← growOf o (x .given) (l .stores) (o .«max_levels» - 1) 0 0 (andLevel p fixed) (record { pattern = p; values = x .values; weights = x .weights })
+  accepted (withSums o levels)

@@ -1,0 +1,101 @@
+-- The numbers of a hierarchy from its shapes and the finest values: `update` of hierarchy.rs, level by level. Definitions only.
+use mathlib.Core.Bool.{Bool, true, false, cond}
+use mathlib.Core.List.{List, [], _∷_}
+use Prim.Native.Nat.{ℕ, _+_}
+use lib.ListN.{length}
+use lib.Ieee.{Float}
+use Rattle.float.specs.Float.{zero64}
+use Rattle.store.specs.Vector.{filled}
+use Rattle.options.specs.declared.MultigridOptions.{MultigridOptions}
+use Rattle.options.specs.declared.MultigridSmoother.{MultigridSmoother}
+use Rattle.options.specs.declared.MultigridResidualNorm.{MultigridResidualNorm}
+use Rattle.refusal.specs.declared.Refusal.{Refusal}
+use Rattle.refusal.specs.Outcome.{Outcome, accepted, ask, _>>=_, _>>_}
+use Rattle.vector.specs.Dot.{allFinite}
+use Rattle.matrix.specs.Kernel.{Kernel, rowSumsOf}
+use Rattle.values.specs.Update.{Coefficients, updateOf}
+use Rattle.dic.specs.Dic.{dicOf}
+use Rattle.cholesky.specs.Factor.{choleskyOf}
+use Rattle.pattern.specs.Pattern.{Pattern, entries}
+use Rattle.galerkin.specs.Values.{galerkinOf}
+use Rattle.hierarchy.specs.Level.{Shape, Numbers, Level, Hierarchy, kernelOf, csrOf}
+
+-- whether the smoother needs DIC data
+abbrev pub needsDic : MultigridSmoother → Bool
+needsDic MultigridSmoother.GaussSeidel = false
+needsDic MultigridSmoother.SymmetricGaussSeidel = false
+needsDic MultigridSmoother.DicGaussSeidel = true
+
+-- whether the norm needs row sums
+abbrev pub needsSums : MultigridResidualNorm → Bool
+needsSums MultigridResidualNorm.AbsoluteL2 = false
+needsSums MultigridResidualNorm.NormalizedL1 = true
+
+module _ (o : MultigridOptions) where
+  -- questions 12 and 13 of a level, and its coefficients
+  abbrev pub coefficientsOf : ℕ → Shape → List Float → Outcome Coefficients
+  coefficientsOf level s values = updateOf level (s .pattern .rows) (s .diagonals) (s .uppers) values
+
+  -- the DIC data of a level that is not the last: questions 16 and 17
+  abbrev pub smootherOf : ℕ → Kernel → Outcome (List Float)
+  smootherOf level k = cond (needsDic (o .smoother)) (dicOf level k) (accepted (filled (k .rows) zero64))
+
+  -- the numbers of a level that is not the last, once its coefficients are there
+  abbrev pub innerNumbers : ℕ → Shape → List Float → Coefficients → Outcome Numbers
+  innerNumbers level s values c = do
+    dic ← smootherOf level (kernelOf s (c .diagonal) (c .inverse) (c .coefficients))
+    accepted (record {
+      values = values;
+      coefficients = c .coefficients;
+      diagonal = c .diagonal;
+      inverse = c .inverse;
+      dic = dic;
+      factor = [];
+    })
+
+  -- those of the last level: question 15
+  abbrev pub lastNumbers : ℕ → Shape → List Float → Coefficients → Outcome Numbers
+  lastNumbers level s values c = do
+    factor ← choleskyOf level (csrOf s values) (length (s .links)) (s .links)
+    accepted (record {
+      values = values;
+      coefficients = c .coefficients;
+      diagonal = c .diagonal;
+      inverse = c .inverse;
+      dic = filled (s .pattern .rows) zero64;
+      factor = factor;
+    })
+
+  -- the numbers of a level: 12 and 13, then 15, or 16 and 17
+  abbrev pub numbersOf : ℕ → Shape → List Float → Outcome Numbers
+  numbersOf level s values = do
+    c ← coefficientsOf level s values
+    cond (s .terminal) (lastNumbers level s values c) (innerNumbers level s values c)
+
+  -- the values of the next level, of shape t: the sums by position, then half plus half
+  abbrev pub coarseValues : Shape → Shape → List Float → List Float
+  coarseValues s t values =
+      galerkinOf (entries (t .pattern)) (entries (s .pattern)) (s .positions) values (length (t .uppers)) (t .uppers) (t .lowers)
+
+  -- the levels of the shapes from `level` on, from the values of the first: question 18 of the next level's values before its 12
+  unfoldable pub refreshOf : ℕ → List Shape → List Float → Outcome (List Level)
+  refreshOf level [] values = accepted []
+  refreshOf level (s ∷ []) values = do
+    n ← numbersOf level s values
+    accepted (record { shape = s; numbers = n } ∷ [])
+  refreshOf level (s ∷ t ∷ rest) values = do
+    n ← numbersOf level s values
+    ask (allFinite (entries (t .pattern)) (coarseValues s t values)) Refusal.BadCoarseValue
+    deeper ← refreshOf (level + 1) (t ∷ rest) (coarseValues s t values)
+    accepted (record { shape = s; numbers = n } ∷ deeper)
+
+  -- the row sums of a level, if the norm needs them
+  abbrev pub sumsOf : Level → List Float
+  sumsOf l =
+      let k = kernelOf (l .shape) (l .numbers .diagonal) (l .numbers .inverse) (l .numbers .coefficients) in
+      cond (needsSums (o .«residual_norm»)) (rowSumsOf k) (filled (k .rows) zero64)
+
+  -- levels with the row sums of the finest
+  unfoldable pub withSums : List Level → Hierarchy
+  withSums [] = record { levels = []; sums = [] }
+  withSums (l ∷ rest) = record { levels = l ∷ rest; sums = sumsOf l }

@@ -1,0 +1,85 @@
+-- The shapes of a build with face weights: what `build` does to patterns and weights alone. No coefficient is read.
+-- Definitions only.
+use mathlib.Core.Bool.{Bool, cond}
+use mathlib.Core.List.{List, [], _∷_}
+use Prim.Native.Nat.{ℕ, zero, suc, _+_, _-_}
+use lib.Dec.{eqb}
+use lib.ListN.{length}
+use lib.Ieee.{Float}
+use Rattle.options.specs.declared.MultigridOptions.{MultigridOptions}
+use Rattle.aggregation.specs.Pairs.{Pairing, weighted, pairsOf}
+use Rattle.pattern.specs.Pattern.{Pattern, entries, coarse, coarsePositions, composeOf}
+use Rattle.galerkin.specs.Values.{restrictWeightsOf}
+use Rattle.hierarchy.specs.Level.{Shape}
+use Rattle.hierarchy.specs.Build.{lastShape, innerShape, even, fewCoupled, endsAt, Input, patternIn}
+
+-- a pattern with the weight of each entry
+pub record Weights : Type 0 where
+  pub pattern : Pattern
+  pub weights : List Float
+
+-- what merged steps have made: the coarse pattern with its weights, the aggregate in it of each row of the level, the pairings
+pub record Traced : Type 0 where
+  pub mesh : Weights
+  pub map : List ℕ
+  pub stage : ℕ
+
+-- `pairs` by weights
+abbrev pub pairedBy : ℕ → Weights → Pairing
+pairedBy stage m = pairsOf (weighted (m .pattern .rows) (m .pattern .offsets) (m .pattern .columns) (m .weights)) (even stage)
+
+-- the coarse pattern and its weights
+abbrev pub coarseWeights : Weights → List ℕ → ℕ → Weights
+coarseWeights m map count =
+    let p = m .pattern in
+    let q = coarse p map count in
+    record {
+      pattern = q;
+      weights = restrictWeightsOf (entries q) (entries p) (coarsePositions p map count) (m .weights) count (q .offsets) (q .columns);
+    }
+
+module _ (o : MultigridOptions) where
+  -- a pairing g of the pattern made last
+  abbrev pub traceJoined : (Traced → Traced) → Traced → Pairing → Traced
+  traceJoined further s g =
+      cond (eqb (g .count) (s .mesh .pattern .rows)) (record { mesh = s .mesh; map = s .map; stage = s .stage + 1 })
+      (further (record {
+        mesh = coarseWeights (s .mesh) (g .map) (g .count);
+        map = composeOf (length (s .map)) (s .map) (g .map);
+        stage = s .stage + 1;
+      }))
+
+  -- so many merged steps at most
+  unfoldable pub traceOf : ℕ → Traced → Traced
+  traceOf zero s = s
+  traceOf (suc steps) s =
+      cond (fewCoupled o (s .mesh .pattern)) s (traceJoined (traceOf steps) s (pairedBy (s .stage) (s .mesh)))
+
+  -- the merged steps of a level with the pairing g
+  abbrev pub tracedFrom : ℕ → Weights → Pairing → Traced
+  tracedFrom stage m g =
+      traceOf (o .«merge_levels» - 1) (record { mesh = coarseWeights m (g .map) (g .count); map = g .map; stage = stage + 1 })
+
+  -- a level that pairs into s, and the shapes from the next level on
+  abbrev pub shapeStep : (ℕ → Weights → List Shape) → Weights → Traced → List Shape
+  shapeStep deeper m s =
+      let count = s .mesh .pattern .rows in
+      innerShape (m .pattern) (s .map) count
+      ∷ deeper (s .stage) (record { pattern = coarse (m .pattern) (s .map) count; weights = s .mesh .weights })
+
+  -- a level, and the shapes from the next level on
+  abbrev pub shapesStep : (ℕ → Weights → List Shape) → ℕ → ℕ → Weights → List Shape
+  shapesStep deeper more stage m =
+      cond (endsAt o more (m .pattern)) (lastShape (m .pattern) ∷ [])
+      (let g = pairedBy stage m in
+      cond (eqb (g .count) (m .pattern .rows)) (lastShape (m .pattern) ∷ []) (shapeStep deeper m (tracedFrom stage m g)))
+
+  -- the shapes from a pattern on, so many more than one at most
+  unfoldable pub shapesOf : ℕ → ℕ → Weights → List Shape
+  shapesOf zero stage m = shapesStep (λ _ _. []) 0 stage m
+  shapesOf (suc more) stage m = shapesStep (shapesOf more) (suc more) stage m
+
+-- the shapes of a build with weights
+unfoldable pub patternOf : Input → List Shape
+patternOf x =
+    shapesOf (x .options) (x .options .«max_levels» - 1) 0 (record { pattern = patternIn x; weights = x .weights })

@@ -1,0 +1,5 @@
+pub mod Words
+pub mod Faces
+pub mod Values
+pub mod Levels
+pub mod Choosing

@@ -1,0 +1,4 @@
+pub mod Questions
+pub mod Pairing
+pub mod Joining
+pub mod Steps
