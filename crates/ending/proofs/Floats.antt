@@ -32,7 +32,6 @@ module _ {w : List ℕ} {F H : List Float} {p : Place} {coupled : ℕ} (ok : Fac
       wrote-off zeros (p .values) (p .entries) (omega (arith, ok .values)) in
       rw values refl
 
-  -- The factor leaves the zeros.
   made-done : {G : List Float} {level : ℕ} {v : Verdict} → Factored (terminalIn p coupled) (factorOf w H p coupled level) H G v
       → FactorDone w F G p coupled level v
   made-done {G} {level} {v} done =

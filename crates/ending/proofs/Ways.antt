@@ -109,7 +109,6 @@ module _ {w z : List ℕ} {F G : List Float} {t : Workspace} {level a b : ℕ} {
     floats = floats;
   }
     where
-      -- There is no other list.
       ls-is : (ls : List Level) → out ≡ accepted ls → ls ≡ l ∷ []
       ls-is ls h = cc
 
@@ -135,19 +134,15 @@ module _ {w z : List ℕ} {a b : ℕ} {t : Workspace} {p : Place} {coupled : ℕ
         lowers = l .between (p .lowers) (p .faces) (omega arith) (omega arith) ∙ s .lowers;
       }
 
-  -- Its words tell its place,
   place-listed : locate z a b ≡ p
   place-listed = located (stands .placed) shapes-listed (stands .proper .valid)
 
-  -- that it is the last,
   last-listed : lastAt z a ≡ true
   last-listed = ap (λ (n : ℕ). eqb n 1) (l .last)
 
-  -- how many rows are coupled,
   coupled-listed : coupledAt z a ≡ coupled
   coupled-listed = ap (λ (x : Bool). cond x (idx z (a + 2)) 0) last-listed ∙ l .count
 
-  -- where its words end,
   words-listed : wordsEnd z a ≡ p .links + coupled
   unfolding wordsEnd
   words-listed =
@@ -156,14 +151,12 @@ module _ {w z : List ℕ} {a b : ℕ} {t : Workspace} {p : Place} {coupled : ℕ
       ∙ ap (λ (x : Place). x .links + coupledAt z a) place-listed
       ∙ ap (λ (n : ℕ). p .links + n) coupled-listed
 
-  -- where its floats end,
   floats-listed : floatsEnd z a b ≡ p .factor + tri coupled
   unfolding floatsEnd
   floats-listed =
       ap (λ (x : Place). x .factor + tri (coupledAt z a)) place-listed
       ∙ ap (λ (n : ℕ). p .factor + tri n) coupled-listed
 
-  -- and the level is what stands at its place.
   level-listed : (G : List Float) → levelAt z G a b ≡ record { shape = shapeAt z p true coupled; numbers = numbersAt G p coupled }
   unfolding levelAt
   level-listed G =
@@ -186,11 +179,9 @@ coupled-long p = length-those (coupledOf p) (p .rows)
 
 module _ {w : List ℕ} {size : ℕ} {o : MultigridOptions} {t : Workspace} {s : Frontier} {p : Place} (ok : LastOk w size o t s p)
     {coupled : ℕ} (count : coupled ≡ coupledCountOf (patternAt w (facesIn p))) (few : coupled ≤ o .«coarsest_cells») where
-  -- The level lies below the temporaries.
   bounds : Below (length w) size t s p coupled
   bounds = below ok coupled few
 
-  -- There are no more coupled rows than rows.
   few-rows : coupled ≤ p .rows
   few-rows = omega (arith, count, coupled-few (patternAt w (facesIn p)))
 
@@ -251,11 +242,9 @@ module _ {w : List ℕ} (F : List Float) {o : MultigridOptions} {t : Workspace} 
   }
 
   module _ (few : coupled ≤ o .«coarsest_cells») {z : List ℕ} (l : Listed w z (s .a) p coupled) where
-    -- Question 14 passes.
     counted : coupledCountOf (patternAt w (facesIn p)) ≤ o .«coarsest_cells»
     counted = omega (arith, count)
 
-    -- The factor of the stores is that of the definition.
     asked-is : asked (s .level) (meshAt w F given (levelIn t p)) ≡ factorOf z F p coupled (s .level)
     asked-is =
         let b = bounds ok count few in
@@ -265,7 +254,6 @@ module _ {w : List ℕ} (F : List Float) {o : MultigridOptions} {t : Workspace} 
         let h4 : length (coupledRowsOf (patternAt w (facesIn p))) ≡ coupled = coupled-long (patternAt w (facesIn p)) ∙ sym count in
         cc
 
-    -- The shape in the stores is that of the last level.
     shape-whole : shapeAt z p true coupled ≡ lastShape (patternAt w (facesIn p))
     shape-whole =
         let h = shapes-listed (ok .level .stands) l in
@@ -281,11 +269,9 @@ module _ {w : List ℕ} (F : List Float) {o : MultigridOptions} {t : Workspace} 
         cc
 
     module _ {G : List Float} {v : Verdict} (d : FactorDone z F G p coupled (s .level) v) where
-      -- Below the level nothing changed.
       low : Kept (s .a) w z
       low = kept-less (l .kept) (omega arith)
 
-      -- Nor did it in the floats.
       under : Kept (s .b) F G
       under = let b = bounds ok count few in kept-less (d .kept) (omega arith)
 
@@ -297,7 +283,6 @@ module _ {w : List ℕ} (F : List Float) {o : MultigridOptions} {t : Workspace} 
             (asked-is ∙ refuses (factorOf z F p coupled (s .level)) (d .answer) e));
       }
 
-      -- The numbers in the stores are those of the last level.
       numbers-whole : numbersAt G p coupled
           ≡ whole (meshAt w F given (levelIn t p)) (coefficientsAt F p) (factorAt (terminalIn p coupled) G) .numbers
       numbers-whole =

@@ -46,7 +46,6 @@ module _ {w y : List ℕ} {a coupled : ℕ} {p : Place} (ok : ListOk w a p coupl
       wrote-off (marked .wrote) (p .columns) (p .entries) (omega (arith, ok .columns)) in
       rw (h1, h2) refl
 
-  -- It stands in order, with its diagonal, and there is room for the coupled rows.
   rows-ready : CoupledRowsOk y (facesIn p) (p .links)
   rows-ready =
       let size = marked .wrote .size in
@@ -71,7 +70,6 @@ module _ {w y : List ℕ} {a coupled : ℕ} {p : Place} (ok : ListOk w a p coupl
         room = let e = ok .count ∙ ap coupledCountOf same in omega (arith, ok .room);
       }
 
-  -- The header stays, and the rows are those of the pattern before it.
   rows-done : {z : List ℕ} → CoupledRows y z (facesIn p) (p .links) → Listed w z a p coupled
   rows-done {z} done =
       let h = done .wrote in

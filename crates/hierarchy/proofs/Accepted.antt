@@ -21,7 +21,7 @@ use Rattle.faces.specs.Faces.{facesOf, diagonalsAsked}
 use Rattle.csr.specs.Questions.{matrixAsked, weightsAsked}
 use Rattle.hierarchy.specs.Level.{Numbers, Level, Hierarchy}
 use Rattle.hierarchy.specs.Refresh.{innerNumbers, lastNumbers, withSums}
-use Rattle.hierarchy.specs.Build.{Charge, fixedCharge, andLevel, holds, lastShape, innerShape, Mesh, Merged, merged, kernelAsked, paired, coarsened, coarsenedAsked, fewCoupled, endsAt, lastLevel, mergeOf, innerLevel, levelStep, growOf, Lent, Input, patternIn, symmetricOf, buildOf}
+use Rattle.hierarchy.specs.Build.{Charge, fixedCharge, andLevel, holds, lastShape, innerShape, Mesh, Merged, merged, kernelAsked, paired, coarsened, coarsenedAsked, fewCoupled, endsAt, lastLevel, mergeOf, innerLevel, levelStep, growOf, Lent, Input, patternIn, meshIn, symmetricOf, buildOf}
 
 -- ---- chains of questions
 
@@ -225,10 +225,6 @@ module _ (o : MultigridOptions) (given : Bool) (P : Merged → Type 0) where
           on (joinedBy (a .0) s g) (a .2) (subst (λ (m : Mesh). P (joinedBy m s g)) (c .1) j)
 
 -- ---- the build
-
--- the finest matrix
-abbrev pub meshIn : Input → Mesh
-meshIn x = record { pattern = patternIn x; values = x .values; weights = x .weights }
 
 -- the fixed charge, and it with the finest level's
 abbrev pub fixedIn : Input → Charge

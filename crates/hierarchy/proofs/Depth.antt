@@ -18,9 +18,9 @@ use Rattle.faces.specs.Faces.{diagonalsAsked}
 use Rattle.csr.specs.Questions.{matrixAsked, weightsAsked}
 use Rattle.hierarchy.specs.Level.{Level, Hierarchy}
 use Rattle.hierarchy.specs.Refresh.{innerNumbers, withSums}
-use Rattle.hierarchy.specs.Build.{Charge, andLevel, holds, innerShape, Mesh, merged, kernelAsked, paired, coarsenedAsked, endsAt, lastLevel, mergeOf, levelStep, growOf, Lent, Input, patternIn, symmetricOf, buildOf}
+use Rattle.hierarchy.specs.Build.{Charge, andLevel, holds, innerShape, Mesh, merged, kernelAsked, paired, coarsenedAsked, endsAt, lastLevel, mergeOf, levelStep, growOf, Lent, Input, patternIn, meshIn, symmetricOf, buildOf}
 use Rattle.hierarchy.specs.Depth.{Ending, last, inner, Deep, Larger, LargerLent}
-use Rattle.hierarchy.proofs.Accepted.{ask-split, then-split, Last, onward, grow-keeps, meshIn, fixedIn, chargeIn, build-built}
+use Rattle.hierarchy.proofs.Accepted.{ask-split, then-split, Last, onward, grow-keeps, fixedIn, chargeIn, build-built}
 use Rattle.hierarchy.proofs.First.{grow-headed}
 
 -- ---- how many levels

@@ -18,10 +18,10 @@ use Rattle.galerkin.specs.Values.{galerkinOf}
 use Rattle.faces.specs.Faces.{above, facesOf, uppersOf, lowersOf}
 use Rattle.hierarchy.specs.Level.{Shape, Numbers, Level, Hierarchy}
 use Rattle.hierarchy.specs.Refresh.{numbersOf, coarseValues, refreshOf}
-use Rattle.hierarchy.specs.Build.{Charge, shapeOf, lastShape, innerShape, Mesh, Merged, merged, kernelAsked, paired, coarsenedAsked, fewCoupled, endsAt, joinedStep, mergeOf, growOf, Lent, Input, buildOf}
+use Rattle.hierarchy.specs.Build.{Charge, shapeOf, lastShape, innerShape, Mesh, Merged, merged, kernelAsked, paired, coarsenedAsked, fewCoupled, endsAt, joinedStep, mergeOf, growOf, Lent, Input, patternIn, meshIn, buildOf}
 use Rattle.hierarchy.specs.Shapes.{Weights, Traced, pairedBy, coarseWeights, traceJoined, traceOf, tracedFrom, shapesOf, patternOf}
 use Rattle.hierarchy.specs.First.{shapesIn, First}
-use Rattle.hierarchy.proofs.Accepted.{then-split, accepted-one, coarsened-is, Last, onward, Inner, ends-zero, Halts, by-pattern, by-pairs, grow-keeps, joinedBy, meshIn, chargeIn, build-built}
+use Rattle.hierarchy.proofs.Accepted.{then-split, accepted-one, coarsened-is, Last, onward, Inner, ends-zero, Halts, by-pattern, by-pairs, grow-keeps, joinedBy, chargeIn, build-built}
 
 -- ---- the faces
 
@@ -236,6 +236,10 @@ module _ (o : MultigridOptions) where
 
 -- ---- the build
 
+-- the finest matrix, with its weights if they are given
+abbrev weighing : Input → Bool → Mesh
+weighing x given = record { pattern = patternIn x; values = x .values; weights = cond given (x .weights) [] }
+
 -- An accepted build is pattern first, values second.
 pub build-first : (l : Lent) (x : Input) {h : Hierarchy} → buildOf l x ≡ accepted h → First l x h
 unfolding patternOf
@@ -248,6 +252,6 @@ build-first l x e =
       levels = b .levels;
       is = sym (b .is);
       second = grow-refresh o (x .given) (l .stores) more 0 0 (chargeIn x) (meshIn x) (b .grown);
-      first = λ given. grow-shapes o (l .stores) more 0 0 (chargeIn x) (meshIn x)
-          (subst (λ (g : Bool). growOf o g (l .stores) more 0 0 (chargeIn x) (meshIn x) ≡ accepted (b .levels)) given (b .grown));
+      first = λ given. grow-shapes o (l .stores) more 0 0 (chargeIn x) (weighing x true)
+          (subst (λ (g : Bool). growOf o g (l .stores) more 0 0 (chargeIn x) (weighing x g) ≡ accepted (b .levels)) given (b .grown));
     }

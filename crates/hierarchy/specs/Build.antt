@@ -206,6 +206,10 @@ pub record Input : Type 0 where
 abbrev pub patternIn : Input → Pattern
 patternIn x = record { rows = x .rows; offsets = x .offsets; columns = x .columns }
 
+-- the finest matrix, with no weights where none are given
+abbrev pub meshIn : Input → Mesh
+meshIn x = record { pattern = patternIn x; values = x .values; weights = cond (x .given) (x .weights) [] }
+
 -- question 10: each entry has its mirror, both finite and equal as numbers
 unfoldable pub symmetricOf : Pattern → List Float → Bool
 symmetricOf p values = mirroredOf p && mirrorsEqual (facesOf p) (uppersOf p) (lowersOf p) values
@@ -223,5 +227,5 @@ buildOf l x = do
   ask (holds (l .stores) fixed && leb (o .«max_levels») (l .records)) Refusal.StoreTooSmall
   ask (holds (l .stores) (andLevel p fixed)) Refusal.StoreTooSmall
   ask (symmetricOf p (x .values)) Refusal.UnequalMirrors
-  levels ← growOf o (x .given) (l .stores) (o .«max_levels» - 1) 0 0 (andLevel p fixed) (record { pattern = p; values = x .values; weights = x .weights })
+  levels ← growOf o (x .given) (l .stores) (o .«max_levels» - 1) 0 0 (andLevel p fixed) (meshIn x)
   accepted (withSums o levels)

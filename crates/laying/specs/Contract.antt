@@ -64,7 +64,7 @@ pub record FrontierOk (w : List ℕ) (size : ℕ) (o : MultigridOptions) (t : Wo
   pub valid : Valid (patternAt w (nextIn t (s .rows) (s .entries)))
   pub rising : Rising (patternAt w (nextIn t (s .rows) (s .entries)))
   pub mirrored : Mirrored (patternAt w (nextIn t (s .rows) (s .entries)))
-  pub levels : s .level + s .more ≤ 18446744073709551615
+  pub levels : s .level + s .more + 1 ≤ 18446744073709551615
   pub stages : s .stage + 4 * s .more + 4 ≤ 18446744073709551615
 
 -- questions 11, 12 and 13 of a level, and its coefficients

@@ -142,7 +142,8 @@ unfolding wordsTo
 words-to zero w a = omega arith
 words-to (suc k) w a = omega (arith, words-rise w a, words-to k w (wordsEnd w a))
 
-floats-to : (k : ℕ) (w : List ℕ) (a b : ℕ) → b ≤ imageEnd k w a b
+-- So many levels end behind where their floats start.
+pub floats-to : (k : ℕ) (w : List ℕ) (a b : ℕ) → b ≤ imageEnd k w a b
 unfolding imageEnd
 floats-to zero w a b = omega arith
 floats-to (suc k) w a b = omega (arith, floats-rise w a b, floats-to k w (wordsEnd w a) (floatsEnd w a b))

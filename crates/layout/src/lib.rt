@@ -4,8 +4,8 @@ ghost use Prim.Native.Nat.{_+_, _*_, _≤_};
 ghost use Rattle.layout.specs.Layout.{placeOf};
 ghost use Rattle.layout.specs.Parts.{kernelIn, entriesIn, facesIn};
 use faces::Faces;
-use values::Entries;
 use matrix::SymmetricMatrix;
+use values::Entries;
 
 // A level's sizes, its regions in the words, and its regions in the floats.
 pub struct Place {

@@ -1,0 +1,124 @@
+// `build` of hierarchy.rs: the level loop as a recursion on the levels that may follow, and the build in lent stores.
+ghost use lib.ListN.{length};
+ghost use Rattle.build.specs.Contract.{BuildDone};
+ghost use Rattle.build.specs.Steps.{inputOf, Fitting, Begun, Attempted, Cleared};
+use options::Handle;
+use options::MultigridOptions;
+use refusal::Refusal;
+use refusal::Verdict;
+
+mod asking;
+mod finest;
+mod loading;
+mod space;
+
+// A build's answer: the handle of its hierarchy, or a refusal.
+pub enum Built {
+    Made(Handle),
+    Refused(Refusal),
+}
+
+// From question 10 on: the matrix is loaded into the temporaries, and the levels are grown from there.
+fn begin(
+    rows: usize,
+    offsets: &[u32],
+    columns: &[u32],
+    values: &[f64],
+    given: bool,
+    weights: &[f64],
+    o: MultigridOptions,
+    w: &mut [u32],
+    f: &mut [f64],
+) -> Built
+    requires { ⌜ Fitting (length (now w)) (length (now f)) (inputOf rows (now offsets) (now columns) (now values) given (now weights) o) ⌝ }
+    ensures { λ r. ⌜ Begun (now (w .entry)) (now (w .exit)) (now (f .entry)) (now (f .exit)) (inputOf rows (now (offsets .entry)) (now (columns .entry)) (now (values .entry)) given (now (weights .entry)) o) r ⌝ }
+{
+    let t = space::workspace_at(
+        w.len(),
+        f.len(),
+        rows,
+        columns.len(),
+        o.krylov_dimension as usize,
+    );
+    loading::load(w, f, offsets, columns, values, given, weights, t);
+    if finest::symmetric(w, values, t) {
+        return finest::levels(w, f, o, given, t);
+    }
+    Built::Refused(Refusal::UnequalMirrors)
+}
+
+// The whole build; where it refuses nothing is said of what the stores hold.
+fn attempt(
+    rows: usize,
+    offsets: &[u32],
+    columns: &[u32],
+    values: &[f64],
+    given: bool,
+    weights: &[f64],
+    o: MultigridOptions,
+    records: usize,
+    w: &mut [u32],
+    f: &mut [f64],
+) -> Built
+    ensures { λ r. ⌜ Attempted (now (w .entry)) (now (w .exit)) (now (f .entry)) (now (f .exit)) (inputOf rows (now (offsets .entry)) (now (columns .entry)) (now (values .entry)) given (now (weights .entry)) o) records r ⌝ }
+{
+    match asking::asked(
+        rows,
+        offsets,
+        columns,
+        values,
+        given,
+        weights,
+        o,
+        records,
+        w.len(),
+        f.len(),
+    ) {
+        Verdict::Passed => begin(rows, offsets, columns, values, given, weights, o, w, f),
+        Verdict::Refused(q) => Built::Refused(q),
+    }
+}
+
+// Both stores zero.
+fn clear(w: &mut [u32], f: &mut [f64])
+    ensures { λ _. ⌜ Cleared (now (w .entry)) (now (w .exit)) (now (f .entry)) (now (f .exit)) ⌝ }
+{
+    store::zero_words(w);
+    store::zero_floats(f);
+}
+
+// The hierarchy of a matrix in compressed rows, with the weight of each entry where weights are given, in two stores whatever these
+// held; refused, both hold zeros.
+pub fn build(
+    rows: usize,
+    offsets: &[u32],
+    columns: &[u32],
+    values: &[f64],
+    given: bool,
+    weights: &[f64],
+    o: MultigridOptions,
+    records: usize,
+    w: &mut [u32],
+    f: &mut [f64],
+) -> Built
+    ensures { λ r. ⌜ BuildDone (now (w .entry)) (now (w .exit)) (now (f .entry)) (now (f .exit)) (inputOf rows (now (offsets .entry)) (now (columns .entry)) (now (values .entry)) given (now (weights .entry)) o) records r ⌝ }
+{
+    match attempt(
+        rows,
+        offsets,
+        columns,
+        values,
+        given,
+        weights,
+        o,
+        records,
+        w,
+        f,
+    ) {
+        Built::Made(h) => Built::Made(h),
+        Built::Refused(q) => {
+            clear(w, f);
+            Built::Refused(q)
+        }
+    }
+}

@@ -1,0 +1,5 @@
+pub mod Ways
+pub mod Merges
+pub mod Regions
+pub mod Levels
+pub mod Arriving
