@@ -3,7 +3,7 @@
 use mathlib.Core.Path.{_≡_, refl, sym, ap, _∙_}
 use mathlib.Core.Bool.{Bool, true, false, cond, _&&_}
 use mathlib.Core.List.{List}
-use Prim.Native.Nat.{ℕ, _+_, _*_, _≤_}
+use Prim.Native.Nat.{ℕ, _+_, _*_}
 use native.Mathlib.Omega.{arith}
 use lib.Dec.{leb}
 use lib.ListN.{length}
@@ -15,8 +15,7 @@ use Rattle.refusal.specs.declared.Verdict.{Verdict}
 use Rattle.options.specs.Options.{controlsAsked}
 use Rattle.refusal.specs.Outcome.{Outcome, accepted, refused, passed, ask, verdictOf, _>>=_}
 use Rattle.csr.specs.Questions.{matrixAsked, weightsAsked}
-use Rattle.hierarchy.specs.Level.{Level, Hierarchy}
-use Rattle.hierarchy.specs.Build.{fixedCharge, andLevel, holds, Lent, Input, patternIn, meshIn, symmetricOf, growOf, buildOf}
+use Rattle.hierarchy.specs.Build.{fixedCharge, andLevel, holds, Lent, Input, patternIn, buildOf}
 use Rattle.build.specs.Steps.{weighedAsked, arraysAsked, roomAsked, askedOf, restOf, lending, WeightsAsked, ArraysAsked, RoomAsked, Asked, Vectors, Squared}
 
 -- A chain whose first part passed is the rest.
@@ -25,7 +24,8 @@ passed-then (accepted _) rest e = refl
 passed-then (refused q) rest e = absurd (let none : _≡_ {A = ℕ} 0 1 = cc in omega arith)
 
 -- A chain whose first part refused refuses so.
-pub refused-then : {A : Type 0} (o : Outcome Unit) (rest : Outcome A) (q : Refusal) → verdictOf o ≡ Verdict.Refused q → _>>=_ o (λ _. rest) ≡ refused q
+pub refused-then : {A : Type 0} (o : Outcome Unit) (rest : Outcome A) (q : Refusal) → verdictOf o ≡ Verdict.Refused q
+    → _>>=_ o (λ _. rest) ≡ refused q
 refused-then (accepted _) rest q e = absurd (let none : _≡_ {A = ℕ} 0 1 = cc in omega arith)
 refused-then (refused q') rest q e = cc
 
@@ -60,7 +60,8 @@ module _ (x : Input) {v : Verdict} (a : v ≡ verdictOf (matrixAsked (x .rows) (
   abbrev others : Outcome Unit
   others = weighedAsked (length (x .columns)) (x .given) (x .weights) (x .options)
 
-  pub arrays-on : {r : Verdict} → v ≡ Verdict.Passed → WeightsAsked (length (x .columns)) (x .given) (x .weights) (x .options) r → ArraysAsked x r
+  pub arrays-on : {r : Verdict} → v ≡ Verdict.Passed → WeightsAsked (length (x .columns)) (x .given) (x .weights) (x .options) r
+      → ArraysAsked x r
   unfolding arraysAsked
   arrays-on p c = record { answer = c .answer ∙ sym (ap verdictOf (passed-then matrix others (sym a ∙ p))) }
 
@@ -103,7 +104,8 @@ module _ (rows entries : ℕ) (o : MultigridOptions) (words floats records : ℕ
         none : (a b c : Bool) → a ≡ true → b ≡ false → verdictOf (three a b c) ≡ Verdict.Refused Refusal.StoreTooSmall
         none a b c d e = rw (d, e)
 
-    pub room-shorter : paid ≡ true → finest ≡ false → RoomAsked rows entries o (lending words floats records) (Verdict.Refused Refusal.StoreTooSmall)
+    pub room-shorter : paid ≡ true → finest ≡ false
+        → RoomAsked rows entries o (lending words floats records) (Verdict.Refused Refusal.StoreTooSmall)
     room-shorter e f = record { answer = sym (ap verdictOf room-is ∙ none (leb 1 rows) paid finest one e f) }
       where
         none : (a b c : Bool) → a ≡ true → b ≡ true → c ≡ false → verdictOf (three a b c) ≡ Verdict.Refused Refusal.StoreTooSmall
@@ -121,12 +123,17 @@ module _ {l : Lent} {x : Input} {v : Verdict} (a : ArraysAsked x v) where
   pub asked-on : {r : Verdict} → v ≡ Verdict.Passed → RoomAsked (x .rows) (length (x .columns)) (x .options) l r → Asked l x r
   unfolding askedOf
   asked-on p c =
-      record { answer = c .answer ∙ sym (ap verdictOf (passed-then (arraysAsked x) (roomAsked (x .options) l (x .rows) (length (x .columns))) (sym (a .answer) ∙ p))) }
+      record {
+        answer = c .answer
+            ∙ sym (ap verdictOf (passed-then (arraysAsked x) (roomAsked (x .options) l (x .rows) (length (x .columns))) (sym (a .answer) ∙ p)));
+      }
 
   pub asked-no : {q : Refusal} → v ≡ Verdict.Refused q → Asked l x (Verdict.Refused q)
   unfolding askedOf
   asked-no {q} p =
-      record { answer = sym (ap verdictOf (refused-then (arraysAsked x) (roomAsked (x .options) l (x .rows) (length (x .columns))) q (sym (a .answer) ∙ p))) }
+      record {
+        answer = sym (ap verdictOf (refused-then (arraysAsked x) (roomAsked (x .options) l (x .rows) (length (x .columns))) q (sym (a .answer) ∙ p)));
+      }
 
 -- ---- the build
 

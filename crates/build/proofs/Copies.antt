@@ -1,7 +1,7 @@
 -- Lists copied into a store: a turn of the loop, what it leaves, and the matrix in the temporaries.
 -- Assumes nothing.
-use mathlib.Core.Path.{_≡_, refl, sym, ap, _∙_}
-use mathlib.Core.Bool.{Bool, true, false}
+use mathlib.Core.Path.{_≡_, refl, ap, _∙_}
+use mathlib.Core.Bool.{Bool, false}
 use mathlib.Core.List.{List}
 use Prim.Native.Nat.{ℕ, _+_, _≤_}
 use native.Mathlib.Omega.{arith}
@@ -20,7 +20,8 @@ unfoldable pub loadTurn : {A : Type 0} → A → List A → ℕ → ℕ → List
 loadTurn d v to k F = set F (to + k) (getD v k d)
 
 -- A loop that copies v leaves it at `to`.
-pub load-done : {A : Type 0} {v F G : List A} {to k : ℕ} (d : A) → Left (loadTurn d v to) k (length v) G (for (loadTurn d v to) 0 (length v) F)
+pub load-done : {A : Type 0} {v F G : List A} {to k : ℕ} (d : A)
+    → Left (loadTurn d v to) k (length v) G (for (loadTurn d v to) 0 (length v) F)
     → length v ≤ k → Wrote to (length v) v F G
 unfolding loadTurn
 load-done {A} {v} {F} {G} {to} d l h =

@@ -77,7 +77,8 @@ rise-to f (suc n) rises i h =
 head-of : {x y : Level} {xs ys : List Level} → x ∷ xs ≡ y ∷ ys → x ≡ y
 head-of e = cc
 
-head-at : (z : List ℕ) (G : List Float) (l : Level) (rest : List Level) → levelsAt (length (l ∷ rest)) z G 0 0 ≡ l ∷ rest → levelAt z G 0 0 ≡ l
+head-at : (z : List ℕ) (G : List Float) (l : Level) (rest : List Level) → levelsAt (length (l ∷ rest)) z G 0 0 ≡ l ∷ rest
+    → levelAt z G 0 0 ≡ l
 unfolding levelsAt
 head-at z G l rest e = head-of e
 
@@ -89,7 +90,8 @@ links-before : (z : List ℕ) → locate z 0 0 .links ≤ wordsEnd z 0
 unfolding wordsEnd
 links-before z = go (lastAt z 0)
   where
-    go : (last : Bool) → locate z 0 0 .links ≤ cond last (locate z 0 0 .links + coupledAt z 0) (locate z 0 0 .positions + locate z 0 0 .entries)
+    go : (last : Bool)
+        → locate z 0 0 .links ≤ cond last (locate z 0 0 .links + coupledAt z 0) (locate z 0 0 .positions + locate z 0 0 .entries)
     go true = omega arith
     go false = omega arith
 
@@ -172,7 +174,8 @@ module _ (z : List ℕ) (H : List Float) {p : Pattern} {ls : List Level} (valid 
       }
 
   -- What the row sums require.
-  pub sums-ok : {rows size end count : ℕ} → p .rows ≡ rows → entries p ≡ count → rows ≤ 65536 → count ≤ 1048576 → end ≡ imageEnd (length ls) z 0 0
+  pub sums-ok : {rows size end count : ℕ} → p .rows ≡ rows → entries p ≡ count → rows ≤ 65536 → count ≤ 1048576
+      → end ≡ imageEnd (length ls) z 0 0
       → end + rows ≤ size → SumsOk z size end rows count
   sums-ok {rows} {size} {end} {count} r e few less is room =
       let faces = many in
@@ -191,7 +194,8 @@ module _ (z : List ℕ) (H : List Float) {p : Pattern} {ls : List Level} (valid 
       ∙ ap (sumsOf o) first-is
 
   -- The stores hold the levels with the row sums.
-  pub viewed : {G : List Float} {o : MultigridOptions} {end rows : ℕ} → p .rows ≡ rows → end ≡ imageEnd (length ls) z 0 0 → end + rows ≤ length H
+  pub viewed : {G : List Float} {o : MultigridOptions} {end rows : ℕ} → p .rows ≡ rows → end ≡ imageEnd (length ls) z 0 0
+      → end + rows ≤ length H
       → Summed z H G o end rows → viewOf (length ls) z G 0 ≡ withSums o ls
   unfolding viewOf
   viewed {G} {o} {end} {rows} r is room s =
@@ -208,7 +212,8 @@ same-place : {r r' e e' f f' : ℕ} → r ≡ r' → e ≡ e' → f ≡ f' → p
 same-place a b c = rw (a, b, c)
 
 -- The place of the first level, from its sizes.
-pub first-place : {w : List ℕ} {rows entries faces : ℕ} {p : Place} {k : SymmetricMatrix} → FirstOk w rows entries → faces ≡ idx w (2 * rows + entries + 4)
+pub first-place : {w : List ℕ} {rows entries faces : ℕ} {p : Place} {k : SymmetricMatrix} → FirstOk w rows entries
+    → faces ≡ idx w (2 * rows + entries + 4)
     → p ≡ placeOf 0 0 rows entries faces → k ≡ kernelIn p → k ≡ kernelIn (locate w 0 0)
 first-place {w} {rows} {entries} {faces} ok f p k =
     let tall = ok .tall in
@@ -226,7 +231,8 @@ first-few {w} {rows} {entries} {faces} ok f =
     omega (arith, ok .faces)
 
 -- The kernel of the first level, as the row sums require it.
-pub first-kernel : {w : List ℕ} {size end rows entries : ℕ} {k : SymmetricMatrix} → SumsOk w size end rows entries → k ≡ kernelIn (locate w 0 0)
+pub first-kernel : {w : List ℕ} {size end rows entries : ℕ} {k : SymmetricMatrix} → SumsOk w size end rows entries
+    → k ≡ kernelIn (locate w 0 0)
     → KernelOk w end k × (end + k .rows ≤ size)
 first-kernel {w} {size} {end} {rows} {entries} ok e =
     let tall = ok .first .tall in
@@ -239,7 +245,8 @@ cond-yes : {A : Type 0} (b : Bool) (x y : A) → b ≡ true → cond b x y ≡ x
 cond-yes b x y e = rw e
 
 -- Under a norm that needs no row sums zeros are written;
-pub summed-none : {w : List ℕ} {F G : List Float} {o : MultigridOptions} {end rows : ℕ} → o .«residual_norm» ≡ MultigridResidualNorm.AbsoluteL2
+pub summed-none : {w : List ℕ} {F G : List Float} {o : MultigridOptions} {end rows : ℕ}
+    → o .«residual_norm» ≡ MultigridResidualNorm.AbsoluteL2
     → Wrote end rows (filled rows zero64) F G → Summed w F G o end rows
 summed-none {w} {F} {G} {o} {end} {rows} e s = record {
   wrote = subst (λ (v : List Float). Wrote end rows v F G) (sym (cond-no (needsSums (o .«residual_norm»)) _ _ (ap needsSums e))) s;

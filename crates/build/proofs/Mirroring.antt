@@ -1,20 +1,19 @@
 -- Question 10 of the matrix in the temporaries: what its steps require, and its answer.
 -- Assumes nothing.
-use mathlib.Core.Path.{_≡_, refl, sym, ap, _∙_, subst}
+use mathlib.Core.Path.{_≡_, sym, ap, _∙_}
 use mathlib.Core.Bool.{Bool, true, false, _&&_}
 use mathlib.Core.List.{List}
 use Prim.Native.Nat.{ℕ, _+_, _≤_, _<_}
 use native.Mathlib.Omega.{arith}
 use lib.ListN.{length}
 use lib.Ieee.{Float}
-use Rattle.store.specs.Region.{idx, part, Wrote, Kept}
-use Rattle.store.proofs.Region.{getD-part, length-part, wrote-off, kept-wrote, kept-on, kept-less, kept-part}
+use Rattle.store.specs.Region.{idx, part, Kept}
+use Rattle.store.proofs.Region.{getD-part, length-part, wrote-off, kept-wrote, kept-on, kept-less}
 use Rattle.values.specs.Mirrors.{mirrorsEqual}
 use Rattle.values.specs.Mirrors as agreeing
-use Rattle.pattern.specs.Pattern.{Pattern, entries, Valid, Rising}
-use Rattle.faces.specs.declared.Faces.{Faces}
+use Rattle.pattern.specs.Pattern.{Pattern, entries}
 use Rattle.faces.specs.Faces.{facesOf, uppersOf, lowersOf, mirroredOf}
-use Rattle.faces.specs.Contract.{Standing, Ordered, OffsetsOk, OffsetsDone, FillOk, Filled, MirrorsOk, MirrorsDone}
+use Rattle.faces.specs.Contract.{Ordered, OffsetsOk, OffsetsDone, FillOk, Filled, MirrorsOk, MirrorsDone}
 use Rattle.faces.proofs.Standing.{pattern-kept, ordered-on}
 use Rattle.faces.proofs.Laws.{mirrored-is, faces-few, upper-entry, lower-entry}
 use Rattle.hierarchy.specs.Build.{symmetricOf}
@@ -97,7 +96,10 @@ module _ {w : List ℕ} {values : List Float} {t : Workspace} (ok : SymmetricOk 
 
         pub asymmetric : r ≡ false → SymmetricDone w z values t false
         unfolding symmetricOf
-        asymmetric e = record { answer = sym (no (mirroredOf p) (mirrorsEqual (facesOf p) (uppersOf p) (lowersOf p) values) (sym told ∙ e)); words = last-kept }
+        asymmetric e = record {
+          answer = sym (no (mirroredOf p) (mirrorsEqual (facesOf p) (uppersOf p) (lowersOf p) values) (sym told ∙ e));
+          words = last-kept;
+        }
           where
             no : (a b : Bool) → a ≡ false → (a && b) ≡ false
             no a b e = rw e
@@ -127,19 +129,23 @@ module _ {w : List ℕ} {values : List Float} {t : Workspace} (ok : SymmetricOk 
                 uppers = omega (arith, ok .uppers, ok .lowers);
                 lowers = omega (arith, ok .lowers);
                 up = λ k h.
-                    let e : idx z (t .uppers + k) ≡ idx (uppersOf p) k = sym (getD-part (t .uppers) faces z k 0 h) ∙ ap (λ (l : List ℕ). idx l k) uppers-at in
+                    let e : idx z (t .uppers + k) ≡ idx (uppersOf p) k = sym (getD-part (t .uppers) faces z k 0 h)
+                    ∙ ap (λ (l : List ℕ). idx l k) uppers-at in
                     let b : idx (uppersOf p) k < entries p = upper-entry p k (rw is at h) in
                     omega arith;
                 low = λ k h.
-                    let e : idx z (t .lowers + k) ≡ idx (lowersOf p) k = sym (getD-part (t .lowers) faces z k 0 h) ∙ ap (λ (l : List ℕ). idx l k) lowers-at in
+                    let e : idx z (t .lowers + k) ≡ idx (lowersOf p) k = sym (getD-part (t .lowers) faces z k 0 h)
+                    ∙ ap (λ (l : List ℕ). idx l k) lowers-at in
                     let b : idx (lowersOf p) k < entries p = lower-entry (ok .valid) (ok .rising) mirrored k (rw is at h) in
                     omega arith;
               }
 
-          pub compared : {a : Bool} → a ≡ mirrorsEqual faces (part (t .uppers) faces z) (part (t .lowers) faces z) values → SymmetricDone w z values t a
+          pub compared : {a : Bool} → a ≡ mirrorsEqual faces (part (t .uppers) faces z) (part (t .lowers) faces z) values
+              → SymmetricDone w z values t a
           unfolding symmetricOf
           compared {a} e = record {
-            answer = e ∙ rw (uppers-at, lowers-at, count) (sym (both (mirroredOf p) (mirrorsEqual (facesOf p) (uppersOf p) (lowersOf p) values) (sym told ∙ yes)));
+            answer = e ∙ rw (uppers-at, lowers-at, count)
+                (sym (both (mirroredOf p) (mirrorsEqual (facesOf p) (uppersOf p) (lowersOf p) values) (sym told ∙ yes)));
             words = last-kept;
           }
             where

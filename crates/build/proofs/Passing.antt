@@ -3,7 +3,7 @@
 use mathlib.Core.Path.{_≡_, sym, _∙_}
 use mathlib.Core.Bool.{Bool, true, cond, _&&_}
 use mathlib.Core.List.{List}
-use Prim.Native.Nat.{ℕ, _+_, _*_, _≤_}
+use Prim.Native.Nat.{ℕ, _+_, _*_}
 use lib.Dec.{leb}
 use lib.ListN.{length}
 use lib.Ieee.{Float}
@@ -13,10 +13,10 @@ use Rattle.options.specs.declared.MultigridOptions.{MultigridOptions}
 use Rattle.refusal.specs.declared.Refusal.{Refusal}
 use Rattle.refusal.specs.declared.Verdict.{Verdict}
 use Rattle.options.specs.Options.{within, tolerable, validOf, isCholesky, controlsAsked}
-use Rattle.refusal.specs.Outcome.{Outcome, passed, ask, verdictOf}
+use Rattle.refusal.specs.Outcome.{passed, ask, verdictOf}
 use Rattle.csr.specs.Questions.{matrixAsked, weightsAsked}
 use Rattle.csr.proofs.Laws.{asked-yes, matrix-valid, matrix-rising, matrix-sizes, weights-length}
-use Rattle.hierarchy.specs.Build.{fixedCharge, holds, Lent, Input}
+use Rattle.hierarchy.specs.Build.{fixedCharge, holds, Input}
 use Rattle.growing.specs.Contract.{charge}
 use Rattle.build.specs.Steps.{weighedAsked, arraysAsked, roomAsked, askedOf, lending, ArraysAsked, Asked, ControlsFit, ChargeOk, ArraysFit, Fitting}
 use Rattle.build.proofs.Chains.{then-passed}
@@ -29,8 +29,12 @@ amid a b c d e f g h i j k t =
     let t8 = both-l (a && b && c && d && e && f && g && h) i t9 in
     let t7 = both-l (a && b && c && d && e && f && g) h t8 in
     let t6 = both-l (a && b && c && d && e && f) g t7 in
-    let t5 = both-l (a && b && c && d && e) f t6 in
-    (both-r (a && b && c && d) e t5, both-r (a && b && c && d && e) f t6, both-r (a && b && c && d && e && f) g t7, both-r (a && b && c && d && e && f && g) h t8)
+    let t5 = both-l (a && b && c && d && e) f t6 in (
+      both-r (a && b && c && d) e t5,
+      both-r (a && b && c && d && e) f t6,
+      both-r (a && b && c && d && e && f) g t7,
+      both-r (a && b && c && d && e && f && g) h t8,
+    )
 
 -- Valid controls.
 controls-fit : (o : MultigridOptions) → validOf o ≡ true → ControlsFit o
@@ -49,7 +53,8 @@ controls-fit o e =
       levels = leb-true (o .«max_levels») 128 (both-r (leb 1 (o .«max_levels»)) (leb (o .«max_levels») 128) (t .1));
     }
 
-weights-fit : (entries : ℕ) (given : Bool) (weights : List Float) → verdictOf (cond given (weightsAsked entries weights) passed) ≡ Verdict.Passed
+weights-fit : (entries : ℕ) (given : Bool) (weights : List Float)
+    → verdictOf (cond given (weightsAsked entries weights) passed) ≡ Verdict.Passed
     → given ≡ true → length weights ≡ entries
 weights-fit entries given weights e g = weights-length entries weights (rw g at e)
 
@@ -60,7 +65,8 @@ arrays-fit x e =
     let a = then-passed (matrixAsked (x .rows) (x .offsets) (x .columns) (x .values))
     (weighedAsked (length (x .columns)) (x .given) (x .weights) (x .options)) e in
     let b = then-passed (cond (x .given) (weightsAsked (length (x .columns)) (x .weights)) passed) (controlsAsked (x .options)) (a .1) in
-    let c = asked-yes (validOf (x .options)) Refusal.InvalidControls (ask (isCholesky (x .options .«coarse_solver»)) Refusal.NotCholesky passed) (b .1) in
+    let c = asked-yes (validOf (x .options)) Refusal.InvalidControls
+    (ask (isCholesky (x .options .«coarse_solver»)) Refusal.NotCholesky passed) (b .1) in
     record {
       valid = matrix-valid (x .rows) (x .offsets) (x .columns) (x .values) (a .0);
       rising = matrix-rising (x .rows) (x .offsets) (x .columns) (x .values) (a .0);
@@ -76,7 +82,8 @@ charge-ok {x} a p =
     record { few = f .sizes .few; less = f .sizes .short; controls = f .controls }
 
 -- The stores of a build that passed.
-pub fitting : {words floats records : ℕ} {x : Input} {v : Verdict} → Asked (lending words floats records) x v → v ≡ Verdict.Passed → Fitting words floats x
+pub fitting : {words floats records : ℕ} {x : Input} {v : Verdict} → Asked (lending words floats records) x v → v ≡ Verdict.Passed
+    → Fitting words floats x
 unfolding askedOf roomAsked
 fitting {words} {floats} {records} {x} a p =
     let o = x .options in

@@ -31,13 +31,13 @@ use Rattle.layout.specs.Layout.{imageEnd, wordsFit, viewOf}
 use Rattle.coarsen.specs.declared.Workspace.{Workspace}
 use Rattle.coarsen.specs.Contract.{WorkOk}
 use Rattle.laying.specs.declared.Frontier.{Frontier}
-use Rattle.laying.specs.Contract.{frontierAt, FrontierOk}
+use Rattle.laying.specs.Contract.{frontierAt}
 use Rattle.ending.specs.declared.Growth.{Growth}
 use Rattle.ending.specs.Contract.{Levels}
 use Rattle.build.specs.declared.Built.{Built}
 use Rattle.growing.specs.Contract.{charge, growAt, Grown}
 use Rattle.build.specs.Contract.{lentOf, builtOf, BuildDone}
-use Rattle.build.specs.Steps.{lending, askedOf, restOf, Asked, ControlsFit, ChargeOk, Fitting, SpaceOk, Spaced, LoadOk, Loaded, finestAt, SymmetricOk, SymmetricDone, finestOf, SumsOk, Summed, LevelsOk, levelsMade, LevelsDone, Tried, Begun, Attempted, Cleared}
+use Rattle.build.specs.Steps.{lending, askedOf, restOf, Asked, Fitting, Spaced, LoadOk, Loaded, finestAt, SymmetricOk, SymmetricDone, finestOf, SumsOk, Summed, LevelsOk, levelsMade, LevelsDone, Tried, Begun, Attempted, Cleared}
 use Rattle.build.proofs.Chains.{passed-then, refused-then, build-asked}
 use Rattle.build.proofs.First.{Leading, grow-leading, sums-ok, viewed}
 
@@ -50,7 +50,8 @@ record Answered (z : List ℕ) (out : Outcome (List Level)) (k end : ℕ) : Type
   count : k ≡ length ls
   ends : end ≡ imageEnd (length ls) z 0 0
 
-answered : {w z : List ℕ} {F H : List Float} {t : Workspace} {g : Growth} {k end : ℕ} (out : Outcome (List Level)) → Levels w z F H t 0 0 0 out g
+answered : {w z : List ℕ} {F H : List Float} {t : Workspace} {g : Growth} {k end : ℕ} (out : Outcome (List Level))
+    → Levels w z F H t 0 0 0 out g
     → g ≡ Growth.Made k end → Answered z out k end
 answered {w} {z} {F} {H} {t} {g} {k} {end} (accepted ls) l e =
     let m = l .made ls refl in
@@ -58,7 +59,8 @@ answered {w} {z} {F} {H} {t} {g} {k} {end} (accepted ls) l e =
     record { ls = ls; is = refl; count = omega arith; ends = cc }
 answered (refused q) l e = let m = l .refusal q refl in absurd (let none : _≡_ {A = ℕ} 0 1 = cc in omega arith)
 
-not-answered : {w z : List ℕ} {F H : List Float} {t : Workspace} {g : Growth} {q : Refusal} (out : Outcome (List Level)) → Levels w z F H t 0 0 0 out g
+not-answered : {w z : List ℕ} {F H : List Float} {t : Workspace} {g : Growth} {q : Refusal} (out : Outcome (List Level))
+    → Levels w z F H t 0 0 0 out g
     → g ≡ Growth.Refused q → out ≡ refused q
 not-answered (accepted ls) l e = let m = l .made ls refl in absurd (let none : _≡_ {A = ℕ} 0 1 = cc in omega arith)
 not-answered (refused q) l e = let m = l .refusal q refl in cc
@@ -70,8 +72,8 @@ one-way e f = let none : _≡_ {A = ℕ} 0 1 = cc in omega arith
 refused-one : {A : Type 0} {o : Outcome A} {p q : Refusal} → o ≡ refused p → o ≡ refused q → p ≡ q
 refused-one e f = cc
 
-module _ {w z : List ℕ} {F H : List Float} {o : MultigridOptions} {given : Bool} {t : Workspace} {s : Frontier} {g : Growth} (ok : LevelsOk w (length F) o t)
-    (start : s ≡ finestOf o t) (grown : Grown w z F H o given t s g) where
+module _ {w z : List ℕ} {F H : List Float} {o : MultigridOptions} {given : Bool} {t : Workspace} {s : Frontier} {g : Growth}
+    (ok : LevelsOk w (length F) o t) (start : s ≡ finestOf o t) (grown : Grown w z F H o given t s g) where
   levels : Levels w z F H t 0 0 0 (growAt o given w F t (finestOf o t)) g
   levels = (rw start at grown) .levels
 
@@ -104,11 +106,14 @@ module _ {w z : List ℕ} {F H : List Float} {o : MultigridOptions} {given : Boo
     pub grown-made : {G : List Float} → Summed z H G o end (t .rows)
         → LevelsDone w z F G o given t (Built.Made (record { options = o; levels = k; rows = t .rows; entries = t .entries }))
     grown-made {G} sums =
-        let same : (ls : List Level) → growAt o given w F t (finestOf o t) ≡ accepted ls → told .ls ≡ ls = λ ls e. accepted-one (sym (told .is) ∙ e) in
+        let same : (ls : List Level) → growAt o given w F t (finestOf o t) ≡ accepted ls → told .ls ≡ ls =
+        λ ls e. accepted-one (sym (told .is) ∙ e) in
         let view : viewOf (length (told .ls)) z G 0 ≡ withSums o (told .ls) =
-        viewed z H (ok .frontier .valid) leading (levels .view (told .ls) (told .is)) (levels .fits (told .ls) (told .is)) refl (told .ends) room sums in
+        viewed z H (ok .frontier .valid) leading (levels .view (told .ls) (told .is)) (levels .fits (told .ls) (told .is)) refl
+        (told .ends) room sums in
         record {
-          made = λ ls e. subst (λ (l : List Level). Built.Made (record { options = o; levels = k; rows = t .rows; entries = t .entries }) ≡ levelsMade o t l)
+          made = λ ls e. subst
+              (λ (l : List Level). Built.Made (record { options = o; levels = k; rows = t .rows; entries = t .entries }) ≡ levelsMade o t l)
               (same ls e) (ap (λ (n : ℕ). Built.Made (record { options = o; levels = n; rows = t .rows; entries = t .entries })) (told .count));
           refusal = λ q e. absurd (one-way (told .is) e);
           view = λ ls e. subst (λ (l : List Level). viewOf (length l) z G 0 ≡ withSums o l) (same ls e) view;
@@ -242,7 +247,8 @@ module _ {words floats : ℕ} {x : Input} {t : Workspace} (fit : Fitting words f
           let kept = asked .words .size in
           let deep : words ≡ length y = omega arith in
           let long : floats ≡ length G = omega arith in
-          let room = rooms (x .options .«krylov_dimension») (x .options .«coarsest_cells» * x .options .«coarsest_cells») (t .offsets) (t .values) tall most (fit .heldwords) (fit .heldfloats) (space .ends) (space .tops) in
+          let room = rooms (x .options .«krylov_dimension») (x .options .«coarsest_cells» * x .options .«coarsest_cells») (t .offsets)
+          (t .values) tall most (fit .heldwords) (fit .heldfloats) (space .ends) (space .tops) in
           record {
             controls = c;
             frontier = record {
@@ -286,7 +292,8 @@ module _ {words floats : ℕ} {x : Input} {t : Workspace} (fit : Fitting words f
       pub begun-asymmetric : r ≡ false → Begun w y F G x (Built.Refused Refusal.UnequalMirrors)
       unfolding restOf
       begun-asymmetric fails =
-          refusing (restOf (charge (length w) (length F)) x) (ask-no (symmetricOf (patternIn x) (x .values)) Refusal.UnequalMirrors _ (sym answer-is ∙ fails))
+          refusing (restOf (charge (length w) (length F)) x)
+          (ask-no (symmetricOf (patternIn x) (x .values)) Refusal.UnequalMirrors _ (sym answer-is ∙ fails))
           (asked .words .size ∙ load .wordsize) (load .floatsize)
 
       rest-is : r ≡ true → restOf (charge (length w) (length F)) x
@@ -296,7 +303,8 @@ module _ {words floats : ℕ} {x : Input} {t : Workspace} (fit : Fitting words f
           ask-yes (symmetricOf (patternIn x) (x .values)) Refusal.UnequalMirrors _ (sym answer-is ∙ holds)
           ∙ ap (λ (out : Outcome (List Level)). _>>=_ out (λ ls. accepted (withSums (x .options) ls))) (sym grow-is)
 
-      pub begun-levels : r ≡ true → {v : List ℕ} {H : List Float} {b : Built} → LevelsDone y v G H (x .options) (x .given) t b → Begun w v F H x b
+      pub begun-levels : r ≡ true → {v : List ℕ} {H : List Float} {b : Built} → LevelsDone y v G H (x .options) (x .given) t b
+          → Begun w v F H x b
       begun-levels holds {v} {H} {b} done =
           go (growAt (x .options) (x .given) y G t (finestOf (x .options) t)) refl (rest-is holds)
         where
@@ -330,7 +338,8 @@ module _ (w : List ℕ) (F : List Float) {x : Input} {records : ℕ} {v : Verdic
   pub attempt-no : {q : Refusal} → v ≡ Verdict.Refused q → Attempted w w F F x records (Built.Refused q)
   attempt-no {q} p =
       let l = lentOf w F records in
-      refusing (buildOf l x) (build-asked l x ∙ refused-then (askedOf l x) (restOf (charge (length w) (length F)) x) q (sym (asked .answer) ∙ p)) refl refl
+      refusing (buildOf l x)
+      (build-asked l x ∙ refused-then (askedOf l x) (restOf (charge (length w) (length F)) x) q (sym (asked .answer) ∙ p)) refl refl
 
 not-both : {h : Handle} {q : Refusal} → Built.Made h ≡ Built.Refused q → ⊥
 not-both e = let none : _≡_ {A = ℕ} 0 1 = cc in omega arith
@@ -347,7 +356,8 @@ module _ (records : ℕ) {w z : List ℕ} {F G : List Float} {x : Input} {r : Bu
     floatsize = t .floatsize;
   }
 
-  pub done-refused : {q : Refusal} {u : List ℕ} {H : List Float} → r ≡ Built.Refused q → Cleared z u G H → BuildDone w u F H x records (Built.Refused q)
+  pub done-refused : {q : Refusal} {u : List ℕ} {H : List Float} → r ≡ Built.Refused q → Cleared z u G H
+      → BuildDone w u F H x records (Built.Refused q)
   done-refused {q} {u} {H} e c = record {
     answer = sym e ∙ t .answer;
     view = λ h k. absurd (not-both (sym (ap (builtOf x) k) ∙ sym (t .answer) ∙ e));

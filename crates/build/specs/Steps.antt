@@ -2,7 +2,7 @@
 use mathlib.Core.Path.{_≡_}
 use mathlib.Core.Bool.{Bool, true, cond, _&&_}
 use mathlib.Core.List.{List}
-use Prim.Native.Nat.{ℕ, _+_, _-_, _*_, _≤_, _<_}
+use Prim.Native.Nat.{ℕ, _+_, _-_, _*_, _≤_}
 use lib.Dec.{leb}
 use lib.ListN.{length}
 use lib.Ieee.{Float}
@@ -167,7 +167,8 @@ pub record Spaced (words floats rows entries krylov : ℕ) (t : Workspace) : Typ
 -- ---- the matrix in the temporaries
 
 -- What loading requires: arrays as long as the temporaries' sizes say.
-pub record LoadOk (words floats : ℕ) (offsets columns : List ℕ) (values : List Float) (given : Bool) (weights : List Float) (t : Workspace) : Type 0 where
+pub record LoadOk (words floats : ℕ) (offsets columns : List ℕ) (values : List Float) (given : Bool) (weights : List Float)
+    (t : Workspace) : Type 0 where
   pub work : WorkOk words floats t
   pub rowed : length offsets ≡ t .rows + 1
   pub listed : length columns ≡ t .entries
@@ -175,7 +176,8 @@ pub record LoadOk (words floats : ℕ) (offsets columns : List ℕ) (values : Li
   pub weighed : given ≡ true → length weights ≡ t .entries
 
 -- What it ensures: the arrays stand in the temporaries of the next level's matrix.
-pub record Loaded (w z : List ℕ) (F G : List Float) (offsets columns : List ℕ) (values : List Float) (given : Bool) (weights : List Float) (t : Workspace) : Type 0 where
+pub record Loaded (w z : List ℕ) (F G : List Float) (offsets columns : List ℕ) (values : List Float) (given : Bool)
+    (weights : List Float) (t : Workspace) : Type 0 where
   pub rowed : part (t .offsets) (t .rows + 1) z ≡ offsets
   pub listed : part (t .columns) (t .entries) z ≡ columns
   pub valued : part (t .values) (t .entries) G ≡ values

@@ -1,16 +1,18 @@
 -- A place by its equations, and the place that the words of a level tell.
 -- Assumes nothing.
 use mathlib.Core.Path.{_≡_, refl, sym, ap, _∙_}
+use mathlib.Core.Bool.{Bool, true, false, cond}
 use mathlib.Core.List.{List}
-use Prim.Native.Nat.{ℕ, _+_}
+use Prim.Native.Nat.{ℕ, _+_, _*_, _≤_}
 use native.Mathlib.Omega.{arith}
+use borrow.Author.Tests.{eq-eqb, ne-eqb}
 use Rattle.store.specs.Region.{idx}
 use Rattle.store.proofs.Region.{getD-part}
 use Rattle.pattern.specs.Pattern.{Pattern, Valid}
 use Rattle.faces.specs.Faces.{faceOffsetsOf}
 use Rattle.faces.proofs.Laws.{starts-last}
 use Rattle.layout.specs.declared.Place.{Place}
-use Rattle.layout.specs.Layout.{placeOf, rowsAt, locate}
+use Rattle.layout.specs.Layout.{placeOf, rowsAt, lastAt, coupledAt, locate, wordsEnd}
 use Rattle.layout.specs.Placed.{Placed, Shapes}
 
 -- The place of so many rows, entries and faces meets the equations.
@@ -64,3 +66,41 @@ located {w} {a} {b} {p} {q} h s v =
     ap (idx w) (omega arith) ∙ sym (getD-part (p .starts) (p .rows + 1) w (p .rows) 0 (omega arith))
     ∙ ap (λ (l : List ℕ). idx l (p .rows)) (s .starts) ∙ ap (idx (faceOffsetsOf q)) (s .rows) ∙ starts-last v ∙ sym (s .count) in
     rw (rows, entriesIs, facesIs) (sym (placed-is h))
+
+-- ---- where the words end
+
+-- where the links of a level of so many rows, entries and faces start
+abbrev linksOf : ℕ → ℕ → ℕ → ℕ → ℕ
+linksOf a rows entries faces = a + 5 + 3 * rows + entries + 3 * faces
+
+module _ (w : List ℕ) (a : ℕ) {rows entries faces : ℕ} (r : rows ≡ rowsAt w a) (e : entries ≡ idx w (a + 3 + rows))
+    (f : faces ≡ idx w (a + 3 + rows + 1 + entries + rows)) where
+  ends-at : wordsEnd w a ≡ cond (lastAt w a) (placeOf a 0 rows entries faces .links + coupledAt w a) (placeOf a 0 rows entries faces .positions + entries)
+  unfolding wordsEnd
+  ends-at = rw (← r, ← e, ← f)
+
+  -- The words of the last level end with its coupled rows,
+  pub ends-last : {coupled : ℕ} → idx w (a + 1) ≡ 1 → coupled ≡ idx w (a + 2) → linksOf a rows entries faces + coupled ≡ wordsEnd w a
+  ends-last t c = sym (ends-at ∙ rw (eq-eqb (idx w (a + 1)) 1 t) (omega arith))
+
+  -- those of any other with a position for each entry.
+  pub ends-inner : (idx w (a + 1) ≡ 1 → ⊥) → linksOf a rows entries faces + rows + entries ≡ wordsEnd w a
+  ends-inner t = sym (ends-at ∙ rw (ne-eqb (idx w (a + 1)) 1 t) (omega arith))
+
+  -- All sizes of a level whose words lie in the store are read in it.
+  pub ends-above : {size : ℕ} → wordsEnd w a ≤ size → linksOf a rows entries faces ≤ size
+  ends-above {size} h = go (lastAt w a) (rw ends-at at h)
+    where
+      go : (last : Bool) → cond last (placeOf a 0 rows entries faces .links + coupledAt w a) (placeOf a 0 rows entries faces .positions + entries) ≤ size
+          → linksOf a rows entries faces ≤ size
+      go true h = omega arith
+      go false h = omega arith
+
+  -- So are the coupled rows,
+  pub within-last : {coupled size : ℕ} → wordsEnd w a ≤ size → idx w (a + 1) ≡ 1 → coupled ≡ idx w (a + 2)
+      → linksOf a rows entries faces + coupled ≤ size
+  within-last h t c = omega (arith, ends-last t c)
+
+  -- and the positions.
+  pub within-inner : {size : ℕ} → wordsEnd w a ≤ size → (idx w (a + 1) ≡ 1 → ⊥) → linksOf a rows entries faces + rows + entries ≤ size
+  within-inner h t = omega (arith, ends-inner t)

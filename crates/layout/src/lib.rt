@@ -1,7 +1,8 @@
 // Where a level stands in the two stores. All arithmetic of positions is here.
 ghost use mathlib.Core.Path.{_≡_};
 ghost use Prim.Native.Nat.{_+_, _*_, _≤_};
-ghost use Rattle.layout.specs.Layout.{placeOf};
+ghost use lib.ListN.{length};
+ghost use Rattle.layout.specs.Layout.{placeOf, wordsEnd};
 ghost use Rattle.layout.specs.Parts.{kernelIn, entriesIn, facesIn};
 use faces::Faces;
 use matrix::SymmetricMatrix;
@@ -111,4 +112,19 @@ pub fn faces_in(p: Place) -> Faces
         uppers: p.uppers,
         lowers: p.lowers,
     }
+}
+
+// Where the words of the level that starts at a end.
+pub fn words_end(w: &[u32], a: usize) -> usize
+    requires { ⌜ wordsEnd (now w) a ≤ length (now w) ⌝ }
+    ensures { λ r. ⌜ r ≡ wordsEnd (now (w .entry)) a ⌝ }
+{
+    let rows = store::wide(w[a]);
+    let entries = store::wide(w[a + 3 + rows]);
+    let faces = store::wide(w[a + 3 + rows + 1 + entries + rows]);
+    let links = a + 5 + 3 * rows + entries + 3 * faces;
+    if w[a + 1] == 1 {
+        return links + store::wide(w[a + 2]);
+    }
+    links + rows + entries
 }

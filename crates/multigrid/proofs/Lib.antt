@@ -1,0 +1,4 @@
+pub mod Builds
+pub mod Publishing
+pub mod Refused
+pub mod Stores
