@@ -64,6 +64,33 @@ static void path(void) {
     expect(equal(w + 15, one, 4), "probe_compose");
 }
 
+/* The matrix [2 -1; -1 2] and a third row with its diagonal entry alone: one face. Words: offsets 0 2 4 5, columns
+ * 0 1 0 1 2, then face offsets, diagonal entries, the face's column, its entry, its mirror and the coupled rows. */
+static void faces(void) {
+    uint32_t w[21] = {0, 2, 4, 5, 0, 1, 0, 1, 2};
+    const uint32_t found[12] = {0, 1, 1, 1, 0, 3, 4, 1, 1, 2, 0, 1};
+    uint64_t place[2] = {7, 7};
+
+    expect(probe_face_offsets(w, 21, 3, 5, 1, 0, 4, 9, 13, 16, 17, 18) == 1 && equal(w + 9, found, 4),
+           "probe_face_offsets");
+    probe_fill_faces(w, 21, 3, 5, 1, 0, 4, 9, 13, 16, 17, 18);
+    expect(equal(w + 16, found + 7, 2), "probe_fill_faces");
+    expect(probe_mirrors(w, 21, 3, 5, 1, 0, 4, 9, 13, 16, 17, 18) == 1 && equal(w + 18, found + 9, 1),
+           "probe_mirrors");
+    expect(probe_diagonals(w, 21, 3, 5, 1, 0, 4, 9, 13, 16, 17, 18, 9, place, 2) == 0 && place[0] == 7 &&
+               equal(w + 13, found + 4, 3),
+           "probe_diagonals");
+    expect(probe_coupled_count(w, 21, 3, 5, 1, 0, 4, 9, 13, 16, 17, 18) == 2, "probe_coupled_count");
+    probe_coupled_rows(w, 21, 3, 5, 1, 0, 4, 9, 13, 16, 17, 18, 19);
+    expect(equal(w + 9, found, 12), "probe_coupled_rows");
+    /* The third row's entry in the second column: it has no mirror, and the row has no diagonal entry. */
+    w[8] = 1;
+    expect(probe_mirrors(w, 21, 3, 5, 1, 0, 4, 9, 13, 16, 17, 18) == 0, "probe_mirrors");
+    expect(probe_diagonals(w, 21, 3, 5, 1, 0, 4, 9, 13, 16, 17, 18, 9, place, 2) == 11 && place[0] == 9 &&
+               place[1] == 2,
+           "probe_diagonals");
+}
+
 /* The matrix [2 -1; -1 2]: one face. Words: offsets 0 1 1, neighbour 1, diagonal entries 0 3, face entry 1, mirror 2,
  * then the compressed rows 0 2 4 with columns 0 1 0 1, and both rows coupled. */
 static void kernel(void) {
@@ -188,6 +215,7 @@ int main(void) {
     expect(probe_all_finite(store, 6, 4, 2) == 1, "probe_all_finite");
     arrays();
     path();
+    faces();
     kernel();
     smoothers();
     corrections();

@@ -81,6 +81,35 @@ void probe_restrict_weights(const uint32_t *w, size_t w_length, double *f, size_
                             size_t m, size_t positions, size_t offsets, size_t columns, size_t weights,
                             size_t total, size_t out);
 
+/* The faces of a pattern, one for each entry above the diagonal. Their offsets at starts; the answer is their number. Then
+ * their columns at neighbors and their entries at uppers; then the mirror of each at lowers, and whether each entry has its
+ * mirror. The diagonal entry of each row at diagonals: 0, or 11 with level and row at place. The number of rows with an
+ * entry off the diagonal, and these rows at to.
+ * Required: rows <= 65536, entries <= 1048576, offsets + rows + 1 and columns + entries at most starts; offsets that start
+ * at 0, never fall and end at entries, columns below rows; of all but the first two columns that rise within each row, of
+ * the last two each row's diagonal entry. Faces is the number of entries above the diagonal, but for the first. What is
+ * written ends at or before w_length and lies at or above starts: rows + 1 words at starts, faces words at neighbors,
+ * at uppers and at lowers, rows words at diagonals, as many words as coupled rows at to; neighbors + faces <= uppers;
+ * 2 <= place_length; no overlap. */
+size_t probe_face_offsets(uint32_t *w, size_t w_length, size_t rows, size_t entries, size_t faces, size_t offsets,
+                          size_t columns, size_t starts, size_t diagonals, size_t neighbors, size_t uppers,
+                          size_t lowers);
+void probe_fill_faces(uint32_t *w, size_t w_length, size_t rows, size_t entries, size_t faces, size_t offsets,
+                      size_t columns, size_t starts, size_t diagonals, size_t neighbors, size_t uppers,
+                      size_t lowers);
+uint8_t probe_mirrors(uint32_t *w, size_t w_length, size_t rows, size_t entries, size_t faces, size_t offsets,
+                      size_t columns, size_t starts, size_t diagonals, size_t neighbors, size_t uppers,
+                      size_t lowers);
+uint64_t probe_diagonals(uint32_t *w, size_t w_length, size_t rows, size_t entries, size_t faces, size_t offsets,
+                         size_t columns, size_t starts, size_t diagonals, size_t neighbors, size_t uppers,
+                         size_t lowers, uint64_t level, uint64_t *place, size_t place_length);
+size_t probe_coupled_count(const uint32_t *w, size_t w_length, size_t rows, size_t entries, size_t faces,
+                           size_t offsets, size_t columns, size_t starts, size_t diagonals, size_t neighbors,
+                           size_t uppers, size_t lowers);
+void probe_coupled_rows(uint32_t *w, size_t w_length, size_t rows, size_t entries, size_t faces, size_t offsets,
+                        size_t columns, size_t starts, size_t diagonals, size_t neighbors, size_t uppers,
+                        size_t lowers, size_t to);
+
 /* A x at out, by the kernel's faces; the fused b - A x; the sums of the rows of A.
  * Required: offsets + rows + 1 and neighbors + faces at most w_length, where faces is the last offset; each offset
  * at most faces, each neighbour below rows; diagonal + rows, inverse + rows and coefficients + faces at most x (rhs for

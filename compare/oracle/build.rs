@@ -32,7 +32,7 @@ const SHIMS: [&str; 5] = [
 ];
 
 /// A parent of our own mounts these again, and calls what they show to a parent alone.
-const PARTS: [&str; 5] = ["acceleration", "aggregation", "coarse", "cycle", "matrix"];
+const PARTS: [&str; 4] = ["acceleration", "aggregation", "coarse", "cycle"];
 
 fn main() {
     println!("cargo::rerun-if-env-changed={VARIABLE}");

@@ -10,6 +10,7 @@ pub mod kernels;
 pub mod measures;
 pub mod smoothing;
 pub mod terminals;
+pub mod topology;
 
 use oracle::{MultigridCoarseSolver, MultigridOptions, MultigridResidualNorm, MultigridSmoother};
 
@@ -134,6 +135,94 @@ unsafe extern "C" {
         weights: usize,
         total: usize,
         out: usize,
+    );
+    fn probe_face_offsets(
+        w: *mut u32,
+        w_length: usize,
+        rows: usize,
+        entries: usize,
+        faces: usize,
+        offsets: usize,
+        columns: usize,
+        starts: usize,
+        diagonals: usize,
+        neighbors: usize,
+        uppers: usize,
+        lowers: usize,
+    ) -> usize;
+    fn probe_fill_faces(
+        w: *mut u32,
+        w_length: usize,
+        rows: usize,
+        entries: usize,
+        faces: usize,
+        offsets: usize,
+        columns: usize,
+        starts: usize,
+        diagonals: usize,
+        neighbors: usize,
+        uppers: usize,
+        lowers: usize,
+    );
+    fn probe_mirrors(
+        w: *mut u32,
+        w_length: usize,
+        rows: usize,
+        entries: usize,
+        faces: usize,
+        offsets: usize,
+        columns: usize,
+        starts: usize,
+        diagonals: usize,
+        neighbors: usize,
+        uppers: usize,
+        lowers: usize,
+    ) -> u8;
+    fn probe_diagonals(
+        w: *mut u32,
+        w_length: usize,
+        rows: usize,
+        entries: usize,
+        faces: usize,
+        offsets: usize,
+        columns: usize,
+        starts: usize,
+        diagonals: usize,
+        neighbors: usize,
+        uppers: usize,
+        lowers: usize,
+        level: u64,
+        place: *mut u64,
+        place_length: usize,
+    ) -> u64;
+    fn probe_coupled_count(
+        w: *const u32,
+        w_length: usize,
+        rows: usize,
+        entries: usize,
+        faces: usize,
+        offsets: usize,
+        columns: usize,
+        starts: usize,
+        diagonals: usize,
+        neighbors: usize,
+        uppers: usize,
+        lowers: usize,
+    ) -> usize;
+    fn probe_coupled_rows(
+        w: *mut u32,
+        w_length: usize,
+        rows: usize,
+        entries: usize,
+        faces: usize,
+        offsets: usize,
+        columns: usize,
+        starts: usize,
+        diagonals: usize,
+        neighbors: usize,
+        uppers: usize,
+        lowers: usize,
+        to: usize,
     );
     fn probe_apply(
         w: *const u32,

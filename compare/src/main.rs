@@ -6,6 +6,7 @@ mod agreement;
 mod coarse;
 mod csr;
 mod cycle;
+mod faces;
 mod float;
 mod galerkin;
 mod matrices;
@@ -92,6 +93,7 @@ fn run(effort: Effort, seed: u64) -> ExitCode {
     cycle::compare(&mut report, &mut random, effort);
     acceleration::compare(&mut report, &mut random, effort);
     csr::compare(&mut report, &mut random, effort);
+    faces::compare(&mut report, &mut random, effort);
     report.print();
     if report.differences() == 0 {
         ExitCode::SUCCESS

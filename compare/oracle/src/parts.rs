@@ -1,7 +1,7 @@
 //! The steps of the multigrid files, one by one.
 //!
-//! What they show to their parent only is called here by wrappers that add nothing. `hierarchy` and
-//! `smoother` are included into modules of ours, which can call what is private there.
+//! What they show to their parent only is called here by wrappers that add nothing. `hierarchy`, `matrix` and
+//! `smoother` are included into modules of ours, which can call and read what is private there.
 
 include!(concat!(env!("OUT_DIR"), "/mount_parts.rs"));
 
@@ -11,6 +11,21 @@ mod hierarchy {
 
     pub fn restricted(weights: &[f64], entries: &[usize], coarse: &CsrMatrix) -> Vec<f64> {
         restrict_weights(Some(weights), entries, coarse).unwrap_or_default()
+    }
+}
+
+#[allow(dead_code, clippy::all)]
+mod matrix {
+    include!(concat!(env!("OUT_DIR"), "/linear/multigrid/matrix.rs"));
+
+    impl SymmetricMatrix {
+        pub fn entries(&self) -> [&[usize]; 3] {
+            [
+                &self.diagonal_entries,
+                &self.face_entries,
+                &self.transpose_entries,
+            ]
+        }
     }
 }
 
@@ -129,6 +144,11 @@ impl Kernel {
 
     pub fn coefficients(&self) -> &[f64] {
         &self.0.coefficients
+    }
+
+    /// `diagonal_entries`, `face_entries` and `transpose_entries`.
+    pub fn entries(&self) -> [&[usize]; 3] {
+        self.0.entries()
     }
 
     pub fn coupled_rows(&self) -> usize {

@@ -6,7 +6,7 @@ use super::{
     probe_symmetrize, require_below, require_region,
 };
 
-const MOST_ENTRIES: usize = 1_048_576;
+pub const MOST_ENTRIES: usize = 1_048_576;
 
 /// Where a fine pattern, its map and the coarse pattern stand in the words. What is written lies above what is read:
 /// positions (`entries` words), coarse offsets (`count + 1`), coarse columns (`entries`) and scratch.

@@ -16,6 +16,7 @@ use Rattle.refusal.specs.declared.Verdict.{Verdict}
 use Rattle.refusal.specs.Refusal.{numberOf, levelOf, rowOf}
 use Rattle.aggregation.specs.declared.Graph.{Graph}
 use Rattle.pattern.specs.declared.Coarsening.{Coarsening}
+use Rattle.faces.specs.declared.Faces.{Faces}
 use Rattle.matrix.specs.declared.SymmetricMatrix.{SymmetricMatrix}
 use Rattle.values.specs.declared.values.Entries.{Entries}
 use Rattle.cholesky.specs.declared.Terminal.{Terminal}
@@ -81,6 +82,22 @@ coarseningOf rows entries count offsets columns map positions starts targets scr
       «coarse_offsets» = starts;
       «coarse_columns» = targets;
       scratch = scratch;
+    }
+
+-- the places of a pattern and of its faces, as numbers
+abbrev pub topologyOf : ℕ → ℕ → ℕ → ℕ → ℕ → ℕ → ℕ → ℕ → ℕ → ℕ → Faces
+topologyOf rows entries faces offsets columns starts diagonals neighbors uppers lowers =
+    record {
+      rows = rows;
+      entries = entries;
+      faces = faces;
+      offsets = offsets;
+      columns = columns;
+      starts = starts;
+      diagonals = diagonals;
+      neighbors = neighbors;
+      uppers = uppers;
+      lowers = lowers;
     }
 
 -- the number of the question that refused, or zero

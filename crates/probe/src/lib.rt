@@ -9,6 +9,7 @@ mod measures;
 mod numbers;
 mod smoothing;
 mod terminals;
+mod topology;
 mod vectors;
 
 ghost use mathlib.Core.Path.{_≡_};
