@@ -3,7 +3,7 @@
 
 use crate::report::Report;
 
-const RATTLE: [&str; 9] = [
+const RATTLE: [&str; 10] = [
     include_str!("../../crates/probe/src/numbers.rt"),
     include_str!("../../crates/probe/src/controls.rt"),
     include_str!("../../crates/probe/src/vectors.rt"),
