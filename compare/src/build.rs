@@ -4,22 +4,19 @@
 mod expected;
 mod hand;
 mod hierarchy;
+#[cfg_attr(not(feature = "library"), path = "build/stand_in.rs")]
+mod library;
+pub mod list;
 mod problem;
-#[cfg(not(feature = "library"))]
-mod stand_in;
 
 use crate::Effort;
 use crate::boundary::kernels::Refused;
 use crate::random::Random;
 use crate::report::Report;
 use hierarchy::Hierarchy;
-#[cfg(feature = "library")]
-use library::build as library_build;
 use oracle::parts;
 use oracle::{AlgebraicMultigrid, CsrMatrix, LinearAlgebraError, during_build};
-use problem::{Problem, Stores};
-#[cfg(not(feature = "library"))]
-use stand_in::build as library_build;
+use problem::{Problem, Stores, are_zero, noisy};
 
 /// How many rows a matrix has at most that an example shows.
 const SHOWN: usize = 6;
@@ -45,21 +42,15 @@ fn one_problem(
     said: Option<Said>,
 ) {
     let due = expected::build(problem).answer;
-    let mut stores = Stores::noisy(random, &problem.lent);
-    let ours = library_build(problem, &mut stores);
+    let mut stores = noisy(random, &problem.lent);
+    let ours = library::build(problem, &mut stores);
     let found = difference(&ours, &due, &stores);
     let kind = report.kind(&format!("build/{name}"));
     report.case(kind, found.is_none(), || {
         format!("{} of {}", found.unwrap_or_default(), shown(problem))
     });
-    let told = due
-        .as_ref()
-        .map_or_else(|&refused| Err(refused), |made| Ok(made.levels.len() as u64));
-    report.answer(&match told {
-        Ok(levels) => format!("build/accepted/levels-{levels:02}"),
-        Err((number, level, _)) if level > 0 => format!("build/refused-{number:02}/below-finest"),
-        Err((number, ..)) => format!("build/refused-{number:02}"),
-    });
+    let told = told(&due);
+    report.answer(&format!("build/{}", class(told)));
     if let Some(said) = said {
         let kind = report.kind("build/oracle-says-what-was-said");
         report.case(kind, told == said, || {
@@ -77,6 +68,22 @@ fn one_problem(
     });
 }
 
+fn told(due: &Result<Hierarchy, Refused>) -> Said {
+    match due {
+        Ok(made) => Ok(made.levels.len() as u64),
+        &Err(refused) => Err(refused),
+    }
+}
+
+/// The kind of an answer.
+fn class(told: Said) -> String {
+    match told {
+        Ok(levels) => format!("accepted/levels-{levels:02}"),
+        Err((number, level, _)) if level > 0 => format!("refused-{number:02}/below-finest"),
+        Err((number, ..)) => format!("refused-{number:02}"),
+    }
+}
+
 /// What differs first between our answer with the stores it left and the one that is due.
 fn difference(
     ours: &Result<u64, Refused>,
@@ -85,7 +92,7 @@ fn difference(
 ) -> Option<String> {
     match (ours, due) {
         (Err(ours), Err(due)) if ours == due => {
-            (!stores.are_zero()).then(|| format!("refused {due:?}, not all zeros"))
+            (!are_zero(stores)).then(|| format!("refused {due:?}, not all zeros"))
         }
         (Ok(levels), Ok(due)) => {
             let Some(view) = Hierarchy::read(*levels as usize, stores) else {
@@ -193,27 +200,4 @@ fn shown(problem: &Problem) -> String {
     format!(
         "{rows} rows, offsets {offsets:?} columns {columns:?} values {values:?} weights {weights:?}, lent {lent:?}, {options:?}"
     )
-}
-
-/// The library's exports.
-#[cfg(feature = "library")]
-mod library {
-    use super::problem::{Problem, Stores};
-    use crate::boundary::kernels::Refused;
-    use crate::boundary::multigrid::Lending;
-
-    /// The number of levels, or the refusal.
-    pub fn build(problem: &Problem, stores: &mut Stores) -> Result<u64, Refused> {
-        Lending {
-            rows: problem.arrays.rows,
-            offsets: &problem.arrays.offsets,
-            columns: &problem.arrays.columns,
-            values: &problem.arrays.values,
-            weights: problem.weights.as_deref(),
-            words: &mut stores.words,
-            floats: &mut stores.floats,
-            statistics: &mut stores.statistics,
-        }
-        .build(&problem.options)
-    }
 }

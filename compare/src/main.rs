@@ -69,13 +69,26 @@ struct Arguments {
     seed: u64,
     /// The comparison that is run alone, if one is.
     only: Option<String>,
+    /// Nothing is compared, but a list of builds is written, with so many of each kind of answer.
+    list: Option<u64>,
 }
 
 fn main() -> ExitCode {
     match arguments() {
+        Ok(Arguments {
+            list: Some(each),
+            seed,
+            ..
+        }) => {
+            let each = each.try_into().unwrap_or(usize::MAX);
+            print!("{}", build::list::write(&mut Random::new(seed), each));
+            ExitCode::SUCCESS
+        }
         Ok(arguments) => run(&arguments),
         Err(sentence) => {
-            eprintln!("compare: {sentence}\nusage: compare [--long] [--seed NUMBER] [--only NAME]");
+            eprintln!(
+                "compare: {sentence}\nusage: compare [--long] [--seed NUMBER] [--only NAME] [--list NUMBER]"
+            );
             ExitCode::from(2)
         }
     }
@@ -86,12 +99,14 @@ fn arguments() -> Result<Arguments, String> {
         effort: Effort::Quick,
         seed: SEED,
         only: None,
+        list: None,
     };
     let mut words = std::env::args().skip(1);
     while let Some(word) = words.next() {
         match word.as_str() {
             "--long" => arguments.effort = Effort::Long,
             "--seed" => arguments.seed = number(&words.next().unwrap_or_default())?,
+            "--list" => arguments.list = Some(number(&words.next().unwrap_or_default())?),
             "--only" => arguments.only = Some(known(words.next().unwrap_or_default())?),
             _ => return Err(format!("{word} is not understood")),
         }
@@ -113,7 +128,7 @@ fn number(word: &str) -> Result<u64, String> {
         Some(digits) => u64::from_str_radix(digits, 16),
         None => word.parse(),
     };
-    parsed.map_err(|error| format!("the seed {word:?}: {error}"))
+    parsed.map_err(|error| format!("the number {word:?}: {error}"))
 }
 
 fn run(arguments: &Arguments) -> ExitCode {

@@ -68,7 +68,7 @@ impl Level {
     }
 
     /// Rows, 1 on the last level, and its coupled rows: what stands before the offsets.
-    fn head(&self) -> [u32; 3] {
+    pub fn head(&self) -> [u32; 3] {
         let coupled = if self.last { self.links.len() } else { 0 };
         [self.rows() as u32, u32::from(self.last), coupled as u32]
     }
@@ -134,21 +134,6 @@ impl Hierarchy {
         Some(Self { levels, sums })
     }
 
-    /// The other way; the stores must have room.
-    pub fn lay(&self, stores: &mut Stores) {
-        let (mut a, mut b) = (0, 0);
-        for level in &self.levels {
-            put(&mut stores.words, &mut a, &level.head());
-            for (_, words) in level.words() {
-                put(&mut stores.words, &mut a, words);
-            }
-            for (_, floats) in level.floats() {
-                put(&mut stores.floats, &mut b, floats);
-            }
-        }
-        put(&mut stores.floats, &mut b, &self.sums);
-    }
-
     /// What differs first; numbers bit for bit.
     pub fn difference(&self, theirs: &Self) -> Option<String> {
         if self.levels.len() != theirs.levels.len() {
@@ -181,7 +166,7 @@ impl Hierarchy {
         statistics
     }
 
-    /// The sum modulo 2^64 of all words of the view and of the bits of its floats.
+    /// The sum modulo 2^64 of all words of the view, the heads of the levels included, and of the bits of its floats.
     pub fn checksum(&self) -> u64 {
         let mut sum = 0_u64;
         let mut add = |word: u64| sum = sum.wrapping_add(word);
@@ -208,11 +193,6 @@ impl<T: Copy> Cursor<'_, T> {
         self.0 = left;
         Some(taken.to_vec())
     }
-}
-
-fn put<T: Copy>(store: &mut [T], at: &mut usize, words: &[T]) {
-    store[*at..][..words.len()].copy_from_slice(words);
-    *at += words.len();
 }
 
 fn differing<T>(

@@ -25,28 +25,29 @@ pub struct Problem {
 }
 
 /// What is lent.
+#[cfg(not(feature = "library"))]
 pub struct Stores {
     pub words: Vec<u32>,
     pub floats: Vec<f64>,
     pub statistics: Vec<u64>,
 }
+#[cfg(feature = "library")]
+pub use multigrid::Stores;
 
-impl Stores {
-    /// Full of noise.
-    pub fn noisy(random: &mut Random, lent: &Lent) -> Self {
-        Self {
-            words: (0..lent.words).map(|_| u32::noise(random)).collect(),
-            floats: (0..lent.floats).map(|_| f64::noise(random)).collect(),
-            statistics: (0..lent.statistics).map(|_| random.bits()).collect(),
-        }
+/// Stores full of noise.
+pub fn noisy(random: &mut Random, lent: &Lent) -> Stores {
+    Stores {
+        words: (0..lent.words).map(|_| u32::noise(random)).collect(),
+        floats: (0..lent.floats).map(|_| f64::noise(random)).collect(),
+        statistics: (0..lent.statistics).map(|_| random.bits()).collect(),
     }
+}
 
-    /// Whether every word of them is zero; minus zero is none.
-    pub fn are_zero(&self) -> bool {
-        self.words.iter().all(|&word| word == 0)
-            && self.floats.iter().all(|float| float.to_bits() == 0)
-            && self.statistics.iter().all(|&word| word == 0)
-    }
+/// Whether every word of them is zero; minus zero is none.
+pub fn are_zero(stores: &Stores) -> bool {
+    stores.words.iter().all(|&word| word == 0)
+        && stores.floats.iter().all(|float| float.to_bits() == 0)
+        && stores.statistics.iter().all(|&word| word == 0)
 }
 
 type Draw = fn(&mut Random) -> f64;

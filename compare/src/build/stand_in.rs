@@ -1,6 +1,7 @@
 //! Stands for the library until its exports are linked: the expected answer, laid into the stores.
 
 use super::expected;
+use super::hierarchy::Hierarchy;
 use super::problem::{Problem, Stores};
 use crate::boundary::kernels::Refused;
 
@@ -10,7 +11,7 @@ pub fn build(problem: &Problem, stores: &mut Stores) -> Result<u64, Refused> {
     stores.statistics.fill(0);
     match answer {
         Ok(hierarchy) => {
-            hierarchy.lay(stores);
+            lay(&hierarchy, stores);
             stores.statistics = hierarchy.statistics(stores.statistics.len());
             Ok(hierarchy.levels.len() as u64)
         }
@@ -20,4 +21,24 @@ pub fn build(problem: &Problem, stores: &mut Stores) -> Result<u64, Refused> {
             Err(refused)
         }
     }
+}
+
+/// The other way round of `Hierarchy::read`.
+fn lay(hierarchy: &Hierarchy, stores: &mut Stores) {
+    let (mut a, mut b) = (0, 0);
+    for level in &hierarchy.levels {
+        put(&mut stores.words, &mut a, &level.head());
+        for (_, words) in level.words() {
+            put(&mut stores.words, &mut a, words);
+        }
+        for (_, floats) in level.floats() {
+            put(&mut stores.floats, &mut b, floats);
+        }
+    }
+    put(&mut stores.floats, &mut b, &hierarchy.sums);
+}
+
+fn put<T: Copy>(store: &mut [T], at: &mut usize, words: &[T]) {
+    store[*at..][..words.len()].copy_from_slice(words);
+    *at += words.len();
 }
