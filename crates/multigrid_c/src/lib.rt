@@ -91,7 +91,19 @@ pub extern "C" fn multigrid_new(
         coarse_max_iterations,
         scale_correction,
     );
-    tell(multigrid::new(rows, offsets, columns, values, options, words, floats, statistics), place)
+    tell(
+        multigrid::new(
+            rows,
+            offsets,
+            columns,
+            values,
+            options,
+            words,
+            floats,
+            statistics,
+        ),
+        place,
+    )
 }
 
 #[no_mangle]
@@ -150,7 +162,17 @@ pub extern "C" fn multigrid_new_with_face_weights(
         scale_correction,
     );
     tell(
-        multigrid::new_with_face_weights(rows, offsets, columns, values, face_weights, options, words, floats, statistics),
+        multigrid::new_with_face_weights(
+            rows,
+            offsets,
+            columns,
+            values,
+            face_weights,
+            options,
+            words,
+            floats,
+            statistics,
+        ),
         place,
     )
 }
