@@ -1,5 +1,7 @@
 //! Measures the proved functions and the Rust in one run. `bench/run` builds and starts it.
 
+#[cfg(feature = "library")]
+mod build;
 mod cholesky;
 mod clock;
 mod dot;
@@ -40,7 +42,7 @@ impl Row {
 }
 
 /// Another kernel is a module with a `Kernel` and a row here.
-const ROWS: [Row; 11] = [
+const ROWS: &[Row] = &[
     Row {
         name: "pairs, rows upward",
         most: Some(1.0),
@@ -117,6 +119,22 @@ const ROWS: [Row; 11] = [
         wanted_from: 16,
         sides: &[16],
         kernel: cholesky::all_rows,
+    },
+    #[cfg(feature = "library")]
+    Row {
+        name: "build",
+        most: Some(1.0),
+        wanted_from: 64,
+        sides: &SIDES,
+        kernel: build::by_values,
+    },
+    #[cfg(feature = "library")]
+    Row {
+        name: "build, face weights",
+        most: Some(1.0),
+        wanted_from: 64,
+        sides: &SIDES,
+        kernel: build::by_weights,
     },
 ];
 

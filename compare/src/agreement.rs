@@ -16,9 +16,29 @@ const RATTLE: [&str; 11] = [
     include_str!("../../crates/probe/src/measures.rt"),
     include_str!("../../crates/probe/src/corrections.rt"),
 ];
-const RUST: &str = include_str!("boundary.rs");
-const HEADER: &str = include_str!("../probe.h");
-const CALLS_FROM_C: &str = include_str!("../boundary.c");
+const PROBE: Texts = Texts {
+    name: "boundary",
+    rattle: &RATTLE,
+    rust: include_str!("boundary.rs"),
+    header: include_str!("../probe.h"),
+    calls_from_c: include_str!("../boundary.c"),
+};
+const LIBRARY: Texts = Texts {
+    name: "library",
+    rattle: &[include_str!("../../crates/multigrid_c/src/lib.rt")],
+    rust: include_str!("../../rust/src/calls.rs"),
+    header: include_str!("../../include/multigrid.h"),
+    calls_from_c: include_str!("../library.c"),
+};
+
+/// The exports of a crate, their declarations, and the program that calls them from C.
+struct Texts {
+    name: &'static str,
+    rattle: &'static [&'static str],
+    rust: &'static str,
+    header: &'static str,
+    calls_from_c: &'static str,
+}
 
 /// A function as the machine sees it, types in Rust's words.
 #[derive(PartialEq, Debug)]
@@ -29,15 +49,16 @@ struct Signature {
 }
 
 pub fn compare(report: &mut Report) {
-    let (rattle, rust, header) = (of_rattle(), of_rust(), of_header());
-    agree(report, "boundary/exports-and-rust", &rattle, &rust);
-    agree(report, "boundary/rust-and-header", &rust, &header);
-    let kind = report.kind("boundary/called-from-c");
-    for Signature { name, .. } in &rust {
-        let called = CALLS_FROM_C.contains(&format!("{name}("));
-        report.case(kind, called, || {
-            format!("{name} is not called in boundary.c")
-        });
+    for texts in [PROBE, LIBRARY] {
+        let (rattle, rust) = (of_rattle(texts.rattle), of_rust(texts.rust));
+        let (name, header) = (texts.name, of_header(texts.header));
+        agree(report, &format!("{name}/exports-and-rust"), &rattle, &rust);
+        agree(report, &format!("{name}/rust-and-header"), &rust, &header);
+        let kind = report.kind(&format!("{name}/called-from-c"));
+        for Signature { name, .. } in &rust {
+            let called = texts.calls_from_c.contains(&format!("{name}("));
+            report.case(kind, called, || format!("{name} is not called from C"));
+        }
     }
 }
 
@@ -56,14 +77,15 @@ fn agree(report: &mut Report, kind: &str, left: &[Signature], right: &[Signature
     }
 }
 
-fn of_rattle() -> Vec<Signature> {
-    let exports = RATTLE.map(|text| text.split("pub extern \"C\" fn ").skip(1));
-    let exports = exports.into_iter().flatten();
+fn of_rattle(texts: &[&str]) -> Vec<Signature> {
+    let exports = texts
+        .iter()
+        .flat_map(|text| text.split("pub extern \"C\" fn ").skip(1));
     exports.map(|text| arrow_signature(text, true)).collect()
 }
 
-fn of_rust() -> Vec<Signature> {
-    let block = between(RUST, "unsafe extern \"C\" {", "\n}");
+fn of_rust(text: &str) -> Vec<Signature> {
+    let block = between(text, "unsafe extern \"C\" {", "\n}");
     let exports = block.split("fn ").skip(1);
     exports.map(|text| arrow_signature(text, false)).collect()
 }
@@ -95,12 +117,12 @@ fn expanded(kind: &str, slices: bool) -> Vec<String> {
     vec![pointer.replace(']', ""), "usize".to_string()]
 }
 
-fn of_header() -> Vec<Signature> {
+fn of_header(text: &str) -> Vec<Signature> {
     let mut declarations = String::new();
-    for line in HEADER.lines() {
+    for line in text.lines() {
         // A comment of the header starts its line, and a line of one that goes on starts with a star.
         let line = line.trim();
-        if !line.starts_with(['#', '/', '*']) {
+        if !line.starts_with(['#', '/', '*', '}']) && !line.starts_with("extern") {
             declarations.push_str(line);
             declarations.push(' ');
         }

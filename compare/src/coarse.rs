@@ -48,7 +48,7 @@ fn one_level(report: &mut Report, random: &mut Random, pattern: &Pattern) {
 }
 
 /// The matrix of some rows.
-fn compact(matrix: &CsrMatrix, rows: &[usize]) -> CsrMatrix {
+pub fn compact(matrix: &CsrMatrix, rows: &[usize]) -> CsrMatrix {
     let (mut offsets, mut columns, mut values) = (vec![0], Vec::new(), Vec::new());
     for &row in rows {
         for entry in matrix.row_offsets()[row]..matrix.row_offsets()[row + 1] {
@@ -63,14 +63,14 @@ fn compact(matrix: &CsrMatrix, rows: &[usize]) -> CsrMatrix {
 }
 
 /// Its lower triangle, row by row.
-fn packed(lower: &[f64], n: usize) -> Vec<f64> {
+pub fn packed(lower: &[f64], n: usize) -> Vec<f64> {
     (0..n)
         .flat_map(|row| lower[row * n..][..=row].iter().copied())
         .collect()
 }
 
 /// The Rust names no row: that of the first leading block which is refused, found by halving.
-fn refused_row(matrix: &CsrMatrix, coupled: &[usize]) -> usize {
+pub fn refused_row(matrix: &CsrMatrix, coupled: &[usize]) -> usize {
     let (mut passed, mut refused) = (0, coupled.len());
     while refused - passed > 1 {
         let middle = passed + (refused - passed) / 2;

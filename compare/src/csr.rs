@@ -8,28 +8,28 @@ use crate::random::Random;
 use crate::report::{Report, hex};
 use oracle::{CsrMatrix, LinearAlgebraError};
 
-const MOST_ROWS: usize = 65_536;
-const MOST_ENTRIES: usize = 1_048_576;
+pub const MOST_ROWS: usize = 65_536;
+pub const MOST_ENTRIES: usize = 1_048_576;
 
 /// How many numbers an example shows.
 const SHOWN: usize = 16;
 
 /// The answer of arrays that pass.
-const PASSED: u64 = 0;
+pub const PASSED: u64 = 0;
 
 /// A matrix as it is lent: arrays of any lengths.
 #[derive(Clone)]
-struct Arrays {
-    rows: usize,
-    offsets: Vec<u32>,
-    columns: Vec<u32>,
-    values: Vec<f64>,
+pub struct Arrays {
+    pub rows: usize,
+    pub offsets: Vec<u32>,
+    pub columns: Vec<u32>,
+    pub values: Vec<f64>,
 }
 
-type Damage = fn(&mut Arrays, &mut Random);
+pub type Damage = fn(&mut Arrays, &mut Random);
 
 /// Each spoils one thing, where there is one; what is spoiled may still pass.
-const DAMAGES: [(&str, Damage); 10] = [
+pub const DAMAGES: [(&str, Damage); 10] = [
     ("one-offset", |arrays, random| {
         let near = arrays.columns.len() as u32 + 1;
         let inside = random.below(u64::from(near)) as u32;
@@ -90,7 +90,7 @@ const DAMAGES: [(&str, Damage); 10] = [
 ];
 
 /// What stands in the place of one weight, and whether it still passes.
-const WEIGHTS: [(&str, f64, bool); 9] = [
+pub const WEIGHTS: [(&str, f64, bool); 9] = [
     ("minus-zero", -0.0, true),
     ("least", 5e-324, true),
     ("greatest", f64::MAX, true),
@@ -148,25 +148,29 @@ fn one_matrix(report: &mut Report, name: &str, arrays: &Arrays, said: Option<u64
 
 /// The question by which the container refuses the arrays, or zero.
 fn container(arrays: &Arrays) -> u64 {
-    let wide = |words: &[u32]| words.iter().map(|&word| word as usize).collect();
-    let (rows, values) = (arrays.rows, arrays.values.clone());
-    match CsrMatrix::new(
-        rows,
-        rows,
-        wide(&arrays.offsets),
-        wide(&arrays.columns),
-        values,
-    ) {
-        Ok(_) => PASSED,
-        Err(LinearAlgebraError::InvalidCsr { message }) => {
-            let question = message.strip_prefix("question ");
-            let number = question.and_then(|rest| rest.split(':').next());
-            number
-                .and_then(|number| number.parse().ok())
-                .expect("the container names its question")
-        }
-        Err(error) => panic!("the container answers {error:?}"),
+    arrays.container().err().unwrap_or(PASSED)
+}
+
+impl Arrays {
+    /// The arrays in the container, or the question by which it refuses them.
+    pub fn container(&self) -> Result<CsrMatrix, u64> {
+        let wide = |words: &[u32]| words.iter().map(|&word| word as usize).collect();
+        let (rows, values) = (self.rows, self.values.clone());
+        let (offsets, columns) = (wide(&self.offsets), wide(&self.columns));
+        CsrMatrix::new(rows, rows, offsets, columns, values).map_err(|error| asked(&error))
     }
+}
+
+/// The question that the container names.
+pub fn asked(error: &LinearAlgebraError) -> u64 {
+    let LinearAlgebraError::InvalidCsr { message } = error else {
+        panic!("the container answers {error:?}");
+    };
+    let question = message.strip_prefix("question ");
+    let number = question.and_then(|rest| rest.split(':').next());
+    number
+        .and_then(|number| number.parse().ok())
+        .expect("the container names its question")
 }
 
 /// Rows in any shape, or a symmetric pattern.
@@ -246,7 +250,7 @@ fn ends() -> Vec<(&'static str, Arrays, u64)> {
 }
 
 /// As many entries in each row, in the first columns.
-fn even_rows(rows: usize, each: usize) -> Arrays {
+pub fn even_rows(rows: usize, each: usize) -> Arrays {
     Arrays {
         rows,
         offsets: (0..=rows).map(|row| (row * each) as u32).collect(),
@@ -306,7 +310,7 @@ fn one_weights(
 }
 
 /// mod.rs:59-72
-fn refusal(face_weights: &[f64], entries: usize) -> u64 {
+pub fn refusal(face_weights: &[f64], entries: usize) -> u64 {
     if face_weights.len() != entries {
         return 4;
     }
@@ -340,7 +344,7 @@ fn told(
     });
 }
 
-fn any<'a, T>(items: &'a mut [T], random: &mut Random) -> Option<&'a mut T> {
+pub fn any<'a, T>(items: &'a mut [T], random: &mut Random) -> Option<&'a mut T> {
     match items.len() {
         0 => None,
         length => items.get_mut(random.index(length)),

@@ -3,6 +3,7 @@
 mod acceleration;
 mod aggregation;
 mod agreement;
+mod build;
 mod coarse;
 mod csr;
 mod cycle;
@@ -43,27 +44,84 @@ impl Effort {
     }
 }
 
+type Comparison = fn(&mut Report, &mut Random, Effort);
+
+/// In the order in which they draw their cases.
+const COMPARISONS: [(&str, Comparison); 16] = [
+    ("boundary", |report, _, _| agreement::compare(report)),
+    ("oracle", |report, _, _| worked::compare(report)),
+    ("float", float::compare),
+    ("vector", vector::compare),
+    ("options", options::compare),
+    ("aggregation", aggregation::compare),
+    ("galerkin", galerkin::compare),
+    ("matrix", matrix::compare),
+    ("smoother", smoother::compare),
+    ("coarse", coarse::compare),
+    ("measure", measure::compare),
+    ("cycle", cycle::compare),
+    ("acceleration", acceleration::compare),
+    ("csr", csr::compare),
+    ("faces", faces::compare),
+    ("build", build::compare),
+];
+
+struct Arguments {
+    effort: Effort,
+    seed: u64,
+    /// The comparison that is run alone, if one is.
+    only: Option<String>,
+    /// Nothing is compared, but a list of builds is written, with so many of each kind of answer.
+    list: Option<u64>,
+}
+
 fn main() -> ExitCode {
     match arguments() {
-        Ok((effort, seed)) => run(effort, seed),
+        Ok(Arguments {
+            list: Some(each),
+            seed,
+            ..
+        }) => {
+            let each = each.try_into().unwrap_or(usize::MAX);
+            print!("{}", build::list::write(&mut Random::new(seed), each));
+            ExitCode::SUCCESS
+        }
+        Ok(arguments) => run(&arguments),
         Err(sentence) => {
-            eprintln!("compare: {sentence}\nusage: compare [--long] [--seed NUMBER]");
+            eprintln!(
+                "compare: {sentence}\nusage: compare [--long] [--seed NUMBER] [--only NAME] [--list NUMBER]"
+            );
             ExitCode::from(2)
         }
     }
 }
 
-fn arguments() -> Result<(Effort, u64), String> {
-    let (mut effort, mut seed) = (Effort::Quick, SEED);
+fn arguments() -> Result<Arguments, String> {
+    let mut arguments = Arguments {
+        effort: Effort::Quick,
+        seed: SEED,
+        only: None,
+        list: None,
+    };
     let mut words = std::env::args().skip(1);
     while let Some(word) = words.next() {
         match word.as_str() {
-            "--long" => effort = Effort::Long,
-            "--seed" => seed = number(&words.next().unwrap_or_default())?,
+            "--long" => arguments.effort = Effort::Long,
+            "--seed" => arguments.seed = number(&words.next().unwrap_or_default())?,
+            "--list" => arguments.list = Some(number(&words.next().unwrap_or_default())?),
+            "--only" => arguments.only = Some(known(words.next().unwrap_or_default())?),
             _ => return Err(format!("{word} is not understood")),
         }
     }
-    Ok((effort, seed))
+    Ok(arguments)
+}
+
+fn known(name: String) -> Result<String, String> {
+    if COMPARISONS.iter().any(|comparison| comparison.0 == name) {
+        Ok(name)
+    } else {
+        Err(format!("there is no comparison {name:?}"))
+    }
 }
 
 /// Decimal, or hexadecimal after 0x, as the program prints its seed.
@@ -72,28 +130,18 @@ fn number(word: &str) -> Result<u64, String> {
         Some(digits) => u64::from_str_radix(digits, 16),
         None => word.parse(),
     };
-    parsed.map_err(|error| format!("the seed {word:?}: {error}"))
+    parsed.map_err(|error| format!("the number {word:?}: {error}"))
 }
 
-fn run(effort: Effort, seed: u64) -> ExitCode {
-    println!("seed {seed:#018x}");
+fn run(arguments: &Arguments) -> ExitCode {
+    println!("seed {:#018x}", arguments.seed);
     let mut report = Report::default();
-    let mut random = Random::new(seed);
-    agreement::compare(&mut report);
-    worked::compare(&mut report);
-    float::compare(&mut report, &mut random, effort);
-    vector::compare(&mut report, &mut random, effort);
-    options::compare(&mut report, &mut random, effort);
-    aggregation::compare(&mut report, &mut random, effort);
-    galerkin::compare(&mut report, &mut random, effort);
-    matrix::compare(&mut report, &mut random, effort);
-    smoother::compare(&mut report, &mut random, effort);
-    coarse::compare(&mut report, &mut random, effort);
-    measure::compare(&mut report, &mut random, effort);
-    cycle::compare(&mut report, &mut random, effort);
-    acceleration::compare(&mut report, &mut random, effort);
-    csr::compare(&mut report, &mut random, effort);
-    faces::compare(&mut report, &mut random, effort);
+    let mut random = Random::new(arguments.seed);
+    for (name, compare) in COMPARISONS {
+        if arguments.only.as_ref().is_none_or(|only| only == name) {
+            compare(&mut report, &mut random, arguments.effort);
+        }
+    }
     report.print();
     if report.differences() == 0 {
         ExitCode::SUCCESS

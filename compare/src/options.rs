@@ -72,7 +72,7 @@ fn one_case(report: &mut Report, kind: KindId, controls: &MultigridOptions, said
 }
 
 /// Controls that pass, ends of the ranges included.
-fn valid(random: &mut Random) -> MultigridOptions {
+pub fn valid(random: &mut Random) -> MultigridOptions {
     let max_sweeps = random.within(1, 64);
     let mut count = |low, high| random.within(low, high) as usize;
     let counts = MultigridOptions {
@@ -96,7 +96,7 @@ fn valid(random: &mut Random) -> MultigridOptions {
 }
 
 /// Valid controls with a few numbers of any size in their place.
-fn any(random: &mut Random) -> MultigridOptions {
+pub fn any(random: &mut Random) -> MultigridOptions {
     let mut controls = valid(random);
     for count in [
         &mut controls.pre_sweeps,

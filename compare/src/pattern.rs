@@ -132,6 +132,22 @@ impl Pattern {
         self.offsets.len() - 1
     }
 
+    /// The same with its rows in any order. All of them have a diagonal entry.
+    pub fn reordered(&self, random: &mut Random) -> Self {
+        let order = shuffled(random, self.rows());
+        let rows = self.offsets.windows(2).enumerate();
+        let faces: Vec<(usize, usize)> = rows
+            .flat_map(|(row, ends)| {
+                self.columns[ends[0]..ends[1]]
+                    .iter()
+                    .map(move |&column| (row, column))
+            })
+            .filter(|(row, column)| row != column)
+            .map(|(row, column)| (order[row], order[column]))
+            .collect();
+        Self::of_faces(&vec![true; self.rows()], &faces)
+    }
+
     /// The entry of each row's diagonal, of those that have one.
     pub fn diagonals(&self) -> Vec<usize> {
         let rows = self.offsets.windows(2).enumerate();

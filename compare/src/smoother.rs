@@ -160,7 +160,7 @@ fn dic_diagonal(report: &mut Report, level: &mut Level) -> Option<Vec<f64>> {
     });
     let mut due = vec![0.0; rows];
     let theirs = level.theirs.update_dic_diagonal(&mut due);
-    let answer = theirs.map_err(|error| refused(&error, &due));
+    let answer = theirs.map_err(|error| refused(&error, &due, LEVEL));
     let agrees = ours == answer && (answer.is_err() || same_floats(level.floats.at(d, rows), &due));
     let kind = report.kind(&format!("smoother/update_dic_diagonal/{}", level.values));
     report.case(kind, agrees, || {
@@ -175,7 +175,8 @@ fn dic_diagonal(report: &mut Report, level: &mut Level) -> Option<Vec<f64>> {
     answer.is_ok().then_some(due)
 }
 
-fn refused(error: &LinearAlgebraError, left: &[f64]) -> Refused {
+/// Question 16 or 17, and the first row that fails it in what the Rust leaves.
+pub fn refused(error: &LinearAlgebraError, left: &[f64], level: u64) -> Refused {
     let LinearAlgebraError::Breakdown { reason } = error else {
         return (0, 0, 0);
     };
@@ -187,7 +188,7 @@ fn refused(error: &LinearAlgebraError, left: &[f64]) -> Refused {
         "non-finite DIC inverse" => (17, left.iter().position(|inverse| !inverse.is_finite())),
         _ => (0, None),
     };
-    (number, LEVEL, row.map_or(u64::MAX, |row| row as u64))
+    (number, level, row.map_or(u64::MAX, |row| row as u64))
 }
 
 /// One sweep of each kind: x, and the vector that is made beside it.

@@ -1,0 +1,102 @@
+//! `new` and `new_with_face_weights` of mod.rs: default controls but Cholesky, so two pairings to a level.
+
+use crate::grid::{Grid, noise};
+use crate::measure::Kernel;
+use compare::library;
+use compare::random::Random;
+use multigrid::{MultigridOptions, Stores, lent};
+use oracle::{AlgebraicMultigrid, CsrMatrix, LinearAlgebraError, MultigridCoarseSolver};
+use std::hint::black_box;
+
+struct Build {
+    matrix: CsrMatrix,
+    weights: Option<Vec<f64>>,
+    rust_options: oracle::MultigridOptions,
+    options: MultigridOptions,
+    offsets: Vec<u32>,
+    columns: Vec<u32>,
+    stores: Stores,
+    random: Random,
+}
+
+pub fn by_values(grid: &Grid) -> Box<dyn Kernel> {
+    Box::new(Build::new(grid, None))
+}
+
+pub fn by_weights(grid: &Grid) -> Box<dyn Kernel> {
+    Box::new(Build::new(grid, Some(grid.weights.clone())))
+}
+
+impl Build {
+    fn new(grid: &Grid, weights: Option<Vec<f64>>) -> Self {
+        let words = |numbers: &[usize]| numbers.iter().map(|&number| number as u32).collect();
+        let rust_options = oracle::MultigridOptions {
+            coarse_solver: MultigridCoarseSolver::Cholesky,
+            ..oracle::MultigridOptions::default()
+        };
+        let mut build = Self {
+            matrix: grid.matrix.clone(),
+            weights,
+            rust_options,
+            options: library::options(&rust_options),
+            offsets: words(grid.matrix.row_offsets()),
+            columns: words(grid.matrix.column_indices()),
+            stores: Stores::default(),
+            random: Random::new(1),
+        };
+        // A level has at most about half the rows of the one before, so three times the finest is enough.
+        let charge = lent::Charge::most(&build.lent(), &build.options, 3);
+        build.stores = Stores::new(charge, build.options.max_levels);
+        build.test();
+        build
+    }
+
+    fn lent(&self) -> lent::CsrMatrix<'_> {
+        lent::CsrMatrix {
+            rows: self.matrix.nrows(),
+            row_offsets: &self.offsets,
+            column_indices: &self.columns,
+            values: self.matrix.values(),
+        }
+    }
+
+    fn rust_build(&self) -> Result<AlgebraicMultigrid, LinearAlgebraError> {
+        match &self.weights {
+            Some(weights) => {
+                AlgebraicMultigrid::new_with_face_weights(&self.matrix, weights, self.rust_options)
+            }
+            None => AlgebraicMultigrid::new(&self.matrix, self.rust_options),
+        }
+    }
+
+    /// As many levels of as many rows; compare/ has the rest of them, bit for bit.
+    fn test(&mut self) {
+        self.clear();
+        self.ours();
+        let theirs = self.rust_build().expect("a grid has a hierarchy");
+        let cells = theirs.statistics().iter().map(|level| level.cells as u64);
+        let records = self.stores.statistics.chunks_exact(4);
+        let ours = records.map(|record| record[0]).take_while(|&rows| rows > 0);
+        assert!(ours.eq(cells), "the answers differ");
+    }
+}
+
+impl Kernel for Build {
+    fn clear(&mut self) {
+        noise(&mut self.stores.words, &mut self.random);
+        self.stores.floats.fill_with(|| self.random.unit());
+        self.stores.statistics.fill_with(|| self.random.bits());
+    }
+
+    fn rust(&mut self) {
+        black_box(self.rust_build().is_ok());
+    }
+
+    fn ours(&mut self) {
+        let mut stores = std::mem::take(&mut self.stores);
+        let weights = self.weights.as_deref();
+        let answer = lent::build(self.lent(), weights, &self.options, &mut stores);
+        self.stores = stores;
+        black_box(answer.is_ok());
+    }
+}

@@ -1,0 +1,44 @@
+/* Calls each export of the library once from C: the matrix 4, -2; -2, 2. */
+#include "../include/multigrid.h"
+
+#include <stdio.h>
+
+static int failures;
+
+static void expect(int holds, const char *call) {
+    if (!holds) {
+        fprintf(stderr, "%s answers something else from C\n", call);
+        failures++;
+    }
+}
+
+int main(void) {
+    const uint32_t offsets[3] = {0, 2, 4};
+    const uint32_t columns[4] = {0, 1, 0, 1};
+    const double values[4] = {4, -2, -2, 2};
+    const double weights[4] = {0, 1, 1, 0};
+    static uint32_t words[256];
+    static double floats[512];
+    uint64_t statistics[8] = {9, 9, 9, 9, 9, 9, 9, 9};
+    uint64_t place[3] = {9, 9, 9};
+
+    /* One level: its words are 2, 1, 2 and the offsets, its floats the values first. */
+    expect(multigrid_new(2, offsets, 3, columns, 4, values, 4, 2, 1, 0, 2, 1, 1, 4, 10, 2, 2, 4, 1, 1e-12, 0.01, 500, 1,
+                         words, 256, floats, 512, statistics, 8, place, 3) == 0 &&
+               place[2] == 1 && words[0] == 2 && words[1] == 1 && words[2] == 2 && words[5] == 4 && floats[1] == -2 &&
+               statistics[0] == 2 && statistics[1] == 0 && statistics[4] == 0,
+           "multigrid_new");
+    /* Two levels, the second of one row: 4 - 2 - 2 + 2. */
+    expect(multigrid_new_with_face_weights(2, offsets, 3, columns, 4, values, 4, weights, 4, 2, 1, 0, 2, 1, 1, 4, 1, 2,
+                                           2, 4, 1, 1e-12, 0.01, 500, 1, words, 256, floats, 512, statistics, 8, place,
+                                           3) == 0 &&
+               place[2] == 2 && words[1] == 0 && statistics[0] == 2 && statistics[4] == 1,
+           "multigrid_new_with_face_weights");
+    /* One weight too few. */
+    expect(multigrid_new_with_face_weights(2, offsets, 3, columns, 4, values, 4, weights, 3, 2, 1, 0, 2, 1, 1, 4, 1, 2,
+                                           2, 4, 1, 1e-12, 0.01, 500, 1, words, 256, floats, 512, statistics, 8, place,
+                                           3) == 4 &&
+               place[0] == 0 && place[1] == 0 && words[0] == 0 && floats[0] == 0 && statistics[0] == 0,
+           "multigrid_new_with_face_weights");
+    return failures != 0;
+}

@@ -1,0 +1,22 @@
+//! The library's exports, by the wrapper in rust/.
+
+use super::problem::{Problem, Stores};
+use crate::boundary::kernels::Refused;
+use multigrid::lent;
+
+/// The number of levels, or the refusal.
+pub fn build(problem: &Problem, stores: &mut Stores) -> Result<u64, Refused> {
+    let arrays = &problem.arrays;
+    let matrix = lent::CsrMatrix {
+        rows: arrays.rows,
+        row_offsets: &arrays.offsets,
+        column_indices: &arrays.columns,
+        values: &arrays.values,
+    };
+    let options = compare::library::options(&problem.options);
+    let weights = problem.weights.as_deref();
+    match lent::build(matrix, weights, &options, stores) {
+        Ok(levels) => Ok(levels as u64),
+        Err(refusal) => Err((refusal.number(), refusal.level(), refusal.row())),
+    }
+}

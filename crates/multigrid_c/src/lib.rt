@@ -1,0 +1,178 @@
+// The calls of `multigrid` for C: numbers and slices only, a slice as a pointer and a length.
+// include/multigrid.h and rust/src/calls.rs declare the same functions.
+ghost use mathlib.Core.Bool.{true, false};
+ghost use mathlib.Core.List.{[]};
+ghost use mathlib.Core.Path.{_≡_};
+ghost use Prim.Native.Nat.{_≤_};
+ghost use lib.ListN.{length};
+ghost use Rattle.build.specs.Steps.{inputOf};
+ghost use Rattle.flat.specs.Flat.{optionsOf};
+ghost use Rattle.multigrid_c.specs.Told.{three, Told, Exported};
+use build::Built;
+
+// Three numbers at the front of `place`.
+fn put(place: &mut [u64], level: u64, row: u64, levels: u64)
+    requires { ⌜ 3 ≤ length (now place) ⌝ }
+    ensures { λ _. ⌜ now (place .exit) ≡ three (now (place .entry)) level row levels ⌝ }
+{
+    place[0] = level;
+    place[1] = row;
+    place[2] = levels;
+}
+
+// Zero or the number of the refusal; at `place` the level and row of a refusal, then the levels that were built.
+fn tell(built: Built, place: &mut [u64]) -> u64
+    requires { ⌜ 3 ≤ length (now place) ⌝ }
+    ensures { λ r. ⌜ Told built (now (place .entry)) (now (place .exit)) r ⌝ }
+{
+    match built {
+        Built::Made(handle) => {
+            put(place, 0, 0, handle.levels);
+            0
+        }
+        Built::Refused(refusal) => {
+            put(place, refusal.level(), refusal.row(), 0);
+            refusal.number()
+        }
+    }
+}
+
+#[no_mangle]
+pub extern "C" fn multigrid_new(
+    rows: usize,
+    offsets: &[u32],
+    columns: &[u32],
+    values: &[f64],
+    smoother: u8,
+    residual_norm: u8,
+    pre_sweeps: u64,
+    post_sweeps: u64,
+    finest_sweeps: u64,
+    sweep_level_multiplier: u64,
+    max_sweeps: u64,
+    coarsest_cells: u64,
+    max_levels: u64,
+    merge_levels: u64,
+    krylov_dimension: u64,
+    coarse_solver: u8,
+    coarse_absolute_tolerance: f64,
+    coarse_relative_tolerance: f64,
+    coarse_max_iterations: u64,
+    scale_correction: u8,
+    words: &mut [u32],
+    floats: &mut [f64],
+    statistics: &mut [u64],
+    place: &mut [u64],
+) -> u64
+    requires { ⌜ 3 ≤ length (now place) ⌝ }
+    ensures { λ r. ⌜ Exported (now (words .entry)) (now (words .exit)) (now (floats .entry)) (now (floats .exit))
+        (now (statistics .entry)) (now (statistics .exit))
+        (inputOf rows (now (offsets .entry)) (now (columns .entry)) (now (values .entry)) false []
+        (optionsOf smoother «residual_norm» «pre_sweeps» «post_sweeps» «finest_sweeps» «sweep_level_multiplier» «max_sweeps»
+        «coarsest_cells» «max_levels» «merge_levels» «krylov_dimension» «coarse_solver» «coarse_absolute_tolerance»
+        «coarse_relative_tolerance» «coarse_max_iterations» «scale_correction»))
+        (now (place .entry)) (now (place .exit)) r ⌝ }
+{
+    let options = flat::options_of(
+        smoother,
+        residual_norm,
+        pre_sweeps,
+        post_sweeps,
+        finest_sweeps,
+        sweep_level_multiplier,
+        max_sweeps,
+        coarsest_cells,
+        max_levels,
+        merge_levels,
+        krylov_dimension,
+        coarse_solver,
+        coarse_absolute_tolerance,
+        coarse_relative_tolerance,
+        coarse_max_iterations,
+        scale_correction,
+    );
+    tell(
+        multigrid::new(
+            rows,
+            offsets,
+            columns,
+            values,
+            options,
+            words,
+            floats,
+            statistics,
+        ),
+        place,
+    )
+}
+
+#[no_mangle]
+pub extern "C" fn multigrid_new_with_face_weights(
+    rows: usize,
+    offsets: &[u32],
+    columns: &[u32],
+    values: &[f64],
+    face_weights: &[f64],
+    smoother: u8,
+    residual_norm: u8,
+    pre_sweeps: u64,
+    post_sweeps: u64,
+    finest_sweeps: u64,
+    sweep_level_multiplier: u64,
+    max_sweeps: u64,
+    coarsest_cells: u64,
+    max_levels: u64,
+    merge_levels: u64,
+    krylov_dimension: u64,
+    coarse_solver: u8,
+    coarse_absolute_tolerance: f64,
+    coarse_relative_tolerance: f64,
+    coarse_max_iterations: u64,
+    scale_correction: u8,
+    words: &mut [u32],
+    floats: &mut [f64],
+    statistics: &mut [u64],
+    place: &mut [u64],
+) -> u64
+    requires { ⌜ 3 ≤ length (now place) ⌝ }
+    ensures { λ r. ⌜ Exported (now (words .entry)) (now (words .exit)) (now (floats .entry)) (now (floats .exit))
+        (now (statistics .entry)) (now (statistics .exit))
+        (inputOf rows (now (offsets .entry)) (now (columns .entry)) (now (values .entry)) true (now («face_weights» .entry))
+        (optionsOf smoother «residual_norm» «pre_sweeps» «post_sweeps» «finest_sweeps» «sweep_level_multiplier» «max_sweeps»
+        «coarsest_cells» «max_levels» «merge_levels» «krylov_dimension» «coarse_solver» «coarse_absolute_tolerance»
+        «coarse_relative_tolerance» «coarse_max_iterations» «scale_correction»))
+        (now (place .entry)) (now (place .exit)) r ⌝ }
+{
+    let options = flat::options_of(
+        smoother,
+        residual_norm,
+        pre_sweeps,
+        post_sweeps,
+        finest_sweeps,
+        sweep_level_multiplier,
+        max_sweeps,
+        coarsest_cells,
+        max_levels,
+        merge_levels,
+        krylov_dimension,
+        coarse_solver,
+        coarse_absolute_tolerance,
+        coarse_relative_tolerance,
+        coarse_max_iterations,
+        scale_correction,
+    );
+    tell(
+        multigrid::new_with_face_weights(
+            rows,
+            offsets,
+            columns,
+            values,
+            face_weights,
+            options,
+            words,
+            floats,
+            statistics,
+        ),
+        place,
+    )
+}
