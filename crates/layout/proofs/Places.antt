@@ -75,6 +75,7 @@ linksOf a rows entries faces = a + 5 + 3 * rows + entries + 3 * faces
 
 module _ (w : List ℕ) (a : ℕ) {rows entries faces : ℕ} (r : rows ≡ rowsAt w a) (e : entries ≡ idx w (a + 3 + rows))
     (f : faces ≡ idx w (a + 3 + rows + 1 + entries + rows)) where
+  -- The end by those sizes.
   ends-at : wordsEnd w a ≡ cond (lastAt w a) (placeOf a 0 rows entries faces .links + coupledAt w a) (placeOf a 0 rows entries faces .positions + entries)
   unfolding wordsEnd
   ends-at = rw (← r, ← e, ← f)

@@ -101,9 +101,11 @@ module _ {w z : List ℕ} {F G : List Float} {x : Input} {r : Built} where
 -- ---- weights that are not given
 
 module _ (rows : ℕ) (offsets columns : List ℕ) (values weights : List Float) (o : MultigridOptions) where
+  -- the input of a build without weights, with some handed over all the same
   abbrev with-some : Input
   with-some = inputOf rows offsets columns values false weights o
 
+  -- and with none
   abbrev with-none : Input
   with-none = inputOf rows offsets columns values false [] o
 
@@ -112,11 +114,12 @@ module _ (rows : ℕ) (offsets columns : List ℕ) (values weights : List Float)
   unfolding buildOf
   weights-unread l = refl
 
+  -- nor does its answer,
   answer-unread : (out : Outcome Hierarchy) → builtOf with-some out ≡ builtOf with-none out
   answer-unread (accepted h) = refl
   answer-unread (refused q) = refl
 
-  -- nor does what it leaves.
+  -- nor what it leaves.
   pub new-done : {w z : List ℕ} {F G : List Float} {s t : List ℕ} {r : Built} → NewDone w z F G s t with-some r → NewDone w z F G s t with-none r
   new-done {w} {z} {F} {G} {s} {t} {r} d =
       let l = lentOf w F (length s / 4) in

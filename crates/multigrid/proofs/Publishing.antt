@@ -40,13 +40,14 @@ begin-done at rows F =
 -- ---- the records of all levels
 
 module _ {A : Type 0} where
+  -- What is laid right behind a list at the start is laid with it,
   lay-append : (u v F : List A) → splice (length u) v (lay u F) ≡ lay (u ++ v) F
   unfolding splice lay
   lay-append [] v F = refl
   lay-append (x ∷ u) v [] = refl
   lay-append (x ∷ u) v (y ∷ F) = ap (λ (r : List A). x ∷ r) (lay-append u v F)
 
-  -- What is laid right behind a splice is laid with it.
+  -- and so it is anywhere.
   splice-append : (b : ℕ) (u v F : List A) → splice (b + length u) v (splice b u F) ≡ splice b (u ++ v) F
   unfolding splice
   splice-append zero u v F = rw zero-add (lay-append u v F)
@@ -59,11 +60,12 @@ unfolding freshAt
 length-fresh zero w a = refl
 length-fresh (suc k) w a = omega (arith, length-fresh k w (wordsEnd w a))
 
--- The first of levels that fit ends in the store, and so do those after it.
+-- The words of a level at a end in the store, and so do those of n levels after it.
 record Ahead (n : ℕ) (w : List ℕ) (a : ℕ) : Type 0 where
   here : wordsEnd w a ≤ length w
   on : wordsFit n w (wordsEnd w a) ≡ true
 
+-- So it is where one level more than n fits.
 ahead : (n : ℕ) (w : List ℕ) (a : ℕ) → wordsFit (suc n) w a ≡ true → Ahead n w a
 unfolding wordsFit
 ahead n w a t = record {
@@ -83,9 +85,11 @@ pub publishing : {w s : List ℕ} {levels : ℕ} → PublishOk w (length s) leve
 publishing {w} {s} {levels} ok = let e : levels - 0 ≡ levels = omega arith in record { fits = rw e (ok .fits); rest = rw e refl; size = refl }
 
 module _ {w s₀ s : List ℕ} {levels a k : ℕ} (p : Publishing w s₀ levels s a k) (h : k < levels) where
+  -- One level more is left than after it.
   left : levels - k ≡ suc (levels - (k + 1))
   left = omega arith
 
+  -- What is known of it and of those after it.
   next : Ahead (levels - (k + 1)) w a
   next = ahead (levels - (k + 1)) w a (rw left at (p .fits))
 
