@@ -6,7 +6,11 @@ use Rattle.multigrid_c.proofs.multigrid_new.Statement.{statement}
 use Rattle.multigrid_c.proofs.multigrid_new.Tie as tie
 
 returns : tie.Need-returns
-returns c = exported (rw (c .before .before .before .before .before .before .before .before .before .before .before .before .before .before .options-of .ensures) at (c .before .before .before .before .before .before .before .before .before .before .new .ensures)) (c .before .before .tell .ensures)
+returns c =
+    exported
+    (rw (c .before .before .before .before .before .before .before .before .before .before .before .before .before .before .options-of .ensures)
+    at (c .before .before .before .before .before .before .before .before .before .before .new .ensures))
+    (c .before .before .tell .ensures)
 
 pub multigrid-new-spec : {M : Type 1} → statement M
 multigrid-new-spec =

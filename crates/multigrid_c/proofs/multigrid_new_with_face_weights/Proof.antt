@@ -6,7 +6,11 @@ use Rattle.multigrid_c.proofs.multigrid_new_with_face_weights.Statement
 use Rattle.multigrid_c.proofs.multigrid_new_with_face_weights.Tie as tie
 
 returns : tie.Need-returns
-returns c = exported (rw (c .before .before .before .before .before .before .before .before .before .before .before .before .before .before .options-of .ensures) at (c .before .before .before .before .before .before .before .before .before .before .new-with-face-weights .ensures)) (c .before .before .tell .ensures)
+returns c =
+    exported
+    (rw (c .before .before .before .before .before .before .before .before .before .before .before .before .before .before .options-of .ensures)
+    at (c .before .before .before .before .before .before .before .before .before .before .new-with-face-weights .ensures))
+    (c .before .before .tell .ensures)
 
 pub multigrid-new-with-face-weights-spec : {M : Type 1} → statement M
 multigrid-new-with-face-weights-spec =
