@@ -1,9 +1,7 @@
-// cycle.rs: the float work of a cycle on one level, over regions of the store. Residuals go down to the aggregates,
-// corrections come up from them, and a correction is scaled and added.
+// cycle.rs: the float work of a cycle on one level, over regions of the store: the residual, and a correction that is scaled and added.
 ghost use mathlib.Core.Path.{_≡_};
 ghost use lib.ListN.{length};
 ghost use Rattle.store.specs.Region.{part, Wrote, CopyOk};
-ghost use Rattle.cycle.specs.Transfer.{RestrictOk, ProlongOk, gatherOf, restrictOf, prolongOf};
 ghost use Rattle.cycle.specs.Correction.{SubtractOk, ProductsOk, ScaledOk, subtractOf, productsOf, quotientOf};
 ghost use Rattle.cycle.specs.Correction.{scaleOf, correctionFactorOf, factorOf, addScaledOf, addPlainOf};
 use refusal::Refusal;
@@ -18,64 +16,6 @@ pub struct Products {
 pub enum Factor {
     Factor(f64),
     Refused(Refusal),
-}
-
-// Each row's residual, added to what stands at its aggregate.
-fn gather(w: &[u32], f: &mut [f64], n: usize, count: usize, map: usize, residual: usize, out: usize)
-    requires { ⌜ RestrictOk (now w) (length (now f)) n count map residual out ⌝ }
-    ensures { λ _. ⌜ Wrote out count
-        (gatherOf n (part map n (now (w .entry))) (part residual n (now (f .entry)))
-        (part out count (now (f .entry))))
-        (now (f .entry)) (now (f .exit)) ⌝ }
-{
-    let mut row = 0;
-    while row < n {
-        let aggregate = store::index_at(w, map, row, count);
-        f[out + aggregate] = f[out + aggregate] + f[residual + row];
-        row += 1;
-    }
-}
-
-// The residuals of n rows, added up over each of the `count` aggregates: the next level's right-hand side.
-pub fn restrict(
-    w: &[u32],
-    f: &mut [f64],
-    n: usize,
-    count: usize,
-    map: usize,
-    residual: usize,
-    out: usize,
-)
-    requires { ⌜ RestrictOk (now w) (length (now f)) n count map residual out ⌝ }
-    ensures { λ _. ⌜ Wrote out count
-        (restrictOf count n (part map n (now (w .entry))) (part residual n (now (f .entry))))
-        (now (f .entry)) (now (f .exit)) ⌝ }
-{
-    store::fill(f, out, count, 0.0);
-    gather(w, f, n, count, map, residual, out);
-}
-
-// Each row's correction: the coarse solution at its aggregate.
-pub fn prolong(
-    w: &[u32],
-    f: &mut [f64],
-    n: usize,
-    count: usize,
-    map: usize,
-    coarse: usize,
-    out: usize,
-)
-    requires { ⌜ ProlongOk (now w) (length (now f)) n count map coarse out ⌝ }
-    ensures { λ _. ⌜ Wrote out n
-        (prolongOf n (part map n (now (w .entry))) (part coarse count (now (f .entry))))
-        (now (f .entry)) (now (f .exit)) ⌝ }
-{
-    let mut row = 0;
-    while row < n {
-        let aggregate = store::index_at(w, map, row, count);
-        f[out + row] = f[coarse + aggregate];
-        row += 1;
-    }
 }
 
 // The residual: the right-hand side less the product.

@@ -3,7 +3,7 @@ ghost use mathlib.Core.Path.{_≡_};
 ghost use Prim.Native.Nat.{_≤_};
 ghost use lib.ListN.{length};
 ghost use Rattle.store.specs.Region.{part, Wrote, CopyOk};
-ghost use Rattle.cycle.specs.Transfer.{RestrictOk, ProlongOk, restrictOf, prolongOf};
+ghost use Rattle.transfer.specs.Transfer.{RestrictOk, ProlongOk, restrictOf, prolongOf};
 ghost use Rattle.cycle.specs.Correction.{SubtractOk, ProductsOk, ScaledOk, subtractOf, correctionFactorOf, factorOf};
 ghost use Rattle.cycle.specs.Correction.{addScaledOf, addPlainOf};
 ghost use Rattle.acceleration.specs.Gcr.{correctOf};
@@ -27,7 +27,7 @@ pub extern "C" fn probe_restrict(
         (restrictOf count n (part map n (now (w .entry))) (part residual n (now (f .entry))))
         (now (f .entry)) (now (f .exit)) ⌝ }
 {
-    cycle::restrict(w, f, n, count, map, residual, out);
+    transfer::restrict(w, f, n, count, map, residual, out);
 }
 
 #[no_mangle]
@@ -45,7 +45,7 @@ pub extern "C" fn probe_prolong(
         (prolongOf n (part map n (now (w .entry))) (part coarse count (now (f .entry))))
         (now (f .entry)) (now (f .exit)) ⌝ }
 {
-    cycle::prolong(w, f, n, count, map, coarse, out);
+    transfer::prolong(w, f, n, count, map, coarse, out);
 }
 
 #[no_mangle]

@@ -1,43 +1,46 @@
--- `cycle::prolong` meets its contract. The loop's invariant: what is left to do from here gives what the whole gives.
+-- `transfer::gather` meets its contract. The loop's invariant: what is left to do from here gives what the whole gives.
 -- Assumes nothing.
 use mathlib.Core.Path.{_≡_, refl}
 use Prim.Native.Nat.{_-_}
 use lib.ListN.{length}
 use Rattle.store.specs.Loop.{for}
 use Rattle.store.proofs.Loop.{Left, left-start, left-on}
-use Rattle.cycle.proofs.Transfer.{prolongStep, prolong-done, prolong-on, prolong-near}
+use Rattle.transfer.proofs.Transfer.{gatherStep, gather-done, gather-on, gather-near}
 use native.Mathlib.Omega.{arith}
 use borrow.Author.Needs.{needs}
-use Rattle.cycle.proofs.prolong.Statement.{statement}
-use Rattle.cycle.proofs.prolong.Tie as tie
+use Rattle.transfer.proofs.gather.Statement.{statement}
+use Rattle.transfer.proofs.gather.Tie as tie
 
 abbrev Inv-loop : tie.InvT-loop
-Inv-loop w f₀ n count map coarse out row₀ f row =
-    (length f ≡ length f₀) × Left (prolongStep w map coarse out) row n f (for (prolongStep w map coarse out) 0 n f₀)
+Inv-loop w f₀ n count map residual out row₀ f row =
+    (length f ≡ length f₀) × Left (gatherStep w map residual out) row n f (for (gatherStep w map residual out) 0 n f₀)
 
 abbrev μ-loop : tie.MeasureT-loop
-μ-loop w f₀ n count map coarse out row₀ f row = n - row
+μ-loop w f₀ n count map residual out row₀ f row = n - row
 
 loop-holds : tie.Need-loop-holds Inv-loop μ-loop
 loop-holds c = (refl, left-start)
 
 index-at-requires : tie.Need-index-at-requires Inv-loop μ-loop
-index-at-requires c κs = search (prolong-near, needs)
+index-at-requires c κs = search (gather-near, needs)
 
 loop-again : tie.Need-loop-again Inv-loop μ-loop
-loop-again c = search (left-on, prolong-on, needs)
+loop-again c = search (left-on, gather-on, needs)
 
 returns : tie.Need-returns Inv-loop μ-loop
-returns c = search (prolong-done)
+returns c = search (gather-done)
 
-pub prolong-spec : {M : Type 1} → statement M
-prolong-spec =
+pub gather-spec : {M : Type 1} → statement M
+gather-spec =
     tie.close
     (tie.spec
     Inv-loop
     μ-loop
     loop-holds
     index-at-requires
+    (λ c. omega arith)
+    (λ c. omega arith)
+    (λ c. omega arith)
     (λ c. omega arith)
     (λ c. omega arith)
     (λ c. omega arith)

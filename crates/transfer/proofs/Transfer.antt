@@ -14,7 +14,7 @@ use Rattle.store.proofs.Loop.{for-map, Left, left-end}
 use Rattle.store.proofs.Region.{getD-part, getD-splice-below, getD-splice-in, set-splice, splice-part, length-part}
 use Rattle.store.proofs.Region.{wrote, wrote-at, wrote-off, wrote-again}
 use Rattle.store.proofs.Vector.{length-tab, tab-same, for-each}
-use Rattle.cycle.specs.Transfer.{gatherTurn, gatherOf, restrictOf, prolongOf, RestrictOk, ProlongOk}
+use Rattle.transfer.specs.Transfer.{gatherTurn, gatherOf, restrictOf, prolongOf, RestrictOk, ProlongOk}
 
 -- a turn of `gather`, of the store
 unfoldable pub gatherStep : List ℕ → ℕ → ℕ → ℕ → ℕ → List Float → List Float

@@ -1,9 +1,9 @@
--- `cycle::restrict` meets its contract: zeros, and then a gather.
+-- `transfer::restrict` meets its contract: zeros, and then a gather.
 -- Assumes nothing.
-use Rattle.cycle.proofs.Transfer.{restrict-done}
+use Rattle.transfer.proofs.Transfer.{restrict-done}
 use borrow.Author.Needs.{needs}
-use Rattle.cycle.proofs.restrict.Statement.{statement}
-use Rattle.cycle.proofs.restrict.Tie as tie
+use Rattle.transfer.proofs.restrict.Statement.{statement}
+use Rattle.transfer.proofs.restrict.Tie as tie
 
 returns : tie.Need-returns
 returns c = search (restrict-done)
