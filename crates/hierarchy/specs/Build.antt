@@ -5,11 +5,10 @@ use Prim.Native.Nat.{ℕ, zero, suc, _+_, _-_, _*_, _%_}
 use lib.Dec.{eqb, leb}
 use lib.ListN.{length}
 use lib.Ieee.{Float}
-use Rattle.store.specs.Region.{idx}
 use Rattle.options.specs.declared.MultigridOptions.{MultigridOptions}
 use Rattle.refusal.specs.declared.Refusal.{Refusal}
 use Rattle.options.specs.Options.{controlsAsked}
-use Rattle.refusal.specs.Outcome.{Outcome, accepted, refused, passed, ask, _>>=_, _>>_}
+use Rattle.refusal.specs.Outcome.{Outcome, accepted, passed, ask, _>>=_, _>>_}
 use Rattle.vector.specs.Dot.{allFinite}
 use Rattle.values.specs.Update.{Coefficients, updateOf}
 use Rattle.values.specs.Mirrors.{mirrorsEqual}
@@ -18,8 +17,8 @@ use Rattle.pattern.specs.Pattern.{Pattern, entries, coarse, coarsePositions, co
 use Rattle.galerkin.specs.Values.{galerkinOf, restrictWeightsOf}
 use Rattle.faces.specs.Faces.{facesOf, faceOffsetsOf, neighborsOf, uppersOf, lowersOf, mirroredOf, diagonalsOf, diagonalsAsked, coupledCountOf, coupledRowsOf}
 use Rattle.csr.specs.Questions.{matrixAsked, weightsAsked}
-use Rattle.hierarchy.specs.Level.{Shape, Numbers, Level, Hierarchy}
-use Rattle.hierarchy.specs.Refresh.{coefficientsOf, innerNumbers, lastNumbers, withSums}
+use Rattle.hierarchy.specs.Level.{Shape, Level, Hierarchy}
+use Rattle.hierarchy.specs.Refresh.{innerNumbers, lastNumbers, withSums}
 
 -- ---- question 9
 

@@ -16,7 +16,7 @@ use Rattle.matrix.specs.Kernel.{Kernel, rowSumsOf}
 use Rattle.values.specs.Update.{Coefficients, updateOf}
 use Rattle.dic.specs.Dic.{dicOf}
 use Rattle.cholesky.specs.Factor.{choleskyOf}
-use Rattle.pattern.specs.Pattern.{Pattern, entries}
+use Rattle.pattern.specs.Pattern.{entries}
 use Rattle.galerkin.specs.Values.{galerkinOf}
 use Rattle.hierarchy.specs.Level.{Shape, Numbers, Level, Hierarchy, kernelOf, csrOf}
 

@@ -1,6 +1,6 @@
 -- The shapes of a build with face weights: what `build` does to patterns and weights alone. No coefficient is read.
 -- Definitions only.
-use mathlib.Core.Bool.{Bool, cond}
+use mathlib.Core.Bool.{cond}
 use mathlib.Core.List.{List, [], _∷_}
 use Prim.Native.Nat.{ℕ, zero, suc, _+_, _-_}
 use lib.Dec.{eqb}

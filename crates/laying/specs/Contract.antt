@@ -1,17 +1,15 @@
 -- The frontier of the build, a level that is laid there, and what the functions require and ensure. Definitions only.
 use mathlib.Core.Path.{_≡_}
-use mathlib.Core.Bool.{Bool, true, false, cond}
+use mathlib.Core.Bool.{Bool, false, cond}
 use mathlib.Core.List.{List}
 use Prim.Native.Nat.{ℕ, _+_, _*_, _≤_}
 use lib.ListN.{length}
 use lib.Ieee.{Float}
 use Rattle.store.specs.Region.{part, Kept}
 use Rattle.options.specs.declared.MultigridOptions.{MultigridOptions}
-use Rattle.refusal.specs.declared.Refusal.{Refusal}
 use Rattle.refusal.specs.Outcome.{Outcome, accepted, refused, _>>=_}
 use Rattle.values.specs.Update.{Coefficients}
-use Rattle.aggregation.specs.Pairs.{Pairing}
-use Rattle.pattern.specs.Pattern.{Pattern, entries, Valid, Rising, Mirrored}
+use Rattle.pattern.specs.Pattern.{entries, Valid, Rising, Mirrored}
 use Rattle.faces.specs.Faces.{facesOf, diagonalsAsked}
 use Rattle.hierarchy.specs.Proper.{Proper}
 use Rattle.hierarchy.specs.Build.{Mesh, fixedCharge, kernelAsked, paired, endsAt}

@@ -7,7 +7,8 @@ ghost use Rattle.aggregation.specs.Layout.{weightedAt, GraphOk, Paired};
 ghost use Rattle.pattern.specs.Pattern.{composeOf};
 ghost use Rattle.pattern.specs.Coarsening.{PatternOk, Patterned, ComposeOk};
 ghost use Rattle.galerkin.specs.Values.{sumsOf, symmetrizeOf, restrictWeightsOf, SumsOk, FacesOk, WeightsOk};
-ghost use Rattle.probe.specs.Probe.{isSet, graphOf, coarseningOf};
+ghost use Rattle.flat.specs.Flat.{isSet};
+ghost use Rattle.probe.specs.Probe.{graphOf, coarseningOf};
 use aggregation::Graph;
 use pattern::Coarsening;
 

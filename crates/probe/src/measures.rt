@@ -5,9 +5,10 @@ ghost use lib.ListN.{length};
 ghost use Rattle.store.specs.Region.{part};
 ghost use Rattle.measure.specs.Measure.{measureOf};
 ghost use Rattle.measure.specs.Normalization.{normalizationOf, NormalizationOk, thresholdOf, relativeOf};
-ghost use Rattle.probe.specs.Probe.{flagOf, writtenOf, residualNormOf};
-use crate::controls::residual_norm_of;
+ghost use Rattle.flat.specs.Flat.{residualNormOf};
+ghost use Rattle.probe.specs.Probe.{flagOf, writtenOf};
 use crate::vectors::tell;
+use flat::residual_norm_of;
 
 #[no_mangle]
 pub extern "C" fn probe_measure(

@@ -8,9 +8,10 @@ ghost use Rattle.sweeps.specs.Sweep.{gaussSeidelOf, dicSweepOf};
 ghost use Rattle.sweeps.specs.Contract.{GaussSeidelOk, SmoothOk, Both};
 ghost use Rattle.dic.specs.Dic.{dicOf, DicOk, Settled};
 ghost use Rattle.smoother.specs.Smooth.{sweptOf, smoothOf, SmoothDone};
-ghost use Rattle.probe.specs.Probe.{isSet, smootherOf, symmetricOf, Told};
+ghost use Rattle.flat.specs.Flat.{isSet, smootherOf};
+ghost use Rattle.probe.specs.Probe.{symmetricOf, Told};
 use crate::answer;
-use crate::controls::smoother_of;
+use flat::smoother_of;
 use matrix::SymmetricMatrix;
 
 #[no_mangle]

@@ -7,24 +7,7 @@ use Rattle.probe.proofs.controls.probe_validate.Statement.{statement}
 use Rattle.probe.proofs.controls.probe_validate.Tie as tie
 
 returns : tie.Need-returns
-returns c =
-    c .number .ensures
-    ∙ ap
-    flag
-    (rw (
-      c .before .before .before .before .smoother-of .ensures,
-      c .before .before .before .residual-norm-of .ensures,
-      c .before .before .coarse-solver-of .ensures,
-    )
-    at (c .before .validate .ensures))
+returns c = c .number .ensures ∙ ap flag (rw (c .before .before .options-of .ensures) at (c .before .validate .ensures))
 
 pub probe-validate-spec : {M : Type 1} → statement M
-probe-validate-spec =
-    tie.close
-    (tie.spec
-    (λ c κs. search needs)
-    (λ c κs. search needs)
-    (λ c κs. search needs)
-    (λ c κs. search needs)
-    (λ c κs. search needs)
-    returns)
+probe-validate-spec = tie.close (tie.spec (λ c κs. search needs) (λ c κs. search needs) (λ c κs. search needs) returns)
