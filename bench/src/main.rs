@@ -123,7 +123,7 @@ const ROWS: &[Row] = &[
     #[cfg(feature = "library")]
     Row {
         name: "build",
-        most: Some(1.0),
+        most: Some(0.25),
         wanted_from: 64,
         sides: &SIDES,
         kernel: build::by_values,
@@ -131,7 +131,7 @@ const ROWS: &[Row] = &[
     #[cfg(feature = "library")]
     Row {
         name: "build, face weights",
-        most: Some(1.0),
+        most: Some(0.25),
         wanted_from: 64,
         sides: &SIDES,
         kernel: build::by_weights,
