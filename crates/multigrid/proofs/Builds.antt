@@ -29,9 +29,9 @@ use Rattle.layout.specs.Layout.{viewOf}
 use Rattle.build.specs.declared.Built.{Built}
 use Rattle.build.specs.Contract.{handleOf, builtOf, lentOf, BuildDone}
 use Rattle.build.specs.Steps.{inputOf}
-use Rattle.multigrid.specs.New.{freshOf, statisticsOf, NewDone}
-use Rattle.multigrid.specs.Fresh.{freshAt, PublishOk}
-use Rattle.multigrid.proofs.Publishing.{fresh-is}
+use Rattle.multigrid.specs.New.{statisticsOf, NewDone}
+use Rattle.statistics.specs.Fresh.{freshOf, freshAt, PublishOk}
+use Rattle.statistics.proofs.Publishing.{fresh-is}
 
 -- ---- the answer
 

@@ -1,4 +1,3 @@
 pub mod Builds
-pub mod Publishing
 pub mod Refused
 pub mod Stores

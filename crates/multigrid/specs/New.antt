@@ -1,22 +1,18 @@
 -- `new` and `new_with_face_weights` of mod.rs: what they ensure. Definitions only.
 -- The statistics are flat u64 words, four to a level (rows, visits, smoothing sweeps, coarse iterations), in place of records.
 use mathlib.Core.Path.{_≡_}
-use mathlib.Core.List.{List, [], _∷_}
+use mathlib.Core.List.{List}
 use Prim.Native.Nat.{ℕ, _/_}
 use lib.ListN.{length}
 use lib.Ieee.{Float}
 use Rattle.store.specs.Region.{lay}
 use Rattle.store.specs.Vector.{filled}
 use Rattle.refusal.specs.Outcome.{Outcome, accepted, refused}
-use Rattle.hierarchy.specs.Level.{Level, Hierarchy}
+use Rattle.hierarchy.specs.Level.{Hierarchy}
 use Rattle.hierarchy.specs.Build.{Input, buildOf}
+use Rattle.statistics.specs.Fresh.{freshOf}
 use Rattle.build.specs.declared.Built.{Built}
 use Rattle.build.specs.Contract.{lentOf, BuildDone}
-
--- the statistics of levels that nobody has visited
-unfoldable pub freshOf : List Level → List ℕ
-freshOf [] = []
-freshOf (l ∷ levels) = l .shape .pattern .rows ∷ 0 ∷ 0 ∷ 0 ∷ freshOf levels
 
 -- the n words of statistics that a build leaves: each level's rows with zero counters, and zeros past the last level; zeros where it refuses
 unfoldable pub statisticsOf : ℕ → Outcome Hierarchy → List ℕ

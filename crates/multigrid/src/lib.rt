@@ -6,8 +6,6 @@ ghost use Rattle.multigrid.specs.New.{NewDone};
 use build::Built;
 use options::MultigridOptions;
 
-mod statistics;
-
 // Both builds: the hierarchy, then the statistics of its levels, which are zeros where the build refuses.
 fn with_weights(
     rows: usize,

@@ -1,13 +1,13 @@
--- `multigrid::statistics::begin` meets its contract: four stores, one after the other.
+-- `statistics::begin` meets its contract: four stores, one after the other.
 -- Assumes nothing.
 use mathlib.Core.Path.{refl}
 use native.Mathlib.Omega.{arith}
 use lib.ListN.{length-set}
 use Rattle.store.proofs.Region.{wrote}
-use Rattle.multigrid.proofs.Publishing.{begin-done}
+use Rattle.statistics.proofs.Publishing.{begin-done}
 use borrow.Author.Needs.{needs}
-use Rattle.multigrid.proofs.statistics.begin.Statement.{statement}
-use Rattle.multigrid.proofs.statistics.begin.Tie as tie
+use Rattle.statistics.proofs.begin.Statement.{statement}
+use Rattle.statistics.proofs.begin.Tie as tie
 
 slice-write-s-2 : tie.Need-slice-write-s-2
 slice-write-s-2 c = simp length-set (omega arith)

@@ -4,7 +4,7 @@ ghost use Prim.Native.Nat.{_+_, _*_, _≤_};
 ghost use lib.ListN.{length};
 ghost use Rattle.store.specs.Region.{Wrote};
 ghost use Rattle.store.specs.Vector.{filled};
-ghost use Rattle.multigrid.specs.Fresh.{unvisited, freshAt, PublishOk};
+ghost use Rattle.statistics.specs.Fresh.{unvisited, freshAt, PublishOk};
 
 // Every word zero.
 pub fn zero(s: &mut [u64])

@@ -1,4 +1,4 @@
--- `multigrid::statistics::zero` meets its contract. The loop's invariant: what is left to do from here gives what the whole gives.
+-- `statistics::zero` meets its contract. The loop's invariant: what is left to do from here gives what the whole gives.
 -- Assumes nothing.
 use mathlib.Core.Path.{_≡_, refl}
 use Prim.Native.Nat.{_-_}
@@ -9,9 +9,9 @@ use Rattle.store.specs.Loop.{for}
 use Rattle.store.proofs.Loop.{Left, left-start}
 use Rattle.store.proofs.Region.{wrote-whole}
 use Rattle.store.proofs.Turns.{fillTurn, fill-done}
-use Rattle.multigrid.proofs.Publishing.{zero-on}
-use Rattle.multigrid.proofs.statistics.zero.Statement.{statement}
-use Rattle.multigrid.proofs.statistics.zero.Tie as tie
+use Rattle.statistics.proofs.Publishing.{zero-on}
+use Rattle.statistics.proofs.zero.Statement.{statement}
+use Rattle.statistics.proofs.zero.Tie as tie
 
 abbrev Inv-loop : tie.InvT-loop
 Inv-loop s₀ n k₀ s k = (length s ≡ length s₀) × (n ≡ length s₀) × Left (fillTurn 0 0) k n s (for (fillTurn 0 0) 0 n s₀)

@@ -1,4 +1,4 @@
--- `multigrid::statistics::publish` meets its contract. The loop's invariant: the records that are left, laid over what stands, give the
+-- `statistics::publish` meets its contract. The loop's invariant: the records that are left, laid over what stands, give the
 -- whole.
 -- Assumes nothing.
 use mathlib.Core.Path.{refl}
@@ -6,9 +6,9 @@ use Prim.Native.Nat.{_-_}
 use native.Mathlib.Omega.{arith}
 use borrow.Author.Needs.{needs}
 use Rattle.layout.proofs.Places.{ends-above}
-use Rattle.multigrid.proofs.Publishing.{Publishing, publishing, level-fits, publishing-on, publishing-end}
-use Rattle.multigrid.proofs.statistics.publish.Statement.{statement}
-use Rattle.multigrid.proofs.statistics.publish.Tie as tie
+use Rattle.statistics.proofs.Publishing.{Publishing, publishing, level-fits, publishing-on, publishing-end}
+use Rattle.statistics.proofs.publish.Statement.{statement}
+use Rattle.statistics.proofs.publish.Tie as tie
 
 abbrev Inv-loop : tie.InvT-loop
 Inv-loop w s₀ levels a₀ k₀ s a k = Publishing w s₀ levels s a k

@@ -3,6 +3,7 @@ use mathlib.Core.Path.{_≡_}
 use mathlib.Core.Bool.{true}
 use mathlib.Core.List.{List, [], _∷_}
 use Prim.Native.Nat.{ℕ, zero, suc, _*_, _≤_}
+use Rattle.hierarchy.specs.Level.{Level}
 use Rattle.layout.specs.Layout.{rowsAt, wordsEnd, wordsFit}
 
 -- the statistics of a level of so many rows that nobody has visited
@@ -18,3 +19,8 @@ freshAt (suc k) w a = rowsAt w a ∷ 0 ∷ 0 ∷ 0 ∷ freshAt k w (wordsEnd w a
 pub record PublishOk (w : List ℕ) (size levels : ℕ) : Type 0 where
   pub fits : wordsFit levels w 0 ≡ true
   pub room : 4 * levels ≤ size
+
+-- the statistics of levels that nobody has visited
+unfoldable pub freshOf : List Level → List ℕ
+freshOf [] = []
+freshOf (l ∷ levels) = l .shape .pattern .rows ∷ 0 ∷ 0 ∷ 0 ∷ freshOf levels

@@ -16,8 +16,8 @@ use Rattle.store.proofs.Loop.{Left, left-on}
 use Rattle.store.proofs.Region.{splice-nil, set-splice-end, wrote}
 use Rattle.store.proofs.Turns.{fillTurn}
 use Rattle.layout.specs.Layout.{rowsAt, levelAt, levelsAt, wordsEnd, floatsEnd, wordsFit}
-use Rattle.multigrid.specs.New.{freshOf}
-use Rattle.multigrid.specs.Fresh.{unvisited, freshAt, PublishOk}
+use Rattle.statistics.specs.Fresh.{freshOf}
+use Rattle.statistics.specs.Fresh.{unvisited, freshAt, PublishOk}
 
 -- ---- zeros
 
