@@ -2,7 +2,6 @@
 ghost use mathlib.Core.Path.{_≡_};
 ghost use Prim.Native.Nat.{_≤_};
 ghost use lib.ListN.{length};
-ghost use Rattle.packed.specs.Triangle.{tri};
 ghost use Rattle.faces.specs.Faces.{coupledCountOf};
 ghost use Rattle.faces.specs.Contract.{patternAt, CoupledOk};
 ghost use Rattle.layout.specs.Parts.{facesIn, terminalIn};
@@ -36,20 +35,6 @@ fn terminal_in(p: Place, coupled: usize) -> Terminal
         coupled: p.links,
         factor: p.factor,
     }
-}
-
-// The elements of a packed triangle of n rows.
-fn triangle(n: usize) -> usize
-    requires { ⌜ tri n ≤ 18446744073709551615 ⌝ }
-    ensures { λ r. ⌜ r ≡ tri n ⌝ }
-{
-    let mut end = 0;
-    let mut row = 0;
-    while row < n {
-        end += row + 1;
-        row += 1;
-    }
-    end
 }
 
 // The number of coupled rows of the level at p.
@@ -114,7 +99,7 @@ pub fn last(
     let verdict = factor(w, f, p, coupled, s.level);
     match verdict {
         Verdict::Passed => {
-            let size = triangle(coupled);
+            let size = packed::triangle(coupled);
             Growth::Made {
                 levels: s.level + 1,
                 end: p.factor + size,

@@ -7,13 +7,14 @@ use mathlib.Core.List.{List, [], _∷_}
 use Prim.Native.Nat.{ℕ, zero, suc, _+_, _-_}
 use native.Mathlib.Omega.{arith}
 use lib.Dec.{eqb}
-use lib.ListN.{length, length-append}
+use lib.ListN.{length}
 use lib.Ieee.{Float}
 use Rattle.options.specs.declared.MultigridOptions.{MultigridOptions}
 use Rattle.refusal.specs.Outcome.{accepted, _>>=_}
 use Rattle.vector.specs.Dot.{allFinite}
 use Rattle.aggregation.specs.Pairs.{Pairing, strengthsOf}
-use Rattle.pattern.specs.Pattern.{howMany, those, Pattern, entries, coarse, coarsePositions, composeOf}
+use Rattle.pattern.specs.Pattern.{Pattern, entries, coarse, coarsePositions, composeOf}
+use Rattle.pattern.proofs.Place.{length-those}
 use Rattle.galerkin.specs.Values.{galerkinOf}
 use Rattle.faces.specs.Faces.{above, facesOf, uppersOf, lowersOf}
 use Rattle.hierarchy.specs.Level.{Shape, Numbers, Level, Hierarchy}
@@ -24,15 +25,6 @@ use Rattle.hierarchy.specs.First.{shapesIn, First}
 use Rattle.hierarchy.proofs.Accepted.{then-split, accepted-one, coarsened-is, Last, onward, Inner, ends-zero, Halts, by-pattern, by-pairs, grow-keeps, joinedBy, chargeIn, build-built}
 
 -- ---- the faces
-
-length-those : (p : ℕ → Bool) (n : ℕ) → length (those p n) ≡ howMany p n
-unfolding those howMany
-length-those p zero = refl
-length-those p (suc n) = length-append (those p n) (cond (p n) (n ∷ []) []) ∙ go (p n) (length-those p n)
-  where
-    go : (b : Bool) → length (those p n) ≡ howMany p n → length (those p n) + length (cond b (n ∷ []) []) ≡ howMany p n + cond b 1 0
-    go true e = omega arith
-    go false e = omega arith
 
 -- There are as many faces as entries above the diagonal.
 pub length-uppers : (p : Pattern) → length (uppersOf p) ≡ facesOf p
