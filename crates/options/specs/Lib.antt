@@ -1,3 +1,3 @@
 pub mod Options
 pub mod Solver
-pub mod Sweeps
+pub mod Counts

@@ -3,16 +3,16 @@ ghost use mathlib.Core.Path.{_≡_};
 ghost use Rattle.options.specs.Options.{defaultOptions, validOf, controlsAsked};
 ghost use Rattle.refusal.specs.Outcome.{verdictOf};
 
+mod counts;
 mod solver;
-mod sweeps;
 
+pub use counts::post_sweeps_at;
+pub use counts::pre_sweeps_at;
 use refusal::Refusal;
 use refusal::Verdict;
 pub use solver::LinearSolveReport;
 pub use solver::LinearSolverOptions;
 pub use solver::LinearSolverStatus;
-pub use sweeps::post_sweeps_at;
-pub use sweeps::pre_sweeps_at;
 
 pub enum MultigridSmoother {
     GaussSeidel,

@@ -14,7 +14,7 @@ use Rattle.faces.specs.declared.Faces.{Faces}
 use Rattle.matrix.specs.declared.SymmetricMatrix.{SymmetricMatrix}
 use Rattle.values.specs.declared.values.Entries.{Entries}
 use Rattle.cholesky.specs.declared.Terminal.{Terminal}
-use Rattle.cycle.specs.declared.Factor.{Factor}
+use Rattle.correction.specs.declared.Factor.{Factor}
 use Rattle.acceleration.specs.declared.Corrected.{Corrected}
 use Rattle.vector.specs.declared.Product.{Product}
 use Rattle.vector.specs.declared.Product.the-variants.{Finite, NotFinite}

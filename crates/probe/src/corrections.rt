@@ -1,16 +1,16 @@
-// The functions of `cycle` and `acceleration`.
+// The functions of `correction` and `acceleration`.
 ghost use mathlib.Core.Path.{_≡_};
 ghost use Prim.Native.Nat.{_≤_};
 ghost use lib.ListN.{length};
 ghost use Rattle.store.specs.Region.{part, Wrote, CopyOk};
 ghost use Rattle.transfer.specs.Transfer.{RestrictOk, ProlongOk, restrictOf, prolongOf};
-ghost use Rattle.cycle.specs.Correction.{SubtractOk, ProductsOk, ScaledOk, subtractOf, correctionFactorOf, factorOf};
-ghost use Rattle.cycle.specs.Correction.{addScaledOf, addPlainOf};
+ghost use Rattle.correction.specs.Correction.{SubtractOk, ProductsOk, ScaledOk, subtractOf, correctionFactorOf, factorOf};
+ghost use Rattle.correction.specs.Correction.{addScaledOf, addPlainOf};
 ghost use Rattle.acceleration.specs.Gcr.{correctOf};
 ghost use Rattle.acceleration.specs.Contract.{pairAt, memoryAt, correctedOf, CorrectOk, CorrectedBy};
 ghost use Rattle.probe.specs.Probe.{Scaled, Counted};
 use acceleration::Corrected;
-use cycle::Factor;
+use correction::Factor;
 
 #[no_mangle]
 pub extern "C" fn probe_restrict(
@@ -55,7 +55,7 @@ pub extern "C" fn probe_subtract(f: &mut [f64], n: usize, rhs: usize, product: u
         (subtractOf n (part rhs n (now (f .entry))) (part product n (now (f .entry))))
         (now (f .entry)) (now (f .exit)) ⌝ }
 {
-    cycle::subtract(f, n, rhs, product, out);
+    correction::subtract(f, n, rhs, product, out);
 }
 
 // Zero and the factor, or the number of the refusal.
@@ -89,7 +89,7 @@ pub extern "C" fn probe_correction_factor(
         (now (out .entry)) (now (out .exit)) r ⌝ }
 {
     scaled(
-        cycle::correction_factor(f, n, correction, residual, product),
+        correction::correction_factor(f, n, correction, residual, product),
         out,
     )
 }
@@ -111,7 +111,7 @@ pub extern "C" fn probe_add_scaled(
         (part product n (now (f .entry))) (part inverse n (now (f .entry))) (part x n (now (f .entry))))
         (now (f .entry)) (now (f .exit)) ⌝ }
 {
-    cycle::add_scaled(f, n, factor, correction, residual, product, inverse, x);
+    correction::add_scaled(f, n, factor, correction, residual, product, inverse, x);
 }
 
 #[no_mangle]
@@ -121,7 +121,7 @@ pub extern "C" fn probe_add_plain(f: &mut [f64], n: usize, correction: usize, x:
         (addPlainOf n (part correction n (now (f .entry))) (part x n (now (f .entry))))
         (now (f .entry)) (now (f .exit)) ⌝ }
 {
-    cycle::add_plain(f, n, correction, x);
+    correction::add_plain(f, n, correction, x);
 }
 
 // Zero and how many pairs are stored, or the number of the refusal.

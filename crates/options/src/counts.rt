@@ -1,7 +1,7 @@
 // How often a level is smoothed before and after the coarser levels' correction (cycle.rs).
 ghost use mathlib.Core.Path.{_≡_};
 ghost use Prim.Native.Nat.{min};
-ghost use Rattle.options.specs.Sweeps.{extraOf, preSweepsOf, postSweepsOf};
+ghost use Rattle.options.specs.Counts.{extraOf, preSweepsOf, postSweepsOf};
 use crate::MultigridOptions;
 
 fn min(a: u64, b: u64) -> u64
