@@ -1,4 +1,4 @@
-/* Calls each export of the library once from C: the matrix 4, -2; -2, 2. */
+/* Calls each export of the library from C: the matrix 4, -2; -2, 2. */
 #include "../include/multigrid.h"
 
 #include <stdio.h>
@@ -10,6 +10,41 @@ static void expect(int holds, const char *call) {
         fprintf(stderr, "%s answers something else from C\n", call);
         failures++;
     }
+}
+
+/* The controls in the order of the calls: DicGaussSeidel, AbsoluteL2, plain cycles, Cholesky. */
+#define CONTROLS 2, 0, 0, 2, 1, 1, 4, 10, 2, 2, 0, 1, 1e-12, 0.01, 500, 1
+
+/* The small press: built, solved, refreshed with four times the values, and solved again. */
+static void later_calls(void) {
+    const uint32_t offsets[3] = {0, 2, 4};
+    const uint32_t columns[4] = {0, 1, 0, 1};
+    const double values[4] = {4, -2, -2, 2}, fourfold[4] = {16, -8, -8, 8}, rhs[2] = {2, 0};
+    static uint32_t words[256];
+    static double floats[512];
+    uint64_t statistics[8] = {0}, place[3];
+    double x[2] = {0, 0}, residuals[3];
+
+    multigrid_new(2, offsets, 3, columns, 4, values, 4, CONTROLS, words, 256, floats, 512, statistics, 8, place, 3);
+    expect(multigrid_solve(1, 2, 4, CONTROLS, words, 256, floats, 512, statistics, 8, rhs, 2, x, 2, 0, 0.5, 5, place, 3,
+                           residuals, 3) == 0 &&
+               place[0] == 0 && place[1] == 1 && residuals[0] == 2 && residuals[1] == 0 && x[0] == 1 && x[1] == 1,
+           "multigrid_solve");
+    expect(multigrid_update_values(1, 2, 4, CONTROLS, offsets, 3, columns, 4, fourfold, 4, words, 256, floats, 512,
+                                   statistics, 8, place, 3) == 0 &&
+               floats[0] == 16,
+           "multigrid_update_values");
+    x[0] = x[1] = 0;
+    expect(multigrid_solve(1, 2, 4, CONTROLS, words, 256, floats, 512, statistics, 8, rhs, 2, x, 2, 0, 0.5, 5, place, 3,
+                           residuals, 3) == 0 &&
+               x[0] == 0.25 && x[1] == 0.25,
+           "multigrid_solve");
+    expect(multigrid_statistics(1, 2, 4, CONTROLS, words, 256, floats, 512, statistics, 8, place, 3) == 0 &&
+               place[2] == 1 && statistics[1] == 2,
+           "multigrid_statistics");
+    /* A handle of more levels than there are. */
+    expect(multigrid_statistics(2, 2, 4, CONTROLS, words, 256, floats, 512, statistics, 8, place, 3) == 19,
+           "multigrid_statistics");
 }
 
 int main(void) {
@@ -40,5 +75,6 @@ int main(void) {
                                            3) == 4 &&
                place[0] == 0 && place[1] == 0 && words[0] == 0 && floats[0] == 0 && statistics[0] == 0,
            "multigrid_new_with_face_weights");
+    later_calls();
     return failures != 0;
 }

@@ -17,8 +17,17 @@
  * statistics: four words for each of max_levels records: rows, visits, smoothing sweeps, coarse iterations.
  *
  * The answer is 0, and place[2] the number of levels; or the number of the question that refuses, with its level in
- * place[0] and its row in place[1] (zero where the question names none). Refused, every word of words, floats and
- * statistics is zero. */
+ * place[0] and its row in place[1] (zero where the question names none). A refused build leaves every word of words,
+ * floats and statistics zero.
+ *
+ * The later calls take what a build answered (levels, rows, entries and its controls, the handle) and the stores that it
+ * left; whatever they are given, they answer, and what is no hierarchy of that handle is refused by 19.
+ * multigrid_update_values: offsets and columns as they were built from, and new values. Refused, the hierarchy stays.
+ * multigrid_solve: rhs and x have as many elements as there are rows; x holds the start, then the solution. Accepted,
+ * place[0] is 0 where it converged and 1 where the iterations are used up, place[1] is the number of iterations, and
+ * residuals (residuals_length >= 3) hold the first, the last and the relative residual. Refused, x, the statistics and
+ * the hierarchy stay as they were.
+ * multigrid_statistics: place[2] is the number of records at the front of statistics that are the levels'. */
 #ifndef MULTIGRID_H
 #define MULTIGRID_H
 
@@ -48,6 +57,33 @@ uint64_t multigrid_new_with_face_weights(
     double coarse_relative_tolerance, uint64_t coarse_max_iterations, uint8_t scale_correction, uint32_t *words,
     size_t words_length, double *floats, size_t floats_length, uint64_t *statistics, size_t statistics_length,
     uint64_t *place, size_t place_length);
+
+uint64_t multigrid_update_values(
+    uint64_t levels, uint64_t rows, uint64_t entries, uint8_t smoother, uint8_t residual_norm, uint64_t pre_sweeps, uint64_t post_sweeps, uint64_t finest_sweeps,
+    uint64_t sweep_level_multiplier, uint64_t max_sweeps, uint64_t coarsest_cells, uint64_t max_levels,
+    uint64_t merge_levels, uint64_t krylov_dimension, uint8_t coarse_solver, double coarse_absolute_tolerance,
+    double coarse_relative_tolerance, uint64_t coarse_max_iterations, uint8_t scale_correction,
+    const uint32_t *offsets, size_t offsets_length, const uint32_t *columns, size_t columns_length,
+    const double *values, size_t values_length, const uint32_t *words, size_t words_length, double *floats,
+    size_t floats_length, const uint64_t *statistics, size_t statistics_length, uint64_t *place, size_t place_length);
+
+uint64_t multigrid_solve(
+    uint64_t levels, uint64_t rows, uint64_t entries, uint8_t smoother, uint8_t residual_norm, uint64_t pre_sweeps, uint64_t post_sweeps, uint64_t finest_sweeps,
+    uint64_t sweep_level_multiplier, uint64_t max_sweeps, uint64_t coarsest_cells, uint64_t max_levels,
+    uint64_t merge_levels, uint64_t krylov_dimension, uint8_t coarse_solver, double coarse_absolute_tolerance,
+    double coarse_relative_tolerance, uint64_t coarse_max_iterations, uint8_t scale_correction,
+    const uint32_t *words, size_t words_length, double *floats, size_t floats_length, uint64_t *statistics,
+    size_t statistics_length, const double *rhs, size_t rhs_length, double *x, size_t x_length,
+    double absolute_tolerance, double relative_tolerance, uint64_t max_iterations, uint64_t *place,
+    size_t place_length, double *residuals, size_t residuals_length);
+
+uint64_t multigrid_statistics(
+    uint64_t levels, uint64_t rows, uint64_t entries, uint8_t smoother, uint8_t residual_norm, uint64_t pre_sweeps, uint64_t post_sweeps, uint64_t finest_sweeps,
+    uint64_t sweep_level_multiplier, uint64_t max_sweeps, uint64_t coarsest_cells, uint64_t max_levels,
+    uint64_t merge_levels, uint64_t krylov_dimension, uint8_t coarse_solver, double coarse_absolute_tolerance,
+    double coarse_relative_tolerance, uint64_t coarse_max_iterations, uint8_t scale_correction,
+    const uint32_t *words, size_t words_length, const double *floats, size_t floats_length,
+    const uint64_t *statistics, size_t statistics_length, uint64_t *place, size_t place_length);
 
 #ifdef __cplusplus
 }

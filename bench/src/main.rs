@@ -11,6 +11,8 @@ mod kernels;
 mod level;
 mod measure;
 mod pairs;
+#[cfg(feature = "library")]
+mod solve;
 mod sweeps;
 
 use compare::random::Random;
@@ -135,6 +137,46 @@ const ROWS: &[Row] = &[
         wanted_from: 64,
         sides: &SIDES,
         kernel: build::by_weights,
+    },
+    #[cfg(feature = "library")]
+    Row {
+        name: "solve",
+        most: Some(0.9),
+        wanted_from: 64,
+        sides: &SIDES,
+        kernel: solve::by_default,
+    },
+    #[cfg(feature = "library")]
+    Row {
+        name: "solve, plain cycles",
+        most: Some(0.9),
+        wanted_from: 64,
+        sides: &SIDES,
+        kernel: solve::with_plain_cycles,
+    },
+    #[cfg(feature = "library")]
+    Row {
+        name: "solve, Gauss-Seidel",
+        most: Some(0.9),
+        wanted_from: 64,
+        sides: &SIDES,
+        kernel: solve::with_gauss_seidel,
+    },
+    #[cfg(feature = "library")]
+    Row {
+        name: "index check of a solve",
+        most: None,
+        wanted_from: 64,
+        sides: &SIDES,
+        kernel: solve::index_check,
+    },
+    #[cfg(feature = "library")]
+    Row {
+        name: "update",
+        most: Some(1.0),
+        wanted_from: 64,
+        sides: &SIDES,
+        kernel: solve::update,
     },
 ];
 

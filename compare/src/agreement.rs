@@ -25,7 +25,11 @@ const PROBE: Texts = Texts {
 };
 const LIBRARY: Texts = Texts {
     name: "library",
-    rattle: &[include_str!("../../crates/multigrid_c/src/lib.rt")],
+    rattle: &[
+        include_str!("../../crates/multigrid_c/src/by_values.rt"),
+        include_str!("../../crates/multigrid_c/src/by_weights.rt"),
+        include_str!("../../crates/multigrid_c/src/calls.rt"),
+    ],
     rust: include_str!("../../rust/src/calls.rs"),
     header: include_str!("../../include/multigrid.h"),
     calls_from_c: include_str!("../library.c"),

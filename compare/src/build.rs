@@ -1,13 +1,13 @@
 //! The build of a hierarchy in lent stores beside the Rust's: the answer, every level bit for bit, the statistics, and
 //! zeros in all that was lent where it refuses.
 
-mod expected;
+pub mod expected;
 mod hand;
-mod hierarchy;
+pub mod hierarchy;
 #[cfg_attr(not(feature = "library"), path = "build/stand_in.rs")]
-mod library;
+pub mod library;
 pub mod list;
-mod problem;
+pub mod problem;
 
 use crate::Effort;
 use crate::boundary::kernels::Refused;

@@ -16,6 +16,8 @@ mod measure;
 mod numbers;
 mod options;
 mod report;
+#[cfg(feature = "library")]
+mod sequence;
 mod smoother;
 mod stores;
 mod vector;
@@ -47,7 +49,7 @@ impl Effort {
 type Comparison = fn(&mut Report, &mut Random, Effort);
 
 /// In the order in which they draw their cases.
-const COMPARISONS: [(&str, Comparison); 16] = [
+const COMPARISONS: &[(&str, Comparison)] = &[
     ("boundary", |report, _, _| agreement::compare(report)),
     ("oracle", |report, _, _| worked::compare(report)),
     ("float", float::compare),
@@ -64,6 +66,8 @@ const COMPARISONS: [(&str, Comparison); 16] = [
     ("csr", csr::compare),
     ("faces", faces::compare),
     ("build", build::compare),
+    #[cfg(feature = "library")]
+    ("sequence", sequence::compare),
 ];
 
 struct Arguments {
@@ -73,6 +77,8 @@ struct Arguments {
     only: Option<String>,
     /// Nothing is compared, but a list of builds is written, with so many of each kind of answer.
     list: Option<u64>,
+    /// The same of sequences.
+    sequences: Option<u64>,
 }
 
 fn main() -> ExitCode {
@@ -86,10 +92,20 @@ fn main() -> ExitCode {
             print!("{}", build::list::write(&mut Random::new(seed), each));
             ExitCode::SUCCESS
         }
+        #[cfg(feature = "library")]
+        Ok(Arguments {
+            sequences: Some(each),
+            seed,
+            ..
+        }) => {
+            let each = each.try_into().unwrap_or(usize::MAX);
+            print!("{}", sequence::list::write(&mut Random::new(seed), each));
+            ExitCode::SUCCESS
+        }
         Ok(arguments) => run(&arguments),
         Err(sentence) => {
             eprintln!(
-                "compare: {sentence}\nusage: compare [--long] [--seed NUMBER] [--only NAME] [--list NUMBER]"
+                "compare: {sentence}\nusage: compare [--long] [--seed NUMBER] [--only NAME] [--list NUMBER] [--list-sequences NUMBER]"
             );
             ExitCode::from(2)
         }
@@ -102,6 +118,7 @@ fn arguments() -> Result<Arguments, String> {
         seed: SEED,
         only: None,
         list: None,
+        sequences: None,
     };
     let mut words = std::env::args().skip(1);
     while let Some(word) = words.next() {
@@ -109,6 +126,9 @@ fn arguments() -> Result<Arguments, String> {
             "--long" => arguments.effort = Effort::Long,
             "--seed" => arguments.seed = number(&words.next().unwrap_or_default())?,
             "--list" => arguments.list = Some(number(&words.next().unwrap_or_default())?),
+            "--list-sequences" => {
+                arguments.sequences = Some(number(&words.next().unwrap_or_default())?);
+            }
             "--only" => arguments.only = Some(known(words.next().unwrap_or_default())?),
             _ => return Err(format!("{word} is not understood")),
         }
@@ -137,8 +157,8 @@ fn run(arguments: &Arguments) -> ExitCode {
     println!("seed {:#018x}", arguments.seed);
     let mut report = Report::default();
     let mut random = Random::new(arguments.seed);
-    for (name, compare) in COMPARISONS {
-        if arguments.only.as_ref().is_none_or(|only| only == name) {
+    for &(name, compare) in COMPARISONS {
+        if arguments.only.as_deref().is_none_or(|only| only == name) {
             compare(&mut report, &mut random, arguments.effort);
         }
     }

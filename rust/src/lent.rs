@@ -1,7 +1,12 @@
 //! The calls as they are: over stores that the caller lends.
 
-use crate::calls::{multigrid_new, multigrid_new_with_face_weights};
-use crate::{MultigridOptions, Refusal};
+use crate::calls::{
+    multigrid_new, multigrid_new_with_face_weights, multigrid_solve, multigrid_statistics,
+    multigrid_update_values,
+};
+use crate::{
+    LinearSolveReport, LinearSolverOptions, LinearSolverStatus, MultigridOptions, Refusal,
+};
 
 /// A matrix in compressed rows: `rows` + 1 offsets, and a column and a value for each entry. Anything may stand in the
 /// arrays; a build refuses what is no matrix.
@@ -63,68 +68,163 @@ impl Stores {
     }
 }
 
-/// Builds a hierarchy in the stores, whatever they held; the number of its levels. Refused, every word of them is zero.
+/// A build's answer, which the later calls are given with the stores of that build. Anything may stand in it; a call
+/// refuses a handle that does not fit the stores.
+#[derive(Clone, Copy, Debug, PartialEq)]
+pub struct Handle {
+    pub options: MultigridOptions,
+    pub levels: u64,
+    pub rows: u64,
+    pub entries: u64,
+}
+
+/// Calls an export: what stands before the controls, the controls, what stands behind them. A slice crosses as its pointer
+/// and its length.
+macro_rules! call {
+    ($call:ident ( $($before:expr),* ) $options:expr => ( $($behind:expr),* )) => {{
+        let options: &MultigridOptions = $options;
+        // SAFETY: the pointers are slices' own, with their lengths; what is written is borrowed alone; `place` and
+        // `residuals` have three elements.
+        unsafe {
+            $call(
+                $($before,)*
+                options.smoother.number(),
+                options.residual_norm.number(),
+                options.pre_sweeps,
+                options.post_sweeps,
+                options.finest_sweeps,
+                options.sweep_level_multiplier,
+                options.max_sweeps,
+                options.coarsest_cells,
+                options.max_levels,
+                options.merge_levels,
+                options.krylov_dimension,
+                options.coarse_solver.number(),
+                options.coarse_absolute_tolerance,
+                options.coarse_relative_tolerance,
+                options.coarse_max_iterations,
+                u8::from(options.scale_correction),
+                $($behind,)*
+            )
+        }
+    }};
+}
+
+/// The refusal of a call that answers a number other than zero.
+fn refusal(number: u64, place: [u64; 3]) -> Refusal {
+    Refusal::of(number, place[0], place[1]).expect("a call answers by a question's number")
+}
+
+/// Builds a hierarchy in the stores, whatever they held. Refused, every word of them is zero.
 pub fn build(
     matrix: CsrMatrix<'_>,
     face_weights: Option<&[f64]>,
     options: &MultigridOptions,
     stores: &mut Stores,
-) -> Result<usize, Refusal> {
+) -> Result<Handle, Refusal> {
+    let Stores {
+        words,
+        floats,
+        statistics,
+    } = stores;
+    let (offsets, columns, values) = (matrix.row_offsets, matrix.column_indices, matrix.values);
+    let mut place = [0; 3];
+    let number = match face_weights {
+        Some(weights) => call!(multigrid_new_with_face_weights(
+            matrix.rows, offsets.as_ptr(), offsets.len(), columns.as_ptr(), columns.len(), values.as_ptr(), values.len(),
+            weights.as_ptr(), weights.len()
+        ) options => (
+            words.as_mut_ptr(), words.len(), floats.as_mut_ptr(), floats.len(), statistics.as_mut_ptr(), statistics.len(),
+            place.as_mut_ptr(), place.len()
+        )),
+        None => call!(multigrid_new(
+            matrix.rows, offsets.as_ptr(), offsets.len(), columns.as_ptr(), columns.len(), values.as_ptr(), values.len()
+        ) options => (
+            words.as_mut_ptr(), words.len(), floats.as_mut_ptr(), floats.len(), statistics.as_mut_ptr(), statistics.len(),
+            place.as_mut_ptr(), place.len()
+        )),
+    };
+    match number {
+        0 => Ok(Handle {
+            options: *options,
+            levels: place[2],
+            rows: matrix.rows as u64,
+            entries: columns.len() as u64,
+        }),
+        _ => Err(refusal(number, place)),
+    }
+}
+
+/// New values for the hierarchy in the stores. Refused, no word changes but scratch.
+pub fn update_values(
+    handle: &Handle,
+    row_offsets: &[u32],
+    column_indices: &[u32],
+    values: &[f64],
+    stores: &mut Stores,
+) -> Result<(), Refusal> {
+    let (words, floats, statistics) = (&stores.words, &mut stores.floats, &stores.statistics);
+    let mut place = [0; 3];
+    let number = call!(multigrid_update_values(handle.levels, handle.rows, handle.entries) &handle.options => (
+        row_offsets.as_ptr(), row_offsets.len(), column_indices.as_ptr(), column_indices.len(),
+        values.as_ptr(), values.len(), words.as_ptr(), words.len(), floats.as_mut_ptr(), floats.len(),
+        statistics.as_ptr(), statistics.len(), place.as_mut_ptr(), place.len()
+    ));
+    match number {
+        0 => Ok(()),
+        _ => Err(refusal(number, place)),
+    }
+}
+
+/// Solves for the right-hand side, from what `x` holds. Refused, `x`, the statistics and the hierarchy stay as they were.
+pub fn solve(
+    handle: &Handle,
+    stores: &mut Stores,
+    rhs: &[f64],
+    x: &mut [f64],
+    options: LinearSolverOptions,
+) -> Result<LinearSolveReport, Refusal> {
+    let Stores {
+        words,
+        floats,
+        statistics,
+    } = stores;
+    let (mut place, mut residuals) = ([0; 3], [0.0; 3]);
+    let number = call!(multigrid_solve(handle.levels, handle.rows, handle.entries) &handle.options => (
+        words.as_ptr(), words.len(), floats.as_mut_ptr(), floats.len(), statistics.as_mut_ptr(), statistics.len(),
+        rhs.as_ptr(), rhs.len(), x.as_mut_ptr(), x.len(), options.absolute_tolerance, options.relative_tolerance,
+        options.max_iterations, place.as_mut_ptr(), place.len(), residuals.as_mut_ptr(), residuals.len()
+    ));
+    let [initial_residual, final_residual, relative_residual] = residuals;
+    match number {
+        0 => Ok(LinearSolveReport {
+            status: match place[0] {
+                0 => LinearSolverStatus::Converged,
+                _ => LinearSolverStatus::MaxIterations,
+            },
+            iterations: place[1],
+            initial_residual,
+            final_residual,
+            relative_residual,
+        }),
+        _ => Err(refusal(number, place)),
+    }
+}
+
+/// How many records at the front of the statistics are those of the levels.
+pub fn statistics(handle: &Handle, stores: &Stores) -> Result<usize, Refusal> {
     let Stores {
         words,
         floats,
         statistics,
     } = stores;
     let mut place = [0; 3];
-    // A slice crosses as its pointer and its length.
-    macro_rules! call {
-        ($call:ident $(, $weights:expr)?) => {
-            // SAFETY: the pointers are slices' own, with their lengths; what is written is borrowed alone; `place` has three words.
-            unsafe {
-                $call(
-                    matrix.rows,
-                    matrix.row_offsets.as_ptr(),
-                    matrix.row_offsets.len(),
-                    matrix.column_indices.as_ptr(),
-                    matrix.column_indices.len(),
-                    matrix.values.as_ptr(),
-                    matrix.values.len(),
-                    $($weights.as_ptr(), $weights.len(),)?
-                    options.smoother.number(),
-                    options.residual_norm.number(),
-                    options.pre_sweeps,
-                    options.post_sweeps,
-                    options.finest_sweeps,
-                    options.sweep_level_multiplier,
-                    options.max_sweeps,
-                    options.coarsest_cells,
-                    options.max_levels,
-                    options.merge_levels,
-                    options.krylov_dimension,
-                    options.coarse_solver.number(),
-                    options.coarse_absolute_tolerance,
-                    options.coarse_relative_tolerance,
-                    options.coarse_max_iterations,
-                    u8::from(options.scale_correction),
-                    words.as_mut_ptr(),
-                    words.len(),
-                    floats.as_mut_ptr(),
-                    floats.len(),
-                    statistics.as_mut_ptr(),
-                    statistics.len(),
-                    place.as_mut_ptr(),
-                    place.len(),
-                )
-            }
-        };
-    }
-    let number = match face_weights {
-        Some(weights) => call!(multigrid_new_with_face_weights, weights),
-        None => call!(multigrid_new),
-    };
-    let [level, row, levels] = place;
+    let number = call!(multigrid_statistics(handle.levels, handle.rows, handle.entries) &handle.options => (
+        words.as_ptr(), words.len(), floats.as_ptr(), floats.len(), statistics.as_ptr(), statistics.len(),
+        place.as_mut_ptr(), place.len()
+    ));
     match number {
-        0 => Ok(levels as usize),
-        _ => Err(Refusal::of(number, level, row).expect("a build answers by its own questions")),
+        0 => Ok(place[2] as usize),
+        _ => Err(refusal(number, place)),
     }
 }

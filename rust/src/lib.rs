@@ -5,13 +5,15 @@ mod calls;
 pub mod lent;
 mod options;
 mod refusal;
+mod solver;
 
 use lent::Charge;
-pub use lent::{CsrMatrix, Stores};
+pub use lent::{CsrMatrix, Handle, Stores};
 pub use options::{
     MultigridCoarseSolver, MultigridOptions, MultigridResidualNorm, MultigridSmoother,
 };
 pub use refusal::Refusal;
+pub use solver::{LinearSolveReport, LinearSolverOptions, LinearSolverStatus};
 
 #[derive(Clone, Copy, Debug, Default, PartialEq, Eq)]
 pub struct MultigridLevelStatistics {
@@ -23,7 +25,7 @@ pub struct MultigridLevelStatistics {
 
 /// A hierarchy in stores of its own.
 pub struct AlgebraicMultigrid {
-    levels: usize,
+    handle: Handle,
     stores: Stores,
 }
 
@@ -53,7 +55,7 @@ impl AlgebraicMultigrid {
             let charge = Charge::most(&matrix, options, room);
             let mut stores = Stores::new(charge, options.max_levels);
             match lent::build(matrix, face_weights, options, &mut stores) {
-                Ok(levels) => return Ok(Self { levels, stores }),
+                Ok(handle) => return Ok(Self { handle, stores }),
                 Err(Refusal::StoreTooSmall) if room < options.max_levels => {
                     room = (2 * room).min(options.max_levels);
                 }
@@ -62,9 +64,32 @@ impl AlgebraicMultigrid {
         }
     }
 
+    /// New coefficients on the same pattern. Refused, the hierarchy stays as it was.
+    pub fn update_values(&mut self, matrix: CsrMatrix<'_>) -> Result<(), Refusal> {
+        let (offsets, columns) = (matrix.row_offsets, matrix.column_indices);
+        lent::update_values(
+            &self.handle,
+            offsets,
+            columns,
+            matrix.values,
+            &mut self.stores,
+        )
+    }
+
+    /// Solves for the right-hand side, from what `x` holds. Refused, `x` and the statistics stay as they were.
+    pub fn solve(
+        &mut self,
+        rhs: &[f64],
+        x: &mut [f64],
+        options: LinearSolverOptions,
+    ) -> Result<LinearSolveReport, Refusal> {
+        lent::solve(&self.handle, &mut self.stores, rhs, x, options)
+    }
+
     /// One for each level, the finest first.
     pub fn statistics(&self) -> Vec<MultigridLevelStatistics> {
-        let records = self.stores.statistics.chunks_exact(4).take(self.levels);
+        let levels = lent::statistics(&self.handle, &self.stores).unwrap_or(0);
+        let records = self.stores.statistics.chunks_exact(4).take(levels);
         let record = |words: &[u64]| MultigridLevelStatistics {
             cells: words[0],
             visits: words[1],
@@ -72,6 +97,11 @@ impl AlgebraicMultigrid {
             coarse_iterations: words[3],
         };
         records.map(record).collect()
+    }
+
+    /// What the calls of `lent` are given with the stores.
+    pub fn handle(&self) -> &Handle {
+        &self.handle
     }
 
     /// The stores with the hierarchy in them.

@@ -3,7 +3,7 @@
 use std::error::Error;
 use std::fmt::{Display, Formatter, Result as Written};
 
-/// The questions of a build, in order. Level and row say where it failed; the finest level is 0, and a matrix that is
+/// The questions of a build, of a solve and of an update, in order. Level and row say where it failed; the finest level is 0, and a matrix that is
 /// formed on the way to a level counts as that level.
 #[derive(Clone, Copy, Debug, PartialEq, Eq)]
 #[non_exhaustive]
@@ -26,10 +26,23 @@ pub enum Refusal {
     BadDicPivot { level: u64, row: u64 },
     BadDicReciprocal { level: u64, row: u64 },
     BadCoarseValue,
+    UnsoundStores,
+    WrongLength,
+    BadInput,
+    BadNormalization,
+    BadResidual,
+    BadCoarseSolution,
+    BadSmootherOutput,
+    BadCorrectionProduct,
+    BadCorrectionScale,
+    BadDotProduct,
+    ZeroImage,
+    BadDirection,
+    OtherPattern,
 }
 
 impl Refusal {
-    /// The refusal of a question's number; None where a build has no such question.
+    /// The refusal of a question's number; None where there is no such question.
     pub fn of(number: u64, level: u64, row: u64) -> Option<Self> {
         Some(match number {
             1 => Self::TooLarge,
@@ -50,6 +63,19 @@ impl Refusal {
             16 => Self::BadDicPivot { level, row },
             17 => Self::BadDicReciprocal { level, row },
             18 => Self::BadCoarseValue,
+            19 => Self::UnsoundStores,
+            20 => Self::WrongLength,
+            21 => Self::BadInput,
+            22 => Self::BadNormalization,
+            23 => Self::BadResidual,
+            24 => Self::BadCoarseSolution,
+            25 => Self::BadSmootherOutput,
+            26 => Self::BadCorrectionProduct,
+            27 => Self::BadCorrectionScale,
+            28 => Self::BadDotProduct,
+            29 => Self::ZeroImage,
+            30 => Self::BadDirection,
+            31 => Self::OtherPattern,
             _ => return None,
         })
     }
@@ -75,6 +101,19 @@ impl Refusal {
             Self::BadDicPivot { .. } => 16,
             Self::BadDicReciprocal { .. } => 17,
             Self::BadCoarseValue => 18,
+            Self::UnsoundStores => 19,
+            Self::WrongLength => 20,
+            Self::BadInput => 21,
+            Self::BadNormalization => 22,
+            Self::BadResidual => 23,
+            Self::BadCoarseSolution => 24,
+            Self::BadSmootherOutput => 25,
+            Self::BadCorrectionProduct => 26,
+            Self::BadCorrectionScale => 27,
+            Self::BadDotProduct => 28,
+            Self::ZeroImage => 29,
+            Self::BadDirection => 30,
+            Self::OtherPattern => 31,
         }
     }
 
@@ -129,6 +168,25 @@ impl Refusal {
             Self::BadDicPivot { .. } => "a DIC pivot is not finite or not above zero",
             Self::BadDicReciprocal { .. } => "the reciprocal of a DIC pivot is not finite",
             Self::BadCoarseValue => "a Galerkin value is not finite",
+            Self::UnsoundStores => "the stores do not hold a hierarchy of this handle",
+            Self::WrongLength => {
+                "the right-hand side or the solution has not as many elements as there are rows"
+            }
+            Self::BadInput => {
+                "the iteration limit is zero, a tolerance is not finite or below zero, or a vector is not finite"
+            }
+            Self::BadNormalization => "the normalization is not finite",
+            Self::BadResidual => "the norm of a residual is not finite",
+            Self::BadCoarseSolution => "the solution of the last level is not finite",
+            Self::BadSmootherOutput => "what the smoother gives is not finite",
+            Self::BadCorrectionProduct => "a product of a correction is not finite",
+            Self::BadCorrectionScale => "the scale of a correction is not finite",
+            Self::BadDotProduct => "a dot product of the accelerator is not finite",
+            Self::ZeroImage => "the image of a correction is zero",
+            Self::BadDirection => "a direction of the accelerator is not finite",
+            Self::OtherPattern => {
+                "offsets or columns are not those of the build, or there are not as many values as columns"
+            }
         }
     }
 }

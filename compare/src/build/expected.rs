@@ -160,6 +160,39 @@ fn grow(
     }
 }
 
+/// `update` of hierarchy.rs on the levels of a hierarchy, from the values of `matrix`: of each level 12 and 13, then 15, or 16
+/// and 17, and 18 of the next.
+pub fn refresh(
+    options: &MultigridOptions,
+    hierarchy: &Hierarchy,
+    matrix: CsrMatrix,
+) -> Asked<Hierarchy> {
+    let mut levels = Vec::new();
+    let mut sums = vec![0.0; matrix.nrows()];
+    let mut current = matrix;
+    for (index, old) in hierarchy.levels.iter().enumerate() {
+        let kernel = kernel_of(&current, index as u64)?;
+        if index == 0 && options.residual_norm == MultigridResidualNorm::NormalizedL1 {
+            kernel.row_sums_into(&mut sums);
+        }
+        if old.last {
+            levels.push(last_level(&current, &kernel, options, index as u64)?);
+            break;
+        }
+        let dic = dic_of(&kernel, options, index as u64)?;
+        levels.push(Level {
+            links: old.links.clone(),
+            positions: old.positions.clone(),
+            dic,
+            ..level_of(&current, &kernel)
+        });
+        let map: Vec<usize> = old.links.iter().map(|&link| link as usize).collect();
+        let count = map.iter().max().map_or(0, |&most| most + 1);
+        (current, _) = coarsened(&current, &map, count)?;
+    }
+    Ok(Hierarchy { levels, sums })
+}
+
 fn few_coupled(kernel: &Kernel, options: &MultigridOptions) -> bool {
     kernel.coupled_rows() <= options.coarsest_cells
 }

@@ -134,6 +134,12 @@ impl Hierarchy {
         Some(Self { levels, sums })
     }
 
+    /// How many floats it takes.
+    pub fn floats(&self) -> usize {
+        let levels = self.levels.iter().flat_map(Level::floats);
+        levels.map(|(_, floats)| floats.len()).sum::<usize>() + self.sums.len()
+    }
+
     /// What differs first; numbers bit for bit.
     pub fn difference(&self, theirs: &Self) -> Option<String> {
         if self.levels.len() != theirs.levels.len() {
@@ -166,21 +172,20 @@ impl Hierarchy {
         statistics
     }
 
-    /// The sum modulo 2^64 of all words of the view, the heads of the levels included, and of the bits of its floats.
+    /// Over all words of the view, the heads of the levels included, and then the bits of its floats: the sum of the sums
+    /// so far, modulo 2^64, which tells numbers that have changed places apart.
     pub fn checksum(&self) -> u64 {
-        let mut sum = 0_u64;
-        let mut add = |word: u64| sum = sum.wrapping_add(word);
-        for level in &self.levels {
-            level.head().iter().for_each(|&word| add(u64::from(word)));
-            for (_, words) in level.words() {
-                words.iter().for_each(|&word| add(u64::from(word)));
-            }
-            for (_, floats) in level.floats() {
-                floats.iter().for_each(|float| add(float.to_bits()));
-            }
-        }
-        self.sums.iter().for_each(|float| add(float.to_bits()));
-        sum
+        let words = self.levels.iter().flat_map(|level| {
+            let lists = level.words().into_iter().flat_map(|(_, words)| words);
+            level
+                .head()
+                .into_iter()
+                .chain(lists.copied())
+                .map(u64::from)
+        });
+        let floats = self.levels.iter().flat_map(Level::floats);
+        let floats = floats.flat_map(|(_, floats)| floats).chain(&self.sums);
+        super::list::rising(words.chain(floats.map(|float| float.to_bits())))
     }
 }
 

@@ -6,6 +6,11 @@ use multigrid::lent;
 
 /// The number of levels, or the refusal.
 pub fn build(problem: &Problem, stores: &mut Stores) -> Result<u64, Refused> {
+    handle(problem, stores).map(|handle| handle.levels)
+}
+
+/// The handle, or the refusal.
+pub fn handle(problem: &Problem, stores: &mut Stores) -> Result<lent::Handle, Refused> {
     let arrays = &problem.arrays;
     let matrix = lent::CsrMatrix {
         rows: arrays.rows,
@@ -15,8 +20,6 @@ pub fn build(problem: &Problem, stores: &mut Stores) -> Result<u64, Refused> {
     };
     let options = compare::library::options(&problem.options);
     let weights = problem.weights.as_deref();
-    match lent::build(matrix, weights, &options, stores) {
-        Ok(levels) => Ok(levels as u64),
-        Err(refusal) => Err((refusal.number(), refusal.level(), refusal.row())),
-    }
+    let built = lent::build(matrix, weights, &options, stores);
+    built.map_err(|refusal| (refusal.number(), refusal.level(), refusal.row()))
 }

@@ -11,8 +11,9 @@
 //! - how many words, floats and words of statistics are lent;
 //! - the answer: 0 or the question's number, its level, its row, the levels built;
 //! - the rows of each of these levels;
-//! - the checksum of an accepted build: the sum modulo 2^64 of all words and bits of the view that stands in the stores:
-//!   of each level its rows, 1 if it is the last, then its coupled rows if it is the last, and all its lists; and the row sums.
+//! - the checksum of an accepted build over the view that stands in the stores: of each level its rows, 1 if it is the
+//!   last, its coupled rows if it is the last, else 0, and all its lists of words; then the bits of all floats, level by
+//!   level, and of the row sums. It is the sum, modulo 2^64, of the sums of the first numbers, one for each number.
 //!   Refused, it is 0.
 
 use super::expected;
@@ -52,7 +53,7 @@ pub fn write(random: &mut Random, each: usize) -> String {
     text
 }
 
-fn fits(problem: &Problem) -> bool {
+pub fn fits(problem: &Problem) -> bool {
     let (arrays, lent) = (&problem.arrays, &problem.lent);
     let weights = problem.weights.as_ref().map_or(0, Vec::len);
     [
@@ -69,15 +70,29 @@ fn fits(problem: &Problem) -> bool {
 }
 
 fn one_build(problem: &Problem) -> String {
+    let mut text = arguments(problem);
+    match expected::build(problem).answer {
+        Err((number, level, row)) => {
+            line(&mut text, [number, level, row, 0]);
+            line(&mut text, [0]);
+        }
+        Ok(made) => {
+            line(&mut text, [0, 0, 0, made.levels.len() as u64]);
+            line(
+                &mut text,
+                made.levels.iter().map(|level| level.rows() as u64),
+            );
+            line(&mut text, [made.checksum()]);
+        }
+    }
+    text
+}
+
+/// The arguments of a build, and what is lent.
+pub fn arguments(problem: &Problem) -> String {
     let (arrays, lent) = (&problem.arrays, &problem.lent);
     let weights = problem.weights.as_deref().unwrap_or_default();
     let mut text = String::new();
-    let mut line = |numbers: &mut dyn Iterator<Item = u64>| {
-        let words: Vec<String> = numbers.map(|number| format!("{number:x}")).collect();
-        if !words.is_empty() {
-            writeln!(text, "{}", words.join(" ")).expect("a string grows");
-        }
-    };
     let sizes = [
         arrays.rows,
         arrays.offsets.len(),
@@ -86,26 +101,42 @@ fn one_build(problem: &Problem) -> String {
         usize::from(problem.weights.is_some()),
         weights.len(),
     ];
-    line(&mut sizes.into_iter().map(|size| size as u64));
-    line(&mut arrays.offsets.iter().map(|&word| u64::from(word)));
-    line(&mut arrays.columns.iter().map(|&word| u64::from(word)));
-    line(&mut arrays.values.iter().map(|value| value.to_bits()));
-    line(&mut weights.iter().map(|weight| weight.to_bits()));
-    line(&mut controls(&problem.options).into_iter());
+    line(&mut text, sizes.map(|size| size as u64));
+    line(
+        &mut text,
+        arrays.offsets.iter().map(|&word| u64::from(word)),
+    );
+    line(
+        &mut text,
+        arrays.columns.iter().map(|&word| u64::from(word)),
+    );
+    line(&mut text, arrays.values.iter().map(|value| value.to_bits()));
+    line(&mut text, weights.iter().map(|weight| weight.to_bits()));
+    line(&mut text, controls(&problem.options));
     let lengths = [lent.words, lent.floats, lent.statistics];
-    line(&mut lengths.into_iter().map(|length| length as u64));
-    match expected::build(problem).answer {
-        Err((number, level, row)) => {
-            line(&mut [number, level, row, 0].into_iter());
-            line(&mut [0].into_iter());
-        }
-        Ok(made) => {
-            line(&mut [0, 0, 0, made.levels.len() as u64].into_iter());
-            line(&mut made.levels.iter().map(|level| level.rows() as u64));
-            line(&mut [made.checksum()].into_iter());
-        }
-    }
+    line(&mut text, lengths.map(|length| length as u64));
     text
+}
+
+/// Numbers in a line of their own; none makes no line.
+pub fn line(text: &mut String, numbers: impl IntoIterator<Item = u64>) {
+    let words: Vec<String> = numbers
+        .into_iter()
+        .map(|number| format!("{number:x}"))
+        .collect();
+    if !words.is_empty() {
+        writeln!(text, "{}", words.join(" ")).expect("a string grows");
+    }
+}
+
+/// The sum, modulo 2^64, of the sums of the first numbers, one for each number.
+pub fn rising(numbers: impl IntoIterator<Item = u64>) -> u64 {
+    let (mut sum, mut total) = (0_u64, 0_u64);
+    for number in numbers {
+        sum = sum.wrapping_add(number);
+        total = total.wrapping_add(sum);
+    }
+    total
 }
 
 fn controls(options: &MultigridOptions) -> [u64; 16] {

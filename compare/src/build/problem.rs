@@ -201,7 +201,7 @@ fn row_of(arrays: &Arrays, entry: usize) -> usize {
     arrays.offsets.partition_point(|&end| end as usize <= entry) - 1
 }
 
-fn entry_of(arrays: &Arrays, row: usize, column: usize) -> Option<usize> {
+pub fn entry_of(arrays: &Arrays, row: usize, column: usize) -> Option<usize> {
     let own = arrays.offsets[row] as usize..arrays.offsets[row + 1] as usize;
     own.into_iter()
         .find(|&entry| arrays.columns[entry] as usize == column)

@@ -1,24 +1,22 @@
 -- The first level of an accepted build in the stores: its kernel, and the row sums behind the levels.
 -- Assumes nothing.
-use mathlib.Core.Path.{_≡_, refl, sym, ap, _∙_, subst}
+use mathlib.Core.Path.{_≡_, refl, sym, ap, _∙_}
 use mathlib.Core.Bool.{Bool, true, false, cond}
 use mathlib.Core.List.{List, [], _∷_}
-use Prim.Native.Nat.{ℕ, zero, suc, _+_, _*_, _≤_, _<_}
+use Prim.Native.Nat.{ℕ, zero, suc, _+_, _≤_, _<_}
 use native.Mathlib.Numerals.{add-one}
 use native.Mathlib.Omega.{arith}
 use lib.ListN.{length}
 use lib.Ieee.{Float}
 use borrow.Author.Tests.{leb-true}
-use Rattle.store.specs.Region.{idx, part, Wrote}
+use Rattle.store.specs.Region.{idx, part}
 use Rattle.store.proofs.Region.{getD-part, wrote-at, kept-wrote, kept-self, le-or-lt}
 use Rattle.store.proofs.Each.{both-l}
 use mathlib.Core.Logic.{⊎-elim}
 use Rattle.float.specs.Float.{zero64}
 use Rattle.store.specs.Vector.{filled}
 use Rattle.options.specs.declared.MultigridOptions.{MultigridOptions}
-use Rattle.options.specs.declared.MultigridResidualNorm.{MultigridResidualNorm}
 use Rattle.refusal.specs.Outcome.{accepted}
-use Rattle.matrix.specs.declared.SymmetricMatrix.{SymmetricMatrix}
 use Rattle.matrix.specs.Kernel.{kernelAt, rowSumsOf, KernelOk}
 use Rattle.pattern.specs.Pattern.{Pattern, entries, Valid}
 use Rattle.faces.specs.Faces.{facesOf, faceOffsetsOf, neighborsOf}
@@ -28,10 +26,10 @@ use Rattle.hierarchy.specs.Refresh.{needsSums, sumsOf, withSums}
 use Rattle.hierarchy.specs.Build.{Charge, Mesh, lastShape, innerShape, growOf}
 use Rattle.hierarchy.proofs.Accepted.{grow-keeps}
 use Rattle.layout.specs.declared.Place.{Place}
-use Rattle.layout.specs.Layout.{placeOf, rowsAt, entriesAt, facesAt, lastAt, coupledAt, locate, levelAt, levelsAt, wordsEnd, floatsEnd, imageEnd, wordsFit, viewOf}
+use Rattle.layout.specs.Layout.{rowsAt, entriesAt, facesAt, lastAt, coupledAt, locate, levelAt, levelsAt, wordsEnd, floatsEnd, imageEnd, wordsFit, viewOf}
 use Rattle.layout.specs.Parts.{kernelIn}
 use Rattle.layout.proofs.Views.{floats-to, levels-kept, fit-to}
-use Rattle.build.specs.Steps.{FirstOk, SumsOk, Summed}
+use Rattle.finest.specs.Finest.{SumsOk, Summed}
 
 -- There is a first level, whose pattern and faces are those of p.
 pub record Leading (p : Pattern) (levels : List Level) : Type 0 where
@@ -205,58 +203,3 @@ module _ (z : List ℕ) (H : List Float) {p : Pattern} {ls : List Level} (valid 
       ≡ cond (needsSums (o .«residual_norm»)) (rowSumsOf (kernelAt (kernelIn own) z H)) (filled rows zero64) =
       ap (λ (n : ℕ). part n (rowsAt z 0) G) (sym is) ∙ ap (λ (n : ℕ). part end n G) (tall ∙ r) ∙ wrote-at (s .wrote) room in
       with-sums o (kept .0 ∙ view ∙ leading .is) (read ∙ sums-is o r) ∙ ap (withSums o) (sym (leading .is))
-
--- ---- the place of the first level
-
-same-place : {r r' e e' f f' : ℕ} → r ≡ r' → e ≡ e' → f ≡ f' → placeOf 0 0 r e f ≡ placeOf 0 0 r' e' f'
-same-place a b c = rw (a, b, c)
-
--- The place of the first level, from its sizes.
-pub first-place : {w : List ℕ} {rows entries faces : ℕ} {p : Place} {k : SymmetricMatrix} → FirstOk w rows entries
-    → faces ≡ idx w (2 * rows + entries + 4)
-    → p ≡ placeOf 0 0 rows entries faces → k ≡ kernelIn p → k ≡ kernelIn (locate w 0 0)
-first-place {w} {rows} {entries} {faces} ok f p k =
-    let tall = ok .tall in
-    let most = ok .most in
-    let same : 2 * rows + entries + 4 ≡ 0 + 3 + rowsAt w 0 + 1 + entriesAt w 0 + rowsAt w 0 = omega arith in
-    k ∙ ap kernelIn (p ∙ same-place (sym tall) (sym most) (f ∙ ap (idx w) same))
-
--- The faces of the first level are few.
-pub first-few : {w : List ℕ} {rows entries faces : ℕ} → FirstOk w rows entries → faces ≡ idx w (2 * rows + entries + 4) → faces ≤ 1048576
-first-few {w} {rows} {entries} {faces} ok f =
-    let tall = ok .tall in
-    let most = ok .most in
-    let same : 2 * rows + entries + 4 ≡ 0 + 3 + rowsAt w 0 + 1 + entriesAt w 0 + rowsAt w 0 = omega arith in
-    let is : faces ≡ facesAt w 0 = f ∙ ap (idx w) same in
-    omega (arith, ok .faces)
-
--- The kernel of the first level, as the row sums require it.
-pub first-kernel : {w : List ℕ} {size end rows entries : ℕ} {k : SymmetricMatrix} → SumsOk w size end rows entries
-    → k ≡ kernelIn (locate w 0 0)
-    → KernelOk w end k × (end + k .rows ≤ size)
-first-kernel {w} {size} {end} {rows} {entries} ok e =
-    let tall = ok .first .tall in
-    rw e (ok .kernel, omega (arith, ok .room))
-
-cond-no : {A : Type 0} (b : Bool) (x y : A) → b ≡ false → cond b x y ≡ y
-cond-no b x y e = rw e
-
-cond-yes : {A : Type 0} (b : Bool) (x y : A) → b ≡ true → cond b x y ≡ x
-cond-yes b x y e = rw e
-
--- Under a norm that needs no row sums zeros are written;
-pub summed-none : {w : List ℕ} {F G : List Float} {o : MultigridOptions} {end rows : ℕ}
-    → o .«residual_norm» ≡ MultigridResidualNorm.AbsoluteL2
-    → Wrote end rows (filled rows zero64) F G → Summed w F G o end rows
-summed-none {w} {F} {G} {o} {end} {rows} e s = record {
-  wrote = subst (λ (v : List Float). Wrote end rows v F G) (sym (cond-no (needsSums (o .«residual_norm»)) _ _ (ap needsSums e))) s;
-}
-
--- under the other the row sums.
-pub summed-all : {w : List ℕ} {F G : List Float} {o : MultigridOptions} {size end rows entries : ℕ} {k : SymmetricMatrix}
-    → o .«residual_norm» ≡ MultigridResidualNorm.NormalizedL1 → SumsOk w size end rows entries → k ≡ kernelIn (locate w 0 0)
-    → Wrote end (k .rows) (rowSumsOf (kernelAt k w F)) F G → Summed w F G o end rows
-summed-all {w} {F} {G} {o} {size} {end} {rows} n ok e s =
-    let a = subst (λ (k : SymmetricMatrix). Wrote end (k .rows) (rowSumsOf (kernelAt k w F)) F G) e s in
-    let b = subst (λ (n : ℕ). Wrote end n (rowSumsOf (kernelAt (kernelIn (locate w 0 0)) w F)) F G) (ok .first .tall) a in
-    record { wrote = subst (λ (v : List Float). Wrote end rows v F G) (sym (cond-yes (needsSums (o .«residual_norm»)) _ _ (ap needsSums n))) b }

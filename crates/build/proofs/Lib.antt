@@ -1,7 +1,3 @@
-pub mod Products
-pub mod Chains
-pub mod Passing
-pub mod Copies
-pub mod Mirroring
+pub mod Chain
 pub mod First
 pub mod Whole

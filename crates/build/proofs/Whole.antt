@@ -37,8 +37,11 @@ use Rattle.ending.specs.Contract.{Levels}
 use Rattle.build.specs.declared.Built.{Built}
 use Rattle.growing.specs.Contract.{charge, growAt, Grown}
 use Rattle.build.specs.Contract.{lentOf, builtOf, BuildDone}
-use Rattle.build.specs.Steps.{lending, askedOf, restOf, Asked, Fitting, Spaced, LoadOk, Loaded, finestAt, SymmetricOk, SymmetricDone, finestOf, SumsOk, Summed, LevelsOk, levelsMade, LevelsDone, Tried, Begun, Attempted, Cleared}
-use Rattle.build.proofs.Chains.{passed-then, refused-then, build-asked}
+use Rattle.asking.specs.Asking.{lending, askedOf, Asked, Fitting, Spaced}
+use Rattle.asking.proofs.Chains.{passed-then, refused-then}
+use Rattle.finest.specs.Finest.{LoadOk, Loaded, finestAt, SymmetricOk, SymmetricDone, finestOf, SumsOk, Summed}
+use Rattle.build.specs.Steps.{restOf, LevelsOk, levelsMade, LevelsDone, Tried, Begun, Attempted, Cleared}
+use Rattle.build.proofs.Chain.{build-asked}
 use Rattle.build.proofs.First.{Leading, grow-leading, sums-ok, viewed}
 
 -- ---- the levels

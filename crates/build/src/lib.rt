@@ -1,21 +1,40 @@
-// `build` of hierarchy.rs: the level loop as a recursion on the levels that may follow, and the build in lent stores.
+// `build` of hierarchy.rs, in lent stores: the questions on the input, and the levels from the finest on.
 ghost use lib.ListN.{length};
 ghost use Rattle.build.specs.Contract.{BuildDone};
-ghost use Rattle.build.specs.Steps.{inputOf, Fitting, Begun, Attempted, Cleared};
+ghost use Rattle.asking.specs.Asking.{inputOf, Fitting};
+ghost use Rattle.build.specs.Steps.{LevelsOk, LevelsDone, Begun, Attempted, Cleared};
+use asking::space;
+use coarsen::Workspace;
+use ending::Growth;
+use finest::loading;
 use options::Handle;
 use options::MultigridOptions;
 use refusal::Refusal;
 use refusal::Verdict;
 
-mod asking;
-mod finest;
-mod loading;
-mod space;
-
 // A build's answer: the handle of its hierarchy, or a refusal.
 pub enum Built {
     Made(Handle),
     Refused(Refusal),
+}
+
+// The levels of the matrix in the temporaries, and behind them the row sums of the finest.
+fn levels(w: &mut [u32], f: &mut [f64], o: MultigridOptions, given: bool, t: Workspace) -> Built
+    requires { ⌜ LevelsOk (now w) (length (now f)) o t ⌝ }
+    ensures { λ r. ⌜ LevelsDone (now (w .entry)) (now (w .exit)) (now (f .entry)) (now (f .exit)) o given t r ⌝ }
+{
+    match growing::grow(w, f, o, given, t, finest::frontier(o, t)) {
+        Growth::Made { levels, end } => {
+            finest::sums(w, f, o, end, t.rows, t.entries);
+            Built::Made(Handle {
+                options: o,
+                levels: levels,
+                rows: t.rows as u64,
+                entries: t.entries as u64,
+            })
+        }
+        Growth::Refused(q) => Built::Refused(q),
+    }
 }
 
 // From question 10 on: the matrix is loaded into the temporaries, and the levels are grown from there.
@@ -42,7 +61,7 @@ fn begin(
     );
     loading::load(w, f, offsets, columns, values, given, weights, t);
     if finest::symmetric(w, values, t) {
-        return finest::levels(w, f, o, given, t);
+        return levels(w, f, o, given, t);
     }
     Built::Refused(Refusal::UnequalMirrors)
 }

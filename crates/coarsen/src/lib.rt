@@ -7,12 +7,12 @@ ghost use Rattle.coarsen.specs.Contract.{SettleOk, Settled, FloatsOk, Fl
 use faces::Faces;
 use faces::face_offsets;
 use faces::fill_faces;
-use faces::mirrors;
 use galerkin::restrict_weights;
 use galerkin::sum_entries;
 use galerkin::symmetrize;
+use mirroring::mirrors;
 use pattern::Coarsening;
-use pattern::coarse_pattern;
+use positions::coarse_pattern;
 use store::copy;
 use store::copy_words;
 use vector::all_finite;

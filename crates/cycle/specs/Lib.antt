@@ -1,1 +1,2 @@
-pub mod Correction
+pub mod Cycle
+pub mod Contract

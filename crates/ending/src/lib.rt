@@ -43,7 +43,7 @@ fn coupled_in(w: &[u32], p: Place) -> usize
     ensures { λ r. ⌜ r ≡ coupledCountOf (patternAt (now (w .entry)) (facesIn p)) ⌝ }
 {
     let level = layout::faces_in(p);
-    faces::coupled_count(w, level)
+    coupling::coupled_count(w, level)
 }
 
 // The header at a says that its level is the last, with so many coupled rows.
@@ -63,7 +63,7 @@ fn list_coupled(w: &mut [u32], a: usize, p: Place, coupled: usize)
     let level = layout::faces_in(p);
     let links = p.links;
     mark(w, a, coupled);
-    faces::coupled_rows(w, level, links);
+    coupling::coupled_rows(w, level, links);
 }
 
 // Its floats: no DIC data, and the factor of the coupled rows: question 15.

@@ -268,23 +268,39 @@ module _ {w z y : List ℕ} {F G H : List Float} {o : MultigridOptions} {given :
 
 -- ---- `grow`
 
-module _ {w z : List ℕ} {F G : List Float} {o : MultigridOptions} {given : Bool} {t : Workspace} {s : Frontier} {x : Onward}
-    (a : Advanced w z F G o given t s (growAt o given w F t s) x) where
-  -- The levels end with this one.
-  pub grown-ended : {g : Growth} → x ≡ Onward.Ended g → Grown w z F G o given t s g
-  grown-ended {g} e = record { levels = a .ended g e }
+-- The loop of `grow` stands at the frontier n: the levels from there on make those from s on, whatever they are.
+pub record Left (w z : List ℕ) (F G : List Float) (o : MultigridOptions) (given : Bool) (t : Workspace) (s n : Frontier) : Type 0 where
+  pub frontier : FrontierOk z (length G) o t n
+  pub words : length z ≡ length w
+  pub floats : length G ≡ length F
+  pub whole : (y : List ℕ) (H : List Float) (r : Growth) → Grown z y G H o given t n r → Grown w y F H o given t s r
 
-  module _ {n : Frontier} (e : x ≡ Onward.Next n) where
-    -- The next frontier is one, with fewer levels to follow.
-    pub next-ok : FrontierOk z (length G) o t n
-    next-ok = a .next n e .frontier
+-- Before the first level all levels are left.
+pub left-start : {w : List ℕ} {F : List Float} {o : MultigridOptions} {given : Bool} {t : Workspace} {s : Frontier}
+    → FrontierOk w (length F) o t s → Left w w F F o given t s s
+left-start ok = record { frontier = ok; words = refl; floats = refl; whole = λ y H r g. g }
 
-    pub next-fewer : n .more < s .more
-    next-fewer = let h = a .next n e .more in omega arith
+-- The next frontier has fewer levels to follow.
+pub next-fewer : {w z : List ℕ} {F G : List Float} {o : MultigridOptions} {given : Bool} {t : Workspace} {s n : Frontier} {x : Onward}
+    → Advanced w z F G o given t s (growAt o given w F t s) x → x ≡ Onward.Next n → n .more < s .more
+next-fewer {n = n} a e = let h = a .next n e .more in omega arith
 
-    -- The levels from there on make those from here on.
-    pub grown-next : {y : List ℕ} {H : List Float} {r : Growth} → Grown z y G H o given t n r → Grown w y F H o given t s r
-    grown-next g = record { levels = levels-on (a .next n e) g }
+module _ {w z y : List ℕ} {F G H : List Float} {o : MultigridOptions} {given : Bool} {t : Workspace} {s n : Frontier} {x : Onward}
+    (left : Left w z F G o given t s n) (a : Advanced z y G H o given t n (growAt o given z G t n) x) where
+  -- The levels end with this one: with it those from s on are whole.
+  pub left-ended : {g : Growth} → x ≡ Onward.Ended g → Grown w y F H o given t s g
+  left-ended {g} e = left .whole y H g (record { levels = a .ended g e })
+
+  -- One level fewer is left.
+  pub left-next : {m : Frontier} → x ≡ Onward.Next m → Left w y F H o given t s m
+  left-next {m} e =
+      let h = a .next m e in
+      record {
+        frontier = h .frontier;
+        words = h .words .size ∙ left .words;
+        floats = h .floats .size ∙ left .floats;
+        whole = λ v K r g. left .whole v K r (record { levels = levels-on h g });
+      }
 
 -- ---- ways out of a level
 

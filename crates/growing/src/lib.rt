@@ -1,5 +1,4 @@
-// The level loop of `build` of hierarchy.rs, as a recursion on the levels that may follow: each level is laid, paired, and either the
-// last or led on to the next.
+// The level loop of `build` of hierarchy.rs: each level is laid, paired, and either the last or led on to the next.
 ghost use mathlib.Core.Path.{_≡_};
 ghost use lib.ListN.{length};
 ghost use Rattle.laying.specs.Contract.{FrontierOk};
@@ -115,8 +114,11 @@ pub fn grow(
     requires { ⌜ FrontierOk (now w) (length (now f)) o t s ⌝ }
     ensures { λ r. ⌜ Grown (now (w .entry)) (now (w .exit)) (now (f .entry)) (now (f .exit)) o given t s r ⌝ }
 {
-    match advance(w, f, o, given, t, s) {
-        Onward::Ended(g) => g,
-        Onward::Next(n) => grow(w, f, o, given, t, n),
+    let mut at = s;
+    loop {
+        match advance(w, f, o, given, t, at) {
+            Onward::Ended(g) => return g,
+            Onward::Next(n) => at = n,
+        }
     }
 }

@@ -10,7 +10,7 @@ use lib.Dec.{eqb, leb}
 use lib.ListN.{length}
 use Rattle.options.specs.declared.MultigridOptions.{MultigridOptions}
 use Rattle.refusal.specs.declared.Refusal.{Refusal}
-use Rattle.options.specs.Options.{validOf, controlsAsked}
+use Rattle.options.specs.Options.{validOf, isCholesky, controlsAsked}
 use Rattle.refusal.specs.Outcome.{Outcome, accepted, refused, passed, ask, _>>=_}
 use Rattle.vector.specs.Dot.{allFinite}
 use Rattle.values.specs.Update.{Coefficients}
@@ -164,6 +164,37 @@ module _ (o : MultigridOptions) (given : Bool) (stage : ℕ) (m : Mesh) where
     by-pattern : endsAt o more (m .pattern) ≡ true → Halts more
     by-pairs : endsAt o more (m .pattern) ≡ false → eqb (paired given stage m .count) (m .pattern .rows) ≡ true → Halts more
 
+module _ (o : MultigridOptions) (given : Bool) (stores : Charge) (P : (more level stage : ℕ) → Charge → Mesh → List Level → Type 0) where
+  -- What holds of a last level, and of a level with aggregates if it holds of the levels after it, with the charge so far, holds of an
+  -- accepted build.
+  pub grow-charged : ((more level stage : ℕ) (used : Charge) (m : Mesh) (levels : List Level) → Halts o given stage m more → Last o level m levels
+      → P more level stage used m levels)
+      → ((more level stage : ℕ) (used : Charge) (m : Mesh) (levels : List Level) → endsAt o (suc more) (m .pattern) ≡ false
+      → eqb (paired given stage m .count) (m .pattern .rows) ≡ false
+      → (i : Inner o given (growOf o given stores more (level + 1)) stores level stage used m (paired given stage m) levels)
+      → P more (level + 1) (i .state .stage) (andLevel (i .next .pattern) used) (onward (i .next) (i .state)) (i .rest)
+      → P (suc more) level stage used m levels)
+      → (more level stage : ℕ) (used : Charge) (m : Mesh) {levels : List Level} → growOf o given stores more level stage used m ≡ accepted levels
+      → P more level stage used m levels
+  unfolding growOf
+  grow-charged halts goes zero level stage used m {levels} e = go (step-grown o given (λ _ _ _. accepted []) stores 0 level stage used m e)
+    where
+      go : Grown o given (λ _ _ _. accepted []) stores 0 level stage used m levels → P 0 level stage used m levels
+      go (ends p l) = halts 0 level stage used m levels (by-pattern p) l
+      go (alone p q l) = halts 0 level stage used m levels (by-pairs p q) l
+      go (leads p q i) = absurd (not-both (ends-zero o (m .pattern)) p)
+  grow-charged halts goes (suc more) level stage used m {levels} e =
+      go (λ stage used m levels e. grow-charged halts goes more (level + 1) stage used m e)
+      (step-grown o given (growOf o given stores more (level + 1)) stores (suc more) level stage used m e)
+    where
+      go : ((stage : ℕ) (used : Charge) (m : Mesh) (levels : List Level) → growOf o given stores more (level + 1) stage used m ≡ accepted levels
+          → P more (level + 1) stage used m levels)
+          → Grown o given (growOf o given stores more (level + 1)) stores (suc more) level stage used m levels → P (suc more) level stage used m levels
+      go on (ends p l) = halts (suc more) level stage used m levels (by-pattern p) l
+      go on (alone p q l) = halts (suc more) level stage used m levels (by-pairs p q) l
+      go on (leads p q i) = goes more level stage used m levels p q i
+          (on (i .state .stage) (andLevel (i .next .pattern) used) (onward (i .next) (i .state)) (i .rest) (i .further))
+
 module _ (o : MultigridOptions) (given : Bool) (stores : Charge) (P : (more level stage : ℕ) → Mesh → List Level → Type 0) where
   -- What holds of a last level, and of a level with aggregates if it holds of the levels after it, holds of an accepted build.
   pub grow-keeps : ((more level stage : ℕ) (m : Mesh) (levels : List Level) → Halts o given stage m more → Last o level m levels
@@ -174,24 +205,8 @@ module _ (o : MultigridOptions) (given : Bool) (stores : Charge) (P : (more leve
       → P more (level + 1) (i .state .stage) (onward (i .next) (i .state)) (i .rest) → P (suc more) level stage m levels)
       → (more level stage : ℕ) (used : Charge) (m : Mesh) {levels : List Level} → growOf o given stores more level stage used m ≡ accepted levels
       → P more level stage m levels
-  unfolding growOf
-  grow-keeps halts goes zero level stage used m {levels} e = go (step-grown o given (λ _ _ _. accepted []) stores 0 level stage used m e)
-    where
-      go : Grown o given (λ _ _ _. accepted []) stores 0 level stage used m levels → P 0 level stage m levels
-      go (ends p l) = halts 0 level stage m levels (by-pattern p) l
-      go (alone p q l) = halts 0 level stage m levels (by-pairs p q) l
-      go (leads p q i) = absurd (not-both (ends-zero o (m .pattern)) p)
-  grow-keeps halts goes (suc more) level stage used m {levels} e =
-      go (λ stage used m levels e. grow-keeps halts goes more (level + 1) stage used m e)
-      (step-grown o given (growOf o given stores more (level + 1)) stores (suc more) level stage used m e)
-    where
-      go : ((stage : ℕ) (used : Charge) (m : Mesh) (levels : List Level) → growOf o given stores more (level + 1) stage used m ≡ accepted levels
-          → P more (level + 1) stage m levels)
-          → Grown o given (growOf o given stores more (level + 1)) stores (suc more) level stage used m levels → P (suc more) level stage m levels
-      go on (ends p l) = halts (suc more) level stage m levels (by-pattern p) l
-      go on (alone p q l) = halts (suc more) level stage m levels (by-pairs p q) l
-      go on (leads p q i) = goes more level stage used m levels p q i
-          (on (i .state .stage) (andLevel (i .next .pattern) used) (onward (i .next) (i .state)) (i .rest) (i .further))
+  grow-keeps halts goes = grow-charged o given stores (λ more level stage _ m levels. P more level stage m levels)
+      (λ more level stage _ m levels h l. halts more level stage m levels h l) goes
 
 -- ---- merged steps
 
@@ -238,6 +253,10 @@ pub record Built (l : Lent) (x : Input) (h : Hierarchy) : Type 0 where
   pub matrix : matrixAsked (x .rows) (x .offsets) (x .columns) (x .values) ≡ passed
   pub weights : cond (x .given) (weightsAsked (entries (patternIn x)) (x .weights)) passed ≡ passed
   pub controls : validOf (x .options) ≡ true
+  pub solver : isCholesky (x .options .«coarse_solver») ≡ true
+  pub rows : leb 1 (x .rows) ≡ true
+  pub room : (holds (l .stores) (fixedIn x) && leb (x .options .«max_levels») (l .records)) ≡ true
+  pub paid : holds (l .stores) (chargeIn x) ≡ true
   pub symmetric : symmetricOf (patternIn x) (x .values) ≡ true
   pub levels : List Level
   pub grown : growOf (x .options) (x .given) (l .stores) (x .options .«max_levels» - 1) 0 0 (chargeIn x) (meshIn x) ≡ accepted levels
@@ -252,6 +271,7 @@ build-built l x e =
     let a = then-split (matrixAsked (x .rows) (x .offsets) (x .columns) (x .values)) _ e in
     let b = then-split (cond (x .given) (weightsAsked (entries p) (x .weights)) passed) _ (a .2) in
     let c = then-split (controlsAsked o) _ (b .2) in
+    let valid = ask-split (validOf o) Refusal.InvalidControls _ (c .1) in
     let rows = ask-split (leb 1 (x .rows)) Refusal.NoRows _ (c .2) in
     let room = ask-split (holds (l .stores) (fixedIn x) && leb (o .«max_levels») (l .records)) Refusal.StoreTooSmall _ (rows .1) in
     let paid = ask-split (holds (l .stores) (chargeIn x)) Refusal.StoreTooSmall _ (room .1) in
@@ -260,7 +280,11 @@ build-built l x e =
     record {
       matrix = a .1;
       weights = b .1;
-      controls = ask-split (validOf o) Refusal.InvalidControls _ (c .1) .0;
+      controls = valid .0;
+      solver = ask-split (isCholesky (o .«coarse_solver»)) Refusal.NotCholesky _ (valid .1) .0;
+      rows = rows .0;
+      room = room .0;
+      paid = paid .0;
       symmetric = even .0;
       levels = g .0;
       grown = g .1;

@@ -76,8 +76,8 @@ fn lay_faces(w: &mut [u32], p: Place, level: u64) -> Verdict
 {
     let s = layout::faces_in(p);
     faces::fill_faces(w, s);
-    faces::mirrors(w, s);
-    faces::diagonals(w, s, level)
+    mirroring::mirrors(w, s);
+    mirroring::diagonals(w, s, level)
 }
 
 // The values out of the temporaries, and the coefficients: questions 12 and 13.
@@ -162,7 +162,7 @@ pub fn choose(
     ensures { λ r. ⌜ Chosen (now (w .entry)) (now (w .exit)) (now (f .entry)) o given t s p r ⌝ }
 {
     let level = layout::faces_in(p);
-    let coupled = faces::coupled_count(w, level);
+    let coupled = coupling::coupled_count(w, level);
     if ends_at(coupled, o.coarsest_cells, p.faces, s.more) {
         return p.rows;
     }

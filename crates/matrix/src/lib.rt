@@ -1,12 +1,12 @@
-// matrix.rs: the symmetric face-addressed matrix of a level, its product, residual and row sums over regions of the store.
+// matrix.rs: the symmetric face-addressed matrix of a level, its product and residual over regions of the store.
 ghost use mathlib.Core.Path.{_≡_};
 ghost use Prim.Native.Nat.{_+_, _<_, _≤_};
 ghost use lib.ListN.{length};
 ghost use Rattle.float.specs.Float.{add64, sub64};
 ghost use Rattle.store.specs.Loop.{for};
 ghost use Rattle.store.specs.Region.{part, Wrote};
-ghost use Rattle.matrix.specs.Kernel.{kernelAt, applyOf, residualOf, rowSumsOf, KernelOk};
-ghost use Rattle.matrix.specs.Turns.{productTurn, lessTurn, Faced, Rowed, Spread, FacesOk, RowsOk, SumFaced, SumRowed, Summed};
+ghost use Rattle.matrix.specs.Kernel.{kernelAt, applyOf, residualOf, KernelOk};
+ghost use Rattle.matrix.specs.Turns.{productTurn, lessTurn, Faced, Rowed, Spread, FacesOk, RowsOk};
 
 // Where a matrix lies: offsets and neighbors in the words, the others in the floats. Each coefficient is stored once.
 pub struct SymmetricMatrix {
@@ -240,80 +240,4 @@ pub fn residual(w: &[u32], f: &mut [f64], s: SymmetricMatrix, x: usize, rhs: usi
 {
     diagonal_residual(f, s.rows, s.diagonal, x, rhs, out);
     subtract_rows(w, f, s.rows, s.offsets, s.neighbors, s.coefficients, x, out);
-}
-
-// The faces from lo to hi of a row, each added to the row's sum and to its neighbour's.
-fn sum_faces(
-    w: &[u32],
-    f: &mut [f64],
-    rows: usize,
-    lo: usize,
-    hi: usize,
-    neighbors: usize,
-    coefficients: usize,
-    sums: usize,
-    row: usize,
-)
-    requires { ⌜ FacesOk (now w) (length (now f)) rows hi neighbors coefficients sums sums ⌝ }
-    requires { ⌜ row < rows ⌝ }
-    ensures { λ _. ⌜ SumFaced (now (w .entry)) neighbors coefficients sums row lo hi (now (f .entry)) (now (f .exit)) ⌝ }
-{
-    let mut face = lo;
-    while face < hi {
-        let neighbor = store::index_at(w, neighbors, face, rows);
-        let a = f[coefficients + face];
-        f[sums + row] = f[sums + row] + a;
-        f[sums + neighbor] = f[sums + neighbor] + a;
-        face += 1;
-    }
-}
-
-// The faces of one row.
-fn sum_row(
-    w: &[u32],
-    f: &mut [f64],
-    rows: usize,
-    offsets: usize,
-    neighbors: usize,
-    coefficients: usize,
-    sums: usize,
-    row: usize,
-)
-    requires { ⌜ RowsOk (now w) (length (now f)) rows offsets neighbors coefficients sums sums ⌝ }
-    requires { ⌜ row < rows ⌝ }
-    ensures { λ _. ⌜ SumRowed (now (w .entry)) offsets neighbors coefficients sums row (now (f .entry)) (now (f .exit)) ⌝ }
-{
-    let lo = store::wide(w[offsets + row]);
-    let hi = store::wide(w[offsets + row + 1]);
-    sum_faces(w, f, rows, lo, hi, neighbors, coefficients, sums, row);
-}
-
-// The faces of every row.
-fn sum_rows(
-    w: &[u32],
-    f: &mut [f64],
-    rows: usize,
-    offsets: usize,
-    neighbors: usize,
-    coefficients: usize,
-    sums: usize,
-)
-    requires { ⌜ RowsOk (now w) (length (now f)) rows offsets neighbors coefficients sums sums ⌝ }
-    ensures { λ _. ⌜ Summed (now (w .entry)) rows offsets neighbors coefficients sums (now (f .entry)) (now (f .exit)) ⌝ }
-{
-    let mut row = 0;
-    while row < rows {
-        sum_row(w, f, rows, offsets, neighbors, coefficients, sums, row);
-        row += 1;
-    }
-}
-
-// The sum of each row of A.
-pub fn row_sums_into(w: &[u32], f: &mut [f64], s: SymmetricMatrix, sums: usize)
-    requires { ⌜ KernelOk (now w) sums s ⌝ }
-    requires { ⌜ sums + s .rows ≤ length (now f) ⌝ }
-    ensures { λ _. ⌜ Wrote sums (s .rows) (rowSumsOf (kernelAt s (now (w .entry)) (now (f .entry)))) (now (f .entry)) (now (f .exit)) ⌝ }
-{
-    store::copy(f, s.rows, s.diagonal, sums);
-    sum_rows(w, f, s.rows, s.offsets, s.neighbors, s.coefficients, sums);
 }

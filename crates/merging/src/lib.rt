@@ -148,12 +148,12 @@ fn pair(
 {
     let s = faces_in(t, count, entries);
     // a merged matrix has every diagonal entry
-    faces::diagonals(w, s, level);
+    mirroring::diagonals(w, s, level);
     let asked = check_rows(w, f, count, entries, t.diagonals, t.merged_values, level);
     match asked {
         Verdict::Refused(refusal) => Attempt::Refused(refusal),
         Verdict::Passed => {
-            let coupled = faces::coupled_count(w, s);
+            let coupled = coupling::coupled_count(w, s);
             if coupled as u64 <= o.coarsest_cells {
                 return Attempt::Few;
             }

@@ -1,2 +1,4 @@
 pub mod New
 pub mod Stores
+pub mod Calls
+pub mod Trace

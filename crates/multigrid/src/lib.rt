@@ -3,7 +3,14 @@ ghost use mathlib.Core.Bool.{true, false};
 ghost use mathlib.Core.List.{[]};
 ghost use Rattle.build.specs.Steps.{inputOf};
 ghost use Rattle.multigrid.specs.New.{NewDone};
+
+mod calls;
+
 use build::Built;
+pub use calls::Counted;
+pub use calls::solve;
+pub use calls::statistics;
+pub use calls::update_values;
 use options::MultigridOptions;
 
 // Both builds: the hierarchy, then the statistics of its levels, which are zeros where the build refuses.

@@ -1,13 +1,11 @@
--- How answers cross the boundary: as numbers, and as words of a lent slice. Definitions only.
-use mathlib.Core.Bool.{Bool, cond}
+-- How places and answers cross the boundary: as numbers, and as words of a lent slice. Definitions only.
 use mathlib.Core.List.{List}
 use mathlib.Core.Path.{_≡_}
 use Prim.Native.Nat.{ℕ}
 use lib.Ieee.{Float}
 use lib.ListN.{set}
 use Rattle.flat.specs.Flat.{isSet}
-use Rattle.refusal.specs.declared.Verdict.{Verdict}
-use Rattle.refusal.specs.Refusal.{numberOf, levelOf, rowOf}
+use Rattle.refusal.specs.Refusal.{numberOf}
 use Rattle.aggregation.specs.declared.Graph.{Graph}
 use Rattle.pattern.specs.declared.Coarsening.{Coarsening}
 use Rattle.faces.specs.declared.Faces.{Faces}
@@ -16,22 +14,7 @@ use Rattle.values.specs.declared.values.Entries.{Entries}
 use Rattle.cholesky.specs.declared.Terminal.{Terminal}
 use Rattle.correction.specs.declared.Factor.{Factor}
 use Rattle.acceleration.specs.declared.Corrected.{Corrected}
-use Rattle.vector.specs.declared.Product.{Product}
-use Rattle.vector.specs.declared.Product.the-variants.{Finite, NotFinite}
-
--- yes is 1, no is 0
-abbrev pub flag : Bool → ℕ
-flag b = cond b 1 0
-
--- whether a product is finite
-abbrev pub flagOf : Product → ℕ
-flagOf (Finite x) = 1
-flagOf NotFinite = 0
-
--- a finite product stands at the front of `out`; one that is not writes nothing
-abbrev pub writtenOf : Product → List Float → List Float
-writtenOf (Finite x) out = set out 0 x
-writtenOf NotFinite out = out
+pub use Rattle.telling.specs.Telling.{flag, flagOf, writtenOf, answerOf, Told}
 
 -- the places of a matrix and its map, as numbers
 abbrev pub graphOf : ℕ → ℕ → ℕ → ℕ → ℕ → ℕ → ℕ → Graph
@@ -77,21 +60,6 @@ topologyOf rows entries faces offsets columns starts diagonals neighbors uppers 
       uppers = uppers;
       lowers = lowers;
     }
-
--- the number of the question that refused, or zero
-abbrev pub answerOf : Verdict → ℕ
-answerOf Verdict.Passed = 0
-answerOf (Verdict.Refused q) = numberOf q
-
--- the level and the row of a refusal stand at the front of `place`; a verdict that passed writes nothing
-abbrev pub placedOf : Verdict → List ℕ → List ℕ
-placedOf Verdict.Passed place = place
-placedOf (Verdict.Refused q) place = set (set place 0 (levelOf q)) 1 (rowOf q)
-
--- a verdict as a number, with its place
-pub record Told (v : Verdict) (P Q : List ℕ) (r : ℕ) : Type 0 where
-  pub is : r ≡ answerOf v
-  pub place : Q ≡ placedOf v P
 
 -- the places of a kernel, as numbers
 abbrev pub symmetricOf : ℕ → ℕ → ℕ → ℕ → ℕ → ℕ → SymmetricMatrix

@@ -73,7 +73,7 @@ pub extern "C" fn probe_coarse_pattern(
         coarse_columns: coarse_columns,
         scratch: scratch,
     };
-    pattern::coarse_pattern(w, c)
+    positions::coarse_pattern(w, c)
 }
 
 #[no_mangle]

@@ -3,7 +3,7 @@ ghost use mathlib.Core.Path.{_≡_};
 ghost use Rattle.options.specs.Options.{validOf};
 ghost use Rattle.flat.specs.Flat.{optionsOf};
 ghost use Rattle.probe.specs.Probe.{flag};
-use crate::number;
+use telling::number;
 
 #[no_mangle]
 pub extern "C" fn probe_validate(

@@ -1,4 +1,4 @@
-// The functions of `matrix` and `values`: the kernel of a level. Its places cross as numbers.
+// The functions of `matrix`, `rowsums` and `values`: the kernel of a level. Its places cross as numbers.
 ghost use mathlib.Core.Path.{_≡_};
 ghost use Prim.Native.Nat.{_+_, _≤_};
 ghost use lib.ListN.{length};
@@ -8,9 +8,9 @@ ghost use Rattle.matrix.specs.Kernel.{kernelAt, applyOf, residualOf, rowSumsOf,
 ghost use Rattle.values.specs.Update.{updateAt, UpdateOk, Updated};
 ghost use Rattle.values.specs.Mirrors.{mirrorsEqual, MirrorsOk};
 ghost use Rattle.probe.specs.Probe.{flag, symmetricOf, entriesOf, Told};
-use crate::answer;
-use crate::number;
 use matrix::SymmetricMatrix;
+use telling::answer;
+use telling::number;
 use values::Entries;
 
 #[no_mangle]
@@ -105,7 +105,7 @@ pub extern "C" fn probe_row_sums_into(
         neighbors: neighbors,
         coefficients: coefficients,
     };
-    matrix::row_sums_into(w, f, s, sums);
+    rowsums::row_sums_into(w, f, s, sums);
 }
 
 #[no_mangle]

@@ -7,8 +7,8 @@ ghost use Rattle.measure.specs.Measure.{measureOf};
 ghost use Rattle.measure.specs.Normalization.{normalizationOf, NormalizationOk, thresholdOf, relativeOf};
 ghost use Rattle.flat.specs.Flat.{residualNormOf};
 ghost use Rattle.probe.specs.Probe.{flagOf, writtenOf};
-use crate::vectors::tell;
 use flat::residual_norm_of;
+use telling::tell;
 
 #[no_mangle]
 pub extern "C" fn probe_measure(

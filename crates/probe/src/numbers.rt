@@ -5,7 +5,7 @@ ghost use lib.Ieee.{binary64, toBits, ofBits};
 ghost use Rattle.float.specs.Float.{isFinite, absOf, maxNum, squareOf};
 ghost use Rattle.float.specs.Sqrt.{sqrtOf};
 ghost use Rattle.probe.specs.Probe.{flag};
-use crate::number;
+use telling::number;
 
 #[no_mangle]
 pub extern "C" fn probe_is_finite(x: f64) -> u8

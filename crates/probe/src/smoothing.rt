@@ -10,9 +10,9 @@ ghost use Rattle.dic.specs.Dic.{dicOf, DicOk, Settled};
 ghost use Rattle.smoother.specs.Smooth.{sweptOf, smoothOf, SmoothDone};
 ghost use Rattle.flat.specs.Flat.{isSet, smootherOf};
 ghost use Rattle.probe.specs.Probe.{symmetricOf, Told};
-use crate::answer;
 use flat::smoother_of;
 use matrix::SymmetricMatrix;
+use telling::answer;
 
 #[no_mangle]
 pub extern "C" fn probe_update_dic_diagonal(
@@ -111,7 +111,7 @@ pub extern "C" fn probe_dic_sweep(
         neighbors: neighbors,
         coefficients: coefficients,
     };
-    sweeps::dic_sweep(w, f, s, dic, rhs, x, work, correction);
+    dicsweep::dic_sweep(w, f, s, dic, rhs, x, work, correction);
 }
 
 #[no_mangle]

@@ -10,8 +10,8 @@ ghost use Rattle.coarse.specs.Factor.{solveFactorOf};
 ghost use Rattle.coarse.specs.Terminal.{terminalOf};
 ghost use Rattle.coarse.specs.Contract.{SolveOk, SolutionOk, Solved};
 ghost use Rattle.probe.specs.Probe.{systemOf, Told};
-use crate::answer;
 use cholesky::Terminal;
+use telling::answer;
 
 #[no_mangle]
 pub extern "C" fn probe_cholesky(

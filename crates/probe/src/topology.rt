@@ -1,4 +1,4 @@
-// The functions of `faces`: the pattern part of a kernel. The places of the pattern and of its faces cross as numbers.
+// The functions of `faces`, `mirroring` and `coupling`: the pattern part of a kernel. The places of the pattern and of its faces cross as numbers.
 ghost use mathlib.Core.Path.{_≡_};
 ghost use Prim.Native.Nat.{_≤_};
 ghost use lib.ListN.{length};
@@ -7,9 +7,9 @@ ghost use Rattle.faces.specs.Faces.{mirroredOf, diagonalsAsked};
 ghost use Rattle.faces.specs.Contract.{patternAt, OffsetsOk, OffsetsDone, FillOk, Filled, MirrorsOk, MirrorsDone};
 ghost use Rattle.faces.specs.Contract.{DiagonalsOk, DiagonalsDone, CoupledOk, CoupledCount, CoupledRowsOk, CoupledRows};
 ghost use Rattle.probe.specs.Probe.{flag, topologyOf, Told};
-use crate::answer;
-use crate::number;
 use faces::Faces;
+use telling::answer;
+use telling::number;
 
 #[no_mangle]
 pub extern "C" fn probe_face_offsets(
@@ -110,7 +110,7 @@ pub extern "C" fn probe_mirrors(
         uppers: uppers,
         lowers: lowers,
     };
-    number(faces::mirrors(w, s))
+    number(mirroring::mirrors(w, s))
 }
 
 #[no_mangle]
@@ -152,7 +152,7 @@ pub extern "C" fn probe_diagonals(
         uppers: uppers,
         lowers: lowers,
     };
-    answer(faces::diagonals(w, s, level), place)
+    answer(mirroring::diagonals(w, s, level), place)
 }
 
 #[no_mangle]
@@ -185,7 +185,7 @@ pub extern "C" fn probe_coupled_count(
         uppers: uppers,
         lowers: lowers,
     };
-    faces::coupled_count(w, s)
+    coupling::coupled_count(w, s)
 }
 
 #[no_mangle]
@@ -219,5 +219,5 @@ pub extern "C" fn probe_coupled_rows(
         uppers: uppers,
         lowers: lowers,
     };
-    faces::coupled_rows(w, s, to);
+    coupling::coupled_rows(w, s, to);
 }

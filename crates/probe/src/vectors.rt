@@ -5,22 +5,8 @@ ghost use lib.ListN.{length};
 ghost use Rattle.store.specs.Region.{part};
 ghost use Rattle.vector.specs.Dot.{dotOf, productOf, normOf, allFinite};
 ghost use Rattle.probe.specs.Probe.{flag, flagOf, writtenOf};
-use crate::number;
-use vector::Product;
-
-pub fn tell(product: Product, out: &mut [f64]) -> u8
-    requires { ⌜ 1 ≤ length (now out) ⌝ }
-    ensures { λ r. ⌜ r ≡ flagOf product ⌝ }
-    ensures { λ _. ⌜ now (out .exit) ≡ writtenOf product (now (out .entry)) ⌝ }
-{
-    match product {
-        Product::Finite(value) => {
-            out[0] = value;
-            1
-        }
-        Product::NotFinite => 0,
-    }
-}
+use telling::number;
+use telling::tell;
 
 #[no_mangle]
 pub extern "C" fn probe_dot(f: &[f64], a: usize, b: usize, n: usize, out: &mut [f64]) -> u8

@@ -49,7 +49,7 @@ fn dic_sweeps(
 {
     let mut i = 0;
     while i < sweeps {
-        sweeps::dic_sweep(w, f, s, dic, rhs, x, work, correction);
+        dicsweep::dic_sweep(w, f, s, dic, rhs, x, work, correction);
         i += 1;
     }
 }

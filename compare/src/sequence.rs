@@ -1,0 +1,455 @@
+//! One build and then updates and solves in any order, beside the Rust's: every answer, the whole solution bit for bit,
+//! the statistics, and after a refusal every word but scratch as it was. After a build with weights each solve is also
+//! held against a hierarchy that is built afresh from the latest accepted values.
+
+mod damage;
+mod expected;
+mod hand;
+pub mod list;
+
+use crate::Effort;
+use crate::boundary::kernels::Refused;
+use crate::build::hierarchy::Hierarchy;
+use crate::build::problem::{Lent, Problem, Stores, noisy};
+use crate::csr::Arrays;
+use crate::random::Random;
+use crate::report::{Report, hex, same};
+use multigrid::lent::{self, Handle};
+use multigrid::{LinearSolveReport, LinearSolverOptions, LinearSolverStatus, Refusal};
+use oracle::{AlgebraicMultigrid, during_build};
+
+pub fn compare(report: &mut Report, random: &mut Random, effort: Effort) {
+    for (name, problem, calls) in hand::sequences() {
+        one_sequence(report, random, name, &problem, calls);
+    }
+    for _ in 0..effort.times(2_000, 100_000) {
+        let problem = accepted(random);
+        let calls = draw_calls(random, &problem);
+        let name = match problem.weights {
+            Some(_) => "with-weights",
+            None => "without-weights",
+        };
+        one_sequence(report, random, name, &problem, calls);
+    }
+    weeks(report, random, effort);
+    damage::compare(report, random, effort);
+}
+
+/// One hierarchy, refreshed and solved with for long: the last answer is still that of a fresh build.
+fn weeks(report: &mut Report, random: &mut Random, effort: Effort) {
+    let problem = loop {
+        let problem = accepted(random);
+        if problem.weights.is_some() && problem.arrays.rows > 20 {
+            break problem;
+        }
+    };
+    let calls = (0..effort.times(200, 20_000)).map(|_| match random.below(2) {
+        0 => Call::Update(draw_values(random, &problem)),
+        _ => draw_solve(random, problem.arrays.rows),
+    });
+    let calls = calls.collect();
+    one_sequence(report, random, "weeks", &problem, calls);
+}
+
+/// A problem that builds.
+fn accepted(random: &mut Random) -> Problem {
+    loop {
+        let (_, problem) = Problem::draw(random);
+        if crate::build::expected::build(&problem).answer.is_ok() {
+            return problem;
+        }
+    }
+}
+
+#[derive(Clone)]
+pub enum Call {
+    Update(Arrays),
+    Solve {
+        rhs: Vec<f64>,
+        x: Vec<f64>,
+        options: LinearSolverOptions,
+    },
+}
+
+fn draw_calls(random: &mut Random, problem: &Problem) -> Vec<Call> {
+    let updates = random.below(2) == 0;
+    let count = 1 + random.index(if updates { 12 } else { 4 });
+    (0..count)
+        .map(|_| {
+            if updates && random.below(2) == 0 {
+                Call::Update(draw_values(random, problem))
+            } else {
+                draw_solve(random, problem.arrays.rows)
+            }
+        })
+        .collect()
+}
+
+/// The pattern of the build, mostly, with new values.
+fn draw_values(random: &mut Random, problem: &Problem) -> Arrays {
+    let mut arrays = spoiled_values(random, problem);
+    // An update is not told the rows.
+    arrays.rows = problem.arrays.rows;
+    arrays
+}
+
+fn spoiled_values(random: &mut Random, problem: &Problem) -> Arrays {
+    let mut arrays = problem.arrays.clone();
+    let near = random.pick(&[0.001, 0.1, 0.5]);
+    for value in &mut arrays.values {
+        *value *= 1.0 + near * random.unit();
+    }
+    mirror(&mut arrays);
+    match random.below(12) {
+        0 => {
+            let (_, damage) = random.pick(&crate::csr::DAMAGES);
+            damage(&mut arrays, random);
+        }
+        1 => {
+            if let Some(value) = crate::csr::any(&mut arrays.values, random) {
+                *value = random.pick(&[0.0, -1.0, f64::NAN, f64::INFINITY, 1e-320, 1e308]);
+            }
+        }
+        2 => {
+            let scale = random.pick(&[1e-300, 1e300, -1.0, 0.0, 1e-20, 2.0]);
+            arrays.values.iter_mut().for_each(|value| *value *= scale);
+        }
+        3 => {
+            let row = random.index(arrays.rows);
+            let scale = random.pick(&[0.01, 0.3, 1e-310, 1e10]);
+            if let Some(entry) = crate::build::problem::entry_of(&arrays, row, row) {
+                arrays.values[entry] *= scale;
+            }
+        }
+        _ => (),
+    }
+    arrays
+}
+
+/// Each lower value is its upper one.
+fn mirror(arrays: &mut Arrays) {
+    for row in 0..arrays.rows {
+        let own = arrays.offsets[row] as usize..arrays.offsets[row + 1] as usize;
+        for entry in own {
+            let column = arrays.columns[entry] as usize;
+            if column > row
+                && let Some(lower) = crate::build::problem::entry_of(arrays, column, row)
+            {
+                arrays.values[lower] = arrays.values[entry];
+            }
+        }
+    }
+}
+
+fn draw_solve(random: &mut Random, rows: usize) -> Call {
+    let scale = random.pick(&[1.0, 1.0, 1.0, 1.0, 1e-12, 1e-160, 1e-310, 1e150, 1e300]);
+    let vector = |random: &mut Random, zeros: u64| -> Vec<f64> {
+        let zero = random.below(zeros) == 0;
+        (0..rows)
+            .map(|_| if zero { 0.0 } else { scale * random.unit() })
+            .collect()
+    };
+    let mut rhs = vector(random, 8);
+    let mut x = vector(random, 2);
+    match random.below(20) {
+        0 => rhs.push(1.0),
+        1 => drop(x.pop()),
+        2 => {
+            let bad = random.pick(&[f64::NAN, f64::INFINITY, f64::MAX, 5e-324]);
+            let vector = if random.below(2) == 0 {
+                &mut rhs
+            } else {
+                &mut x
+            };
+            if let Some(place) = crate::csr::any(vector, random) {
+                *place = bad;
+            }
+        }
+        _ => (),
+    }
+    let tolerances = [0.0, -0.0, 1e-8, 1e-3, 0.5, 0.9];
+    let mut options = LinearSolverOptions {
+        absolute_tolerance: random.pick(&[0.0, -0.0, 1e-300, 1e-10]),
+        relative_tolerance: random.pick(&tolerances),
+        max_iterations: random.pick(&[1, 2, 3, 5, 10, 30]),
+    };
+    match random.below(24) {
+        0 => options.max_iterations = 0,
+        1 => options.absolute_tolerance = random.pick(&[f64::NAN, -1.0, f64::INFINITY]),
+        2 => options.relative_tolerance = random.pick(&[f64::NAN, -1.0, f64::INFINITY]),
+        3 => options.relative_tolerance = f64::MAX,
+        4 => {
+            options.max_iterations = u64::MAX;
+            options.relative_tolerance = 0.9;
+            options.absolute_tolerance = f64::MAX;
+        }
+        _ => (),
+    }
+    Call::Solve { rhs, x, options }
+}
+
+/// Both sides of a sequence.
+struct Session<'a> {
+    problem: &'a Problem,
+    handle: Handle,
+    stores: Stores,
+    theirs: AlgebraicMultigrid,
+    /// The statistics that are due: the Rust counts refused solves too.
+    statistics: Vec<u64>,
+    /// The latest accepted values.
+    arrays: Arrays,
+    /// The hierarchy that is due.
+    hierarchy: Hierarchy,
+}
+
+fn one_sequence(
+    report: &mut Report,
+    random: &mut Random,
+    name: &str,
+    problem: &Problem,
+    calls: Vec<Call>,
+) {
+    let mut stores = noisy(random, &problem.lent);
+    let Ok(handle) = crate::build::library::handle(problem, &mut stores) else {
+        let kind = report.kind("sequence/build");
+        report.case(kind, false, || {
+            "a build that is accepted refuses".to_string()
+        });
+        return;
+    };
+    let mut session = Session {
+        problem,
+        handle,
+        statistics: stores.statistics.clone(),
+        stores,
+        theirs: theirs(problem, &problem.arrays).expect("the Rust builds what it has built"),
+        arrays: problem.arrays.clone(),
+        hierarchy: crate::build::expected::build(problem)
+            .answer
+            .unwrap_or_default(),
+    };
+    if random.below(8) == 0 {
+        session.near_the_end(random);
+    }
+    let kind = report.kind(&format!("sequence/{name}"));
+    for (index, call) in calls.iter().enumerate() {
+        let found = match call {
+            Call::Update(arrays) => session.update(report, arrays),
+            Call::Solve { rhs, x, options } => session.solve(report, random, rhs, x, *options),
+        };
+        let agrees = found.is_none();
+        report.case(kind, agrees, || {
+            let found = found.unwrap_or_default();
+            let (rows, options) = (problem.arrays.rows, problem.options);
+            format!("call {index}: {found}; {rows} rows, {options:?}")
+        });
+        if !agrees {
+            return;
+        }
+    }
+}
+
+/// The Rust's hierarchy of the problem with those values.
+fn theirs(problem: &Problem, arrays: &Arrays) -> Option<AlgebraicMultigrid> {
+    let matrix = arrays.container().ok()?;
+    let built = during_build(|| match &problem.weights {
+        Some(weights) => {
+            AlgebraicMultigrid::new_with_face_weights(&matrix, weights, problem.options)
+        }
+        None => AlgebraicMultigrid::new(&matrix, problem.options),
+    });
+    built.ok()
+}
+
+impl Session<'_> {
+    /// Counters that are about to stop.
+    fn near_the_end(&mut self, random: &mut Random) {
+        for record in self.stores.statistics.chunks_exact_mut(4) {
+            for counter in &mut record[1..] {
+                *counter = u64::MAX - random.below(4);
+            }
+        }
+        self.statistics = self.stores.statistics.clone();
+    }
+
+    /// What differs first, if anything does.
+    fn update(&mut self, report: &mut Report, arrays: &Arrays) -> Option<String> {
+        let due = expected::update(self.problem, &self.hierarchy, &self.arrays, arrays);
+        let before = self.stores.clone();
+        let (offsets, columns) = (&arrays.offsets, &arrays.columns);
+        let ours = lent::update_values(
+            &self.handle,
+            offsets,
+            columns,
+            &arrays.values,
+            &mut self.stores,
+        );
+        let ours = ours.map_err(told);
+        report.answer(&format!("sequence/update/{}", class(due.as_ref().err())));
+        if ours.as_ref().err() != due.as_ref().err() {
+            let due = due.err();
+            return Some(format!("update: ours {ours:?}, due {due:?}"));
+        }
+        if let Some(found) = self.kept(&before, due.is_err()) {
+            return Some(format!("update: {found}"));
+        }
+        match due {
+            Ok(hierarchy) => {
+                self.hierarchy = hierarchy;
+                self.arrays = arrays.clone();
+                let matrix = arrays.container().expect("an accepted update has a matrix");
+                if self.theirs.update_values(&matrix).is_err() {
+                    return Some("update: the Rust refuses".to_string());
+                }
+            }
+            // The Rust has no rollback: it is given the latest accepted values again.
+            Err((number, ..)) => {
+                if number > 10
+                    && number != 31
+                    && let Ok(matrix) = arrays.container()
+                {
+                    if self.theirs.update_values(&matrix).is_ok() {
+                        return Some(format!("update: refused by {number}, the Rust accepts"));
+                    }
+                    let last = self.arrays.container().expect("accepted before");
+                    self.theirs.update_values(&last).expect("accepted before");
+                }
+            }
+        }
+        self.view()
+    }
+
+    /// What differs first, if anything does.
+    fn solve(
+        &mut self,
+        report: &mut Report,
+        random: &mut Random,
+        rhs: &[f64],
+        x: &[f64],
+        options: LinearSolverOptions,
+    ) -> Option<String> {
+        let due = expected::solve(&mut self.theirs, rhs, x, options, &mut self.statistics);
+        let before = self.stores.clone();
+        let mut y = x.to_vec();
+        let ours = lent::solve(&self.handle, &mut self.stores, rhs, &mut y, options).map_err(told);
+        report.answer(&format!("sequence/solve/{}", outcome(&due.answer)));
+        if let Some(found) = differs(&ours, &y, &due) {
+            return Some(format!("solve: {found}"));
+        }
+        if self.stores.statistics != self.statistics {
+            let (ours, due) = (&self.stores.statistics, &self.statistics);
+            return Some(format!("solve: statistics {ours:?}, due {due:?}"));
+        }
+        let refused = ours.is_err();
+        if let Some(found) = self.kept(&before, refused).or_else(|| self.view()) {
+            return Some(format!("solve: {found}"));
+        }
+        self.fresh(report, random, rhs, x, options, &due)
+    }
+
+    /// Words are never written; refused, the statistics and the floats below the scratch stay.
+    fn kept(&self, before: &Stores, refused: bool) -> Option<String> {
+        if self.stores.words != before.words {
+            return Some("a word was written".to_string());
+        }
+        if !refused {
+            return None;
+        }
+        if self.stores.statistics != before.statistics {
+            return Some("refused, the statistics changed".to_string());
+        }
+        let image = self.hierarchy.floats();
+        let mut floats = self.stores.floats[..image].iter().zip(&before.floats);
+        floats
+            .any(|(now, then)| now.to_bits() != then.to_bits())
+            .then(|| "refused, the image changed".to_string())
+    }
+
+    /// The hierarchy in the stores beside the one that is due.
+    fn view(&self) -> Option<String> {
+        match Hierarchy::read(self.handle.levels as usize, &self.stores) {
+            Some(view) => view.difference(&self.hierarchy),
+            None => Some("the levels pass the end of a store".to_string()),
+        }
+    }
+
+    /// After a build with weights: the same solve by a hierarchy that is built afresh in other stores.
+    fn fresh(
+        &self,
+        report: &mut Report,
+        random: &mut Random,
+        rhs: &[f64],
+        x: &[f64],
+        options: LinearSolverOptions,
+        due: &expected::Solved,
+    ) -> Option<String> {
+        self.problem.weights.as_ref()?;
+        let afresh = Problem {
+            arrays: self.arrays.clone(),
+            lent: Lent {
+                words: self.problem.lent.words + random.index(20),
+                floats: self.problem.lent.floats + random.index(20),
+                ..self.problem.lent
+            },
+            ..self.problem.clone()
+        };
+        let mut stores = noisy(random, &afresh.lent);
+        let Ok(handle) = crate::build::library::handle(&afresh, &mut stores) else {
+            report.answer("sequence/fresh/build-refused");
+            return None;
+        };
+        report.answer("sequence/fresh/build-accepted");
+        let mut y = x.to_vec();
+        let fresh = lent::solve(&handle, &mut stores, rhs, &mut y, options).map_err(told);
+        differs(&fresh, &y, due).map(|found| format!("fresh: {found}"))
+    }
+}
+
+fn told(refusal: Refusal) -> Refused {
+    (refusal.number(), refusal.level(), refusal.row())
+}
+
+fn class(refused: Option<&Refused>) -> String {
+    match refused {
+        None => "accepted".to_string(),
+        Some((number, level, _)) if *level > 0 => format!("refused-{number:02}/below-finest"),
+        Some((number, ..)) => format!("refused-{number:02}"),
+    }
+}
+
+fn outcome(answer: &Result<LinearSolveReport, Refused>) -> String {
+    match answer {
+        Err(refused) => class(Some(refused)),
+        Ok(report) => match (report.status, report.iterations) {
+            (LinearSolverStatus::Converged, 0) => "converged-at-once".to_string(),
+            (LinearSolverStatus::Converged, _) => "converged".to_string(),
+            (LinearSolverStatus::MaxIterations, _) => "iterations-used-up".to_string(),
+        },
+    }
+}
+
+/// What differs first between our answer with its solution and the one that is due.
+fn differs(
+    ours: &Result<LinearSolveReport, Refused>,
+    y: &[f64],
+    due: &expected::Solved,
+) -> Option<String> {
+    let agree = match (ours, &due.answer) {
+        (Err(ours), Err(due)) => ours == due,
+        (Ok(ours), Ok(due)) => {
+            ours.status == due.status
+                && ours.iterations == due.iterations
+                && same(ours.initial_residual, due.initial_residual)
+                && same(ours.final_residual, due.final_residual)
+                && same(ours.relative_residual, due.relative_residual)
+        }
+        _ => false,
+    };
+    if !agree {
+        return Some(format!("ours {ours:?}, due {:?}", due.answer));
+    }
+    let mut pairs = y.iter().zip(&due.x);
+    let at = pairs.position(|(&ours, &due)| !same(ours, due))?;
+    let (ours, due) = (hex(y[at]), hex(due.x[at]));
+    Some(format!("x {at}: {ours} beside {due}"))
+}

@@ -1,0 +1,114 @@
+//! What an update and a solve must answer. A solve is the Rust's own, on a copy; an update is the Rust's steps, called one
+//! by one level by level, with document 01's questions where they stand in that order.
+
+use crate::boundary::kernels::Refused;
+use crate::build::expected;
+use crate::build::hierarchy::Hierarchy;
+use crate::build::problem::Problem;
+use crate::csr::Arrays;
+use multigrid::{LinearSolveReport, LinearSolverOptions, LinearSolverStatus};
+use oracle::{AlgebraicMultigrid, LinearAlgebraError};
+
+pub struct Solved {
+    pub answer: Result<LinearSolveReport, Refused>,
+    /// The solution; as it was where the solve is refused.
+    pub x: Vec<f64>,
+}
+
+/// The Rust's solve. What it counts is added to the statistics only where it accepts; they stop at the end of u64.
+pub fn solve(
+    theirs: &mut AlgebraicMultigrid,
+    rhs: &[f64],
+    x: &[f64],
+    options: LinearSolverOptions,
+    statistics: &mut [u64],
+) -> Solved {
+    let before = theirs.statistics().to_vec();
+    let mut y = x.to_vec();
+    let answer = theirs.solve(
+        rhs,
+        &mut y,
+        oracle::LinearSolverOptions {
+            absolute_tolerance: options.absolute_tolerance,
+            relative_tolerance: options.relative_tolerance,
+            max_iterations: options.max_iterations as usize,
+        },
+    );
+    match answer {
+        Ok(report) => {
+            let levels = before.iter().zip(theirs.statistics());
+            for ((before, after), record) in levels.zip(statistics.chunks_exact_mut(4)) {
+                let counted = [
+                    after.visits - before.visits,
+                    after.smoothing_sweeps - before.smoothing_sweeps,
+                    after.coarse_iterations - before.coarse_iterations,
+                ];
+                for (word, counted) in record[1..].iter_mut().zip(counted) {
+                    *word = word.saturating_add(counted);
+                }
+            }
+            Solved {
+                answer: Ok(LinearSolveReport {
+                    status: match report.status {
+                        oracle::LinearSolverStatus::Converged => LinearSolverStatus::Converged,
+                        _ => LinearSolverStatus::MaxIterations,
+                    },
+                    iterations: report.iterations as u64,
+                    initial_residual: report.initial_residual,
+                    final_residual: report.final_residual,
+                    relative_residual: report.relative_residual,
+                }),
+                x: y,
+            }
+        }
+        Err(error) => Solved {
+            answer: Err((number_of(&error), 0, 0)),
+            x: x.to_vec(),
+        },
+    }
+}
+
+/// The question that an error of a solve answers with "no".
+fn number_of(error: &LinearAlgebraError) -> u64 {
+    match error {
+        LinearAlgebraError::DimensionMismatch { .. } => 20,
+        LinearAlgebraError::NonFiniteValue { .. } => 28,
+        LinearAlgebraError::Breakdown { reason } => match *reason {
+            "invalid multigrid solve inputs" => 21,
+            "non-finite multigrid normalization" => 22,
+            "non-finite multigrid residual" => 23,
+            "non-finite coarse solution" => 24,
+            "non-finite multigrid smoother output" => 25,
+            "non-finite multigrid correction product" => 26,
+            "non-finite multigrid correction scale" => 27,
+            "zero flexible GCR correction image" => 29,
+            "non-finite flexible GCR direction" => 30,
+            _ => 0,
+        },
+        _ => 0,
+    }
+}
+
+/// Questions 31 and 10, then the levels.
+pub fn update(
+    problem: &Problem,
+    hierarchy: &Hierarchy,
+    held: &Arrays,
+    arrays: &Arrays,
+) -> Result<Hierarchy, Refused> {
+    let same = arrays.offsets == held.offsets
+        && arrays.columns == held.columns
+        && arrays.values.len() == arrays.columns.len();
+    if !same {
+        return Err((31, 0, 0));
+    }
+    let matrix = Arrays {
+        rows: held.rows,
+        ..arrays.clone()
+    };
+    let matrix = matrix.container().map_err(|number| (number, 0, 0))?;
+    if !matrix.is_symmetric(0.0) {
+        return Err((10, 0, 0));
+    }
+    expected::refresh(&problem.options, hierarchy, matrix)
+}

@@ -1,0 +1,52 @@
+-- `asking::space::workspace_at` meets its contract: the temporaries one after the other.
+-- Assumes nothing.
+use Rattle.asking.proofs.Products.{spaced}
+use borrow.Author.Needs.{needs}
+use Rattle.asking.proofs.space.workspace_at.Statement.{statement}
+use Rattle.asking.proofs.space.workspace_at.Tie as tie
+
+returns : tie.Need-returns
+returns c = spaced (c .before .pre) (c .vectors .ensures)
+
+pub workspace-at-spec : {M : Type 1} → statement M
+workspace-at-spec =
+    tie.close
+    (tie.spec
+    (λ c. search needs)
+    (λ c. search needs)
+    (λ c. search needs)
+    (λ c. search needs)
+    (λ c. search needs)
+    (λ c. search needs)
+    (λ c. search needs)
+    (λ c. search needs)
+    (λ c. search needs)
+    (λ c. search needs)
+    (λ c. search needs)
+    (λ c. search needs)
+    (λ c. search needs)
+    (λ c. search needs)
+    (λ c. search needs)
+    (λ c. search needs)
+    (λ c. search needs)
+    (λ c. search needs)
+    (λ c. search needs)
+    (λ c. search needs)
+    (λ c. search needs)
+    (λ c κs. search needs)
+    (λ c. search needs)
+    (λ c. search needs)
+    (λ c. search needs)
+    (λ c. search needs)
+    (λ c. search needs)
+    (λ c. search needs)
+    (λ c. search needs)
+    (λ c. search needs)
+    (λ c. search needs)
+    (λ c. search needs)
+    (λ c. search needs)
+    (λ c. search needs)
+    (λ c. search needs)
+    (λ c. search needs)
+    (λ c. search needs)
+    returns)

@@ -1,0 +1,1 @@
+// What a build leaves passes the index check (proofs/). There is no code here.

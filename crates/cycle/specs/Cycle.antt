@@ -1,0 +1,114 @@
+-- `cycle` of cycle.rs over lists: one visit of each level, with questions 24 to 27 in the order of the Rust. Definitions only.
+use mathlib.Core.Bool.{cond}
+use mathlib.Core.List.{List, [], _∷_}
+use Prim.Native.Nat.{ℕ, _+_, _*_, min}
+use lib.Dec.{eqb}
+use lib.Ieee.{Float}
+use lib.ListN.{length, set}
+use Rattle.float.specs.Float.{zero64}
+use Rattle.store.specs.Region.{idx}
+use Rattle.store.specs.Vector.{filled}
+use Rattle.options.specs.declared.MultigridOptions.{MultigridOptions}
+use Rattle.options.specs.Counts.{preSweepsOf, postSweepsOf}
+use Rattle.refusal.specs.Outcome.{Outcome, accepted, _>>=_}
+use Rattle.matrix.specs.Kernel.{Kernel, applyOf}
+use Rattle.smoother.specs.Smooth.{smoothOf}
+use Rattle.coarse.specs.Terminal.{terminalOf}
+use Rattle.transfer.specs.Transfer.{restrictOf, prolongOf}
+use Rattle.correction.specs.Correction.{subtractOf, correctionFactorOf, addScaledOf, addPlainOf}
+use Rattle.hierarchy.specs.Level.{Level, kernelOf}
+
+-- ---- counters: four words to a level, its rows, visits, smoothing sweeps and coarse iterations
+
+-- word i of the counters with so many added; it stops at 2^64 - 1
+unfoldable pub countOf : ℕ → ℕ → List ℕ → List ℕ
+countOf i more t = set t i (min (idx t i + more) 18446744073709551615)
+
+-- one visit more of the level at that depth
+abbrev pub visited : ℕ → List ℕ → List ℕ
+visited depth t = countOf (4 * depth + 1) 1 t
+
+-- so many sweeps more
+abbrev pub swept : ℕ → ℕ → List ℕ → List ℕ
+swept depth sweeps t = countOf (4 * depth + 2) sweeps t
+
+-- so many iterations of the coarse solver more: Cholesky makes none
+abbrev pub iterated : ℕ → ℕ → List ℕ → List ℕ
+iterated depth iterations t = countOf (4 * depth + 3) iterations t
+
+-- ---- one level
+
+-- the kernel of a level
+abbrev pub kernelIn : Level → Kernel
+kernelIn l = kernelOf (l .shape) (l .numbers .diagonal) (l .numbers .inverse) (l .numbers .coefficients)
+
+-- its rows
+abbrev pub rowsIn : Level → ℕ
+rowsIn l = l .shape .pattern .rows
+
+-- the rows of the first of the levels
+abbrev pub rowsFirst : List Level → ℕ
+rowsFirst [] = 0
+rowsFirst (l ∷ rest) = rowsIn l
+
+-- so many sweeps on a level: question 25
+abbrev pub smoothed : MultigridOptions → Level → ℕ → List Float → List Float → Outcome (List Float)
+smoothed o l sweeps rhs x = smoothOf (kernelIn l) (l .numbers .dic) rhs (o .smoother) sweeps x
+
+-- the terminal solve of the last level: question 24
+abbrev pub ended : Level → List Float → Outcome (List Float)
+ended l rhs =
+    terminalOf (rowsIn l) (l .numbers .inverse) (length (l .shape .links)) (l .shape .links) (l .numbers .factor) rhs
+
+-- `residual` of cycle.rs: with no sweeps before, x is zero and the residual is the right-hand side itself
+unfoldable pub residualIn : Level → ℕ → List Float → List Float → List Float
+residualIn l sweeps rhs x = cond (eqb sweeps 0) rhs (subtractOf (rowsIn l) rhs (applyOf (kernelIn l) x))
+
+-- x with the scaled correction e and the Jacobi step: questions 26 and 27
+abbrev pub scaled : Level → List Float → List Float → List Float → Outcome (List Float)
+scaled l residual e x = do
+  let n = rowsIn l
+  let product = applyOf (kernelIn l) e
+  factor ← correctionFactorOf n e residual product
+  accepted (addScaledOf n factor e residual product (l .numbers .inverse) x)
+
+-- x with the correction e, scaled if the controls say so
+unfoldable pub correctedOf : MultigridOptions → Level → List Float → List Float → List Float → Outcome (List Float)
+correctedOf o l residual e x = cond (o .«scale_correction») (scaled l residual e x) (accepted (addPlainOf (rowsIn l) e x))
+
+-- ---- the levels
+
+-- x and the counters after a cycle
+pub record Cycled : Type 0 where
+  pub x : List Float
+  pub counts : List ℕ
+
+abbrev pub cycled : List Float → List ℕ → Cycled
+cycled x counts = record { x = x; counts = counts }
+
+module _ (o : MultigridOptions) where
+  -- the last level
+  unfoldable pub endOf : Level → ℕ → List Float → List ℕ → Outcome Cycled
+  endOf l depth rhs t = do
+    x ← ended l rhs
+    accepted (cycled x (iterated depth 0 t))
+
+  -- the way up: the correction d of the levels below is brought to the level's rows, added to x, and smoothed
+  unfoldable pub upOf : Level → ℕ → List Float → List Float → List Float → Cycled → Outcome Cycled
+  upOf l depth rhs residual x d = do
+    y ← correctedOf o l residual (prolongOf (rowsIn l) (l .shape .links) (d .x)) x
+    z ← smoothed o l (postSweepsOf o depth) rhs y
+    accepted (cycled z (swept depth (preSweepsOf o depth + postSweepsOf o depth) (d .counts)))
+
+  -- `cycle`: from the right-hand side and x of the first level, at that depth
+  unfoldable pub cycleOf : List Level → ℕ → List Float → List Float → List ℕ → Outcome Cycled
+  cycleOf [] depth rhs x t = accepted (cycled x t)
+  cycleOf (l ∷ deeper) depth rhs x t =
+      cond (l .shape .terminal) (endOf l depth rhs (visited depth t))
+      (do
+        let pre = preSweepsOf o depth
+        y ← smoothed o l pre rhs x
+        let residual = residualIn l pre rhs y
+        let n = rowsFirst deeper
+        d ← cycleOf deeper (depth + 1) (restrictOf n (rowsIn l) (l .shape .links) residual) (filled n zero64) (visited depth t)
+        upOf l depth rhs residual y d)

@@ -1,0 +1,45 @@
+-- `dicsweep::lower` meets its contract. The loop's invariant: what is left to do from here gives what the whole gives.
+-- Assumes nothing.
+use mathlib.Core.Path.{_≡_, refl}
+use Prim.Native.Nat.{_-_}
+use lib.ListN.{length}
+use Rattle.store.specs.Loop.{for}
+use Rattle.store.proofs.Loop.{Left, left-start, left-on}
+use Rattle.sweeps.specs.Turns.{lowerTurn}
+use Rattle.sweeps.proofs.Turns.{sweep-resize, stored}
+use native.Mathlib.Omega.{arith}
+use borrow.Author.Needs.{needs}
+use Rattle.dicsweep.proofs.lower.Statement.{statement}
+use Rattle.dicsweep.proofs.lower.Tie as tie
+
+abbrev Inv-loop : tie.InvT-loop
+Inv-loop w f₀ rows offsets neighbors coefficients dic correction row₀ f row = (length f ≡ length f₀) × Left (lowerTurn w offsets neighbors coefficients dic correction) row rows f (for (lowerTurn w offsets neighbors coefficients dic correction) 0 rows f₀)
+
+abbrev μ-loop : tie.MeasureT-loop
+μ-loop w f₀ rows offsets neighbors coefficients dic correction row₀ f row = rows - row
+
+loop-holds : tie.Need-loop-holds Inv-loop μ-loop
+loop-holds c = (refl, left-start)
+
+lower-row-requires : tie.Need-lower-row-requires Inv-loop μ-loop
+lower-row-requires c κs = search (sweep-resize, needs)
+
+loop-again : tie.Need-loop-again Inv-loop μ-loop
+loop-again c = search (left-on, needs)
+
+returns : tie.Need-returns Inv-loop μ-loop
+returns c = search (stored)
+
+pub lower-spec : {M : Type 1} → statement M
+lower-spec =
+    tie.close
+    (tie.spec
+    Inv-loop
+    μ-loop
+    loop-holds
+    lower-row-requires
+    (λ c. omega arith)
+    (λ c. omega arith)
+    loop-again
+    (λ c. omega arith)
+    returns)

@@ -1,0 +1,30 @@
+-- `dicsweep::lower_row` meets its contract.
+-- Assumes nothing.
+use Rattle.sweeps.proofs.Turns.{faces-beside, lowered}
+use borrow.Author.Needs.{needs}
+use Rattle.dicsweep.proofs.lower_row.Statement.{statement}
+use Rattle.dicsweep.proofs.lower_row.Tie as tie
+
+cast-faces-requires : tie.Need-cast-faces-requires
+cast-faces-requires c κs = search (faces-beside, needs)
+
+returns : tie.Need-returns
+returns c = search (lowered)
+
+pub lower-row-spec : {M : Type 1} → statement M
+lower-row-spec =
+    tie.close
+    (tie.spec
+    (λ c. search needs)
+    (λ c. search needs)
+    (λ c. search needs)
+    (λ c κs. search needs)
+    (λ c. search needs)
+    (λ c. search needs)
+    (λ c. search needs)
+    (λ c. search needs)
+    (λ c κs. search needs)
+    (λ c κs. search needs)
+    cast-faces-requires
+    (λ c. search needs)
+    returns)

@@ -1,0 +1,208 @@
+// smoother.rs: one DIC sweep over regions of the store.
+ghost use Prim.Native.Nat.{_+_, _<_};
+ghost use lib.ListN.{length};
+ghost use Rattle.float.specs.Float.{add64};
+ghost use Rattle.store.specs.Region.{part};
+ghost use Rattle.matrix.specs.Kernel.{kernelAt};
+ghost use Rattle.matrix.specs.Turns.{FacesOk};
+ghost use Rattle.sweeps.specs.Sweep.{dicSweepOf};
+ghost use Rattle.sweeps.specs.Contract.{SmoothOk, Both};
+ghost use Rattle.sweeps.specs.Turns.{Stored, Turned, lowerTurn, upperTurn, Gathered, Scaled, Upper, SweepOk};
+use matrix::SymmetricMatrix;
+
+// a * v[neighbor] of each face from lo to hi, added up from start.
+fn add_faces(
+    w: &[u32],
+    f: &[f64],
+    rows: usize,
+    lo: usize,
+    hi: usize,
+    neighbors: usize,
+    coefficients: usize,
+    v: usize,
+    start: f64,
+) -> f64
+    requires { ⌜ FacesOk (now w) (length (now f)) rows hi neighbors coefficients v v ⌝ }
+    ensures { λ r. ⌜ Gathered add64 (now (w .entry)) neighbors coefficients v lo hi start (now (f .entry)) r ⌝ }
+{
+    let mut value = start;
+    let mut face = lo;
+    while face < hi {
+        let neighbor = store::index_at(w, neighbors, face, rows);
+        value = value + f[coefficients + face] * f[v + neighbor];
+        face += 1;
+    }
+    value
+}
+
+// A row's correction times its DIC reciprocal, in place.
+fn scale(f: &mut [f64], dic: usize, correction: usize, row: usize) -> f64
+    requires { ⌜ dic + row < length (now f) ⌝ }
+    requires { ⌜ correction + row < length (now f) ⌝ }
+    ensures { λ r. ⌜ Scaled dic correction row (now (f .entry)) (now (f .exit)) r ⌝ }
+{
+    let value = f[correction + row] * f[dic + row];
+    f[correction + row] = value;
+    value
+}
+
+// A row of the forward substitution.
+fn lower_row(
+    w: &[u32],
+    f: &mut [f64],
+    rows: usize,
+    offsets: usize,
+    neighbors: usize,
+    coefficients: usize,
+    dic: usize,
+    correction: usize,
+    row: usize,
+)
+    requires { ⌜ SweepOk (now w) (length (now f)) rows offsets neighbors coefficients dic correction correction ⌝ }
+    requires { ⌜ row < rows ⌝ }
+    ensures { λ _. ⌜ Turned (lowerTurn (now (w .entry)) offsets neighbors coefficients dic correction) row (now (f .entry)) (now (f .exit)) ⌝ }
+{
+    let lo = store::wide(w[offsets + row]);
+    let hi = store::wide(w[offsets + row + 1]);
+    let value = scale(f, dic, correction, row);
+    sweeps::cast_faces(
+        w,
+        f,
+        rows,
+        lo,
+        hi,
+        neighbors,
+        coefficients,
+        correction,
+        value,
+    );
+}
+
+// The forward substitution.
+fn lower(
+    w: &[u32],
+    f: &mut [f64],
+    rows: usize,
+    offsets: usize,
+    neighbors: usize,
+    coefficients: usize,
+    dic: usize,
+    correction: usize,
+)
+    requires { ⌜ SweepOk (now w) (length (now f)) rows offsets neighbors coefficients dic correction correction ⌝ }
+    ensures { λ _. ⌜ Stored (lowerTurn (now (w .entry)) offsets neighbors coefficients dic correction) 0 rows (now (f .entry)) (now (f .exit)) ⌝ }
+{
+    let mut row = 0;
+    while row < rows {
+        lower_row(
+            w,
+            f,
+            rows,
+            offsets,
+            neighbors,
+            coefficients,
+            dic,
+            correction,
+            row,
+        );
+        row += 1;
+    }
+}
+
+// The new correction of a row on the way back.
+fn upper_value(
+    w: &[u32],
+    f: &[f64],
+    rows: usize,
+    offsets: usize,
+    neighbors: usize,
+    coefficients: usize,
+    dic: usize,
+    x: usize,
+    correction: usize,
+    row: usize,
+) -> f64
+    requires { ⌜ SweepOk (now w) (length (now f)) rows offsets neighbors coefficients dic x correction ⌝ }
+    requires { ⌜ row < rows ⌝ }
+    ensures { λ r. ⌜ Upper (now (w .entry)) offsets neighbors coefficients dic correction row (now (f .entry)) r ⌝ }
+{
+    let lo = store::wide(w[offsets + row]);
+    let hi = store::wide(w[offsets + row + 1]);
+    let upper = add_faces(w, f, rows, lo, hi, neighbors, coefficients, correction, 0.0);
+    f[correction + row] - f[dic + row] * upper
+}
+
+// The backward substitution, row by row added to x.
+fn upper(
+    w: &[u32],
+    f: &mut [f64],
+    rows: usize,
+    offsets: usize,
+    neighbors: usize,
+    coefficients: usize,
+    dic: usize,
+    x: usize,
+    correction: usize,
+)
+    requires { ⌜ SweepOk (now w) (length (now f)) rows offsets neighbors coefficients dic x correction ⌝ }
+    ensures { λ _. ⌜ Stored (upperTurn (now (w .entry)) offsets neighbors coefficients dic rows x correction) 0 rows (now (f .entry)) (now (f .exit)) ⌝ }
+{
+    let mut i = 0;
+    while i < rows {
+        let row = rows - 1 - i;
+        let value = upper_value(
+            w,
+            f,
+            rows,
+            offsets,
+            neighbors,
+            coefficients,
+            dic,
+            x,
+            correction,
+            row,
+        );
+        let sum = f[x + row] + value;
+        f[correction + row] = value;
+        f[x + row] = sum;
+        i += 1;
+    }
+}
+
+// One DIC sweep: the residual, both substitutions, and x corrected.
+pub fn dic_sweep(
+    w: &[u32],
+    f: &mut [f64],
+    s: SymmetricMatrix,
+    dic: usize,
+    rhs: usize,
+    x: usize,
+    work: usize,
+    correction: usize,
+)
+    requires { ⌜ SmoothOk (now w) (length (now f)) s dic rhs x work correction ⌝ }
+    ensures { λ _. ⌜ Both (s .rows) x correction (dicSweepOf (kernelAt s (now (w .entry)) (now (f .entry))) (part dic (s .rows) (now (f .entry))) (part rhs (s .rows) (now (f .entry))) (part x (s .rows) (now (f .entry)))) (now (f .entry)) (now (f .exit)) ⌝ }
+{
+    matrix::residual(w, f, s, x, rhs, correction);
+    lower(
+        w,
+        f,
+        s.rows,
+        s.offsets,
+        s.neighbors,
+        s.coefficients,
+        dic,
+        correction,
+    );
+    upper(
+        w,
+        f,
+        s.rows,
+        s.offsets,
+        s.neighbors,
+        s.coefficients,
+        dic,
+        x,
+        correction,
+    );
+}

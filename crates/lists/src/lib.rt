@@ -1,0 +1,14 @@
+// What programs share that replay lists of calls: numbers out of the input, answers counted by their kinds, and checksums of what
+// calls leave in the stores.
+ghost use Prim.Native.Nat.{_≤_};
+
+pub mod kinds;
+pub mod reading;
+pub mod stores;
+
+// The smaller of two lengths.
+pub fn least(a: usize, b: usize) -> usize
+    ensures { λ r. ⌜ r ≤ b ⌝ }
+{
+    if a < b { a } else { b }
+}

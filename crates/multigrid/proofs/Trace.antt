@@ -1,0 +1,236 @@
+-- Refreshed beside fresh: after a build with face weights, however many updates and solves, accepted and refused in any order, every solve
+-- has the answer and the solution of a fresh build from the latest accepted values, wherever that build is accepted.
+-- Assumes nothing.
+use mathlib.Core.Path.{_≡_, refl, sym, ap, _∙_}
+use mathlib.Core.Bool.{true}
+use mathlib.Core.List.{List, [], _∷_}
+use Prim.Native.Nat.{ℕ, _*_, _/_}
+use native.Mathlib.Omega.{arith}
+use lib.ListN.{length}
+use lib.Ieee.{Float}
+use Rattle.store.specs.Region.{part, lay, splice}
+use Rattle.store.specs.Vector.{filled}
+use Rattle.store.proofs.Region.{length-splice}
+use Rattle.store.proofs.Vector.{length-tab}
+use Rattle.options.specs.declared.MultigridOptions.{MultigridOptions}
+use Rattle.options.specs.declared.Handle.{Handle}
+use Rattle.options.specs.declared.solver.LinearSolverOptions.{LinearSolverOptions}
+use Rattle.refusal.specs.declared.Refusal.{Refusal}
+use Rattle.refusal.specs.Outcome.{Outcome, accepted, refused}
+use Rattle.refusal.proofs.Outcome.{ask-yes}
+use Rattle.hierarchy.specs.Level.{Shape, Level, Hierarchy}
+use Rattle.hierarchy.specs.Refresh.{refreshOf, withSums}
+use Rattle.hierarchy.specs.Build.{Lent, Input, buildOf}
+use Rattle.hierarchy.specs.Shapes.{patternOf}
+use Rattle.hierarchy.specs.First.{shapesIn}
+use Rattle.hierarchy.proofs.Accepted.{accepted-one}
+use Rattle.hierarchy.proofs.First.{build-first}
+use Rattle.layout.specs.Layout.{viewOf}
+use Rattle.build.specs.declared.Built.{Built}
+use Rattle.build.specs.Contract.{lentOf}
+use Rattle.sound.specs.Sound.{soundOf}
+use Rattle.built.proofs.Sound.{built-sound}
+use Rattle.statistics.specs.Fresh.{freshOf}
+use Rattle.solve.specs.declared.Solved.{Solved}
+use Rattle.solve.specs.Solve.{Solution, systemOf, solveOf}
+use Rattle.solve.specs.Contract.{countersOf, solvedAt, answerOf, solutionOf}
+use Rattle.solve.specs.Contract as solving
+use Rattle.refresh.specs.declared.Updated.{Updated}
+use Rattle.refresh.specs.Contract.{updatedAt, hierarchyOf}
+use Rattle.refresh.specs.Contract as refreshing
+use Rattle.multigrid.specs.New.{statisticsOf, NewDone}
+use Rattle.multigrid.proofs.Builds.{made-is}
+use Rattle.multigrid.specs.Calls.{solvedOf, SolveCall, updatedOf, UpdateCall}
+use Rattle.multigrid.specs.Trace.{Event, Trace, withValues, booked, Fresh, Agrees}
+use Rattle.solve.proofs.Counters.{same-answer, same-solution}
+use Rattle.refresh.proofs.First.{update-first}
+
+-- ---- lengths
+
+-- To lay words over others keeps their number.
+length-lay : (v t : List ℕ) → length (lay v t) ≡ length t
+unfolding splice
+length-lay v t = length-splice 0 v t
+
+-- So does a solve with the statistics,
+solve-length : (levels : ℕ) (t : List ℕ) (out : Outcome Solution) → length (solving.statisticsOf levels t out) ≡ length t
+solve-length levels t (accepted v) = length-lay (part 0 (4 * levels) (v .counts)) t
+solve-length levels t (refused q) = refl
+
+-- and a build.
+build-length : (n : ℕ) (out : Outcome Hierarchy) → length (statisticsOf n out) ≡ n
+unfolding statisticsOf
+build-length n (accepted h) = length-lay (freshOf (h .levels)) (filled n 0) ∙ length-tab (λ _. 0) n
+build-length n (refused q) = length-tab (λ _. 0) n
+
+-- ---- pattern first, values second
+
+-- The levels of a hierarchy with its row sums are the levels.
+levels-of : (o : MultigridOptions) (levels : List Level) → withSums o levels .levels ≡ levels
+unfolding withSums
+levels-of o [] = refl
+levels-of o (l ∷ rest) = refl
+
+-- The pattern of a build with weights reads no values.
+pattern-of : (x : Input) (values : List Float) → patternOf (withValues x values) ≡ patternOf x
+unfolding patternOf
+pattern-of x values = refl
+
+-- A solve in stores that pass question 19 is one of the hierarchy that they hold.
+solved-of : (h : Handle) (w : List ℕ) (F : List Float) (t : List ℕ) (rhs start : List Float) (s : LinearSolverOptions) {o : MultigridOptions} {b : Hierarchy}
+    → soundOf h w (length F) (length t / 4) ≡ true → h .options ≡ o → viewOf (h .levels) w F 0 ≡ b
+    → solvedOf h w F t rhs start s ≡ solveOf (systemOf o b) s rhs start (countersOf (h .levels) t)
+solved-of h w F t rhs start s {o} sound controls view =
+    let k = countersOf (h .levels) t in
+    ask-yes (soundOf h w (length F) (length t / 4)) Refusal.UnsoundStores (solvedAt h w F t rhs start s) sound
+    ∙ ap (λ (o : MultigridOptions). solveOf (systemOf o (viewOf (h .levels) w F 0)) s rhs start k) controls
+    ∙ ap (λ (b : Hierarchy). solveOf (systemOf o b) s rhs start k) view
+
+-- What holds between calls: the stores pass question 19, and hold the refresh of the build's pattern from the values of the book, which
+-- holds x.
+pub record Holds (h : Handle) (w : List ℕ) (F : List Float) (t : List ℕ) (x : Input) : Type 0 where
+  pub sound : soundOf h w (length F) (length t / 4) ≡ true
+  pub given : x .given ≡ true
+  pub controls : h .options ≡ x .options
+  pub levels : List Level
+  pub view : viewOf (h .levels) w F 0 ≡ withSums (x .options) levels
+  pub second : refreshOf (x .options) 0 (patternOf x) (x .values) ≡ accepted levels
+  pub first : shapesIn levels ≡ patternOf x
+
+module _ {h : Handle} {w : List ℕ} {F : List Float} {t : List ℕ} {x : Input} (i : Holds h w F t x) where
+  -- The book's build, if accepted, is the hierarchy in the stores.
+  fresh-view : (l : Lent) {b : Hierarchy} → buildOf l x ≡ accepted b → viewOf (h .levels) w F 0 ≡ b
+  fresh-view l e =
+      let f = build-first l x e in
+      let same : refreshOf (x .options) 0 (patternOf x) (x .values) ≡ accepted (f .levels) = rw (f .first (i .given)) at (f .second) in
+      i .view ∙ ap (withSums (x .options)) (accepted-one (sym (i .second) ∙ same)) ∙ sym (f .is)
+
+  -- It holds on where a call keeps the hierarchy and the sizes.
+  still-holds : {G : List Float} {u : List ℕ} → viewOf (h .levels) w G 0 ≡ viewOf (h .levels) w F 0 → length G ≡ length F → length u ≡ length t
+      → Holds h w G u x
+  still-holds v floats words = record {
+    sound = rw (floats, words) (i .sound);
+    given = i .given;
+    controls = i .controls;
+    levels = i .levels;
+    view = v ∙ i .view;
+    second = i .second;
+    first = i .first;
+  }
+
+  -- ---- a solve
+
+  module _ {G : List Float} {u : List ℕ} {rhs start y : List Float} {s : LinearSolverOptions} {r : Solved}
+      (c : SolveCall h w F G t u rhs start y s r) where
+    -- A solve has the book's answer and solution,
+    solve-fresh : (l : Lent) → Fresh l x rhs start s r y
+    solve-fresh l = record {
+      answer = λ b k e. c .done .answer ∙ ap answerOf (solved-of h w F t rhs start s (i .sound) (i .controls) (fresh-view l e))
+          ∙ same-answer (systemOf (x .options) b) s rhs start (countersOf (h .levels) t) k;
+      solution = λ b k e. c .done .solution ∙ ap (solutionOf start) (solved-of h w F t rhs start s (i .sound) (i .controls) (fresh-view l e))
+          ∙ same-solution (systemOf (x .options) b) s rhs start (countersOf (h .levels) t) k;
+    }
+
+    -- and keeps what holds.
+    solve-holds : Holds h w G u x
+    solve-holds = still-holds (c .view) (c .done .floats .size)
+        (ap length (c .done .statistics) ∙ solve-length (h .levels) t (solvedOf h w F t rhs start s))
+
+  -- ---- an update
+
+  module _ {G : List Float} (offsets columns : List ℕ) (values : List Float) where
+    -- An accepted update puts its values in the place of the old ones,
+    accepted-holds : {k : Hierarchy} → updatedAt h w F offsets columns values ≡ accepted k → viewOf (h .levels) w G 0 ≡ k
+        → length G ≡ length F → Holds h w G t (withValues x values)
+    accepted-holds e v size =
+        let shapes = shapesIn (viewOf (h .levels) w F 0 .levels) in
+        let found : shapes ≡ patternOf x =
+        ap (λ (k : Hierarchy). shapesIn (k .levels)) (i .view) ∙ ap shapesIn (levels-of (x .options) (i .levels)) ∙ i .first in
+        let n = update-first (h .options) shapes offsets columns values e in
+        record {
+          sound = rw size (i .sound);
+          given = i .given;
+          controls = i .controls;
+          levels = n .levels;
+          view = v ∙ n .is ∙ ap (λ (o : MultigridOptions). withSums o (n .levels)) (i .controls);
+          second = ap (λ (p : List Shape). refreshOf (x .options) 0 p values) (pattern-of x values ∙ sym found)
+              ∙ ap (λ (o : MultigridOptions). refreshOf o 0 shapes values) (sym (i .controls)) ∙ n .second;
+          first = n .shapes ∙ found ∙ sym (pattern-of x values);
+        }
+
+    -- a refused one changes nothing; and so it is with the book.
+    booked-holds : (r : Updated) (out : Outcome Hierarchy) → updatedAt h w F offsets columns values ≡ out → r ≡ refreshing.answerOf out
+        → viewOf (h .levels) w G 0 ≡ hierarchyOf (viewOf (h .levels) w F 0) out → length G ≡ length F → Holds h w G t (booked x values r)
+    booked-holds Updated.Done (accepted k) e a v size = accepted-holds e v size
+    booked-holds Updated.Done (refused q) e a v size = absurd (let none : _≡_ {A = ℕ} 0 1 = cc in omega arith)
+    booked-holds (Updated.Refused p) (accepted k) e a v size = absurd (let none : _≡_ {A = ℕ} 0 1 = cc in omega arith)
+    booked-holds (Updated.Refused p) (refused q) e a v size = still-holds v size refl
+
+  -- What holds before an update holds after it, of what the book then has.
+  update-holds : {G : List Float} {offsets columns : List ℕ} {values : List Float} {r : Updated}
+      → UpdateCall h w F G t offsets columns values r → Holds h w G t (booked x values r)
+  update-holds {offsets = offsets} {columns = columns} {values = values} {r = r} c =
+      let out = updatedAt h w F offsets columns values in
+      let same : updatedOf h w F t offsets columns values ≡ out =
+      ask-yes (soundOf h w (length F) (length t / 4)) Refusal.UnsoundStores out (i .sound) in
+      booked-holds offsets columns values r out refl (c .done .answer ∙ ap refreshing.answerOf same)
+      (c .done .view ∙ ap (hierarchyOf (viewOf (h .levels) w F 0)) same) (c .done .size)
+
+-- ---- the list of calls
+
+-- Where that holds before calls, each solve among them agrees with the book.
+pub trace-agrees : {h : Handle} {w : List ℕ} {F : List Float} {t : List ℕ} {x : Input} {events : List Event}
+    → Trace h w F t events → Holds h w F t x → (l : Lent) → Agrees l x events
+trace-agrees Trace.nothing i l = Agrees.nothing
+trace-agrees (Trace.update c rest) i l = Agrees.update (trace-agrees rest (update-holds i c) l)
+trace-agrees (Trace.solve c rest) i l = Agrees.solve (solve-fresh i c l) (trace-agrees rest (solve-holds i c) l)
+
+-- An accepted build with weights leaves what holds, if its stores pass question 19.
+built-holds : {w z : List ℕ} {F G : List Float} {s t : List ℕ} (x : Input) (h : Handle) → x .given ≡ true
+    → NewDone w z F G s t x (Built.Made h) → soundOf h z (length G) (length t / 4) ≡ true → Holds h z G t x
+built-holds {w} {z} {F} {G} {s} {t} x h given d sound =
+    let l = lentOf w F (length s / 4) in
+    let m = made-is x (buildOf l x) (d .built .answer) in
+    let f = build-first l x (m .1) in
+    let levels : h .levels ≡ length (m .0 .levels) = ap (λ (k : Handle). k .levels) (m .2) in
+    record {
+      sound = sound;
+      given = given;
+      controls = ap (λ (k : Handle). k .options) (m .2);
+      levels = f .levels;
+      view = ap (λ (n : ℕ). viewOf n z G 0) levels ∙ d .built .view (m .0) (m .1) ∙ f .is;
+      second = rw (f .first given) at (f .second);
+      first = f .first given;
+    }
+
+-- The stores of an accepted build pass question 19.
+pub new-sound : {w z : List ℕ} {F G : List Float} {s t : List ℕ} {x : Input} {h : Handle} → NewDone w z F G s t x (Built.Made h)
+    → soundOf h z (length G) (length t / 4) ≡ true
+new-sound {w} {z} {F} {G} {s} {t} {x} {h} d =
+    let l = lentOf w F (length s / 4) in
+    let m = made-is x (buildOf l x) (d .built .answer) in
+    let b = d .built in
+    let words : length t ≡ length s = ap length (d .statistics) ∙ build-length (length s) (buildOf l x) in
+    rw (m .2, words) (built-sound l x (m .1) z G (b .view (m .0) (m .1)) (b .fits (m .0) (m .1)) (b .wordsize) (b .floatsize))
+
+-- After a build with weights each solve has the answer and the solution of a fresh build and solve, whatever calls came before it.
+pub refreshed-is-fresh : {w z : List ℕ} {F G : List Float} {s t : List ℕ} (x : Input) (h : Handle) → x .given ≡ true
+    → NewDone w z F G s t x (Built.Made h) → {events : List Event} → Trace h z G t events → (l : Lent) → Agrees l x events
+refreshed-is-fresh x h given d trace l = trace-agrees trace (built-holds x h given d (new-sound d)) l
+
+-- ---- the book's own calls
+
+-- What the book answers is what its own calls give: a build in lent stores, whatever these held, and then that solve.
+pub fresh-call : {w z : List ℕ} {F G H : List Float} {s t u : List ℕ} {x : Input} {h : Handle} {rhs start y y' : List Float}
+    {o : LinearSolverOptions} {r r' : Solved} → Fresh (lentOf w F (length s / 4)) x rhs start o r y
+    → NewDone w z F G s t x (Built.Made h) → SolveCall h z G H t u rhs start y' o r' → (r ≡ r') × (y ≡ y')
+fresh-call {w} {z} {F} {G} {H} {s} {t} {u} {x} {h} {rhs} {start} {y} {y'} {o} {r} {r'} f d c =
+    let l = lentOf w F (length s / 4) in
+    let m = made-is x (buildOf l x) (d .built .answer) in
+    let k = countersOf (h .levels) t in
+    let levels : h .levels ≡ length (m .0 .levels) = ap (λ (k : Handle). k .levels) (m .2) in
+    let view : viewOf (h .levels) z G 0 ≡ m .0 = ap (λ (n : ℕ). viewOf n z G 0) levels ∙ d .built .view (m .0) (m .1) in
+    let same = solved-of h z G t rhs start o (new-sound d) (ap (λ (k : Handle). k .options) (m .2)) view in (
+      f .answer (m .0) k (m .1) ∙ sym (c .done .answer ∙ ap answerOf same),
+      f .solution (m .0) k (m .1) ∙ sym (c .done .solution ∙ ap (solutionOf start) same),
+    )

@@ -1,0 +1,48 @@
+-- `solve`, `update_values` and `statistics` of mod.rs: what they ensure of any handle and any stores. Definitions only.
+use mathlib.Core.Path.{_≡_}
+use mathlib.Core.Bool.{Bool, true, false}
+use mathlib.Core.List.{List}
+use Prim.Native.Nat.{ℕ, _/_}
+use lib.ListN.{length}
+use lib.Ieee.{Float}
+use Rattle.options.specs.declared.Handle.{Handle}
+use Rattle.options.specs.declared.solver.LinearSolverOptions.{LinearSolverOptions}
+use Rattle.refusal.specs.declared.Refusal.{Refusal}
+use Rattle.refusal.specs.Outcome.{Outcome, ask}
+use Rattle.hierarchy.specs.Level.{Hierarchy}
+use Rattle.layout.specs.Layout.{viewOf}
+use Rattle.sound.specs.Sound.{soundOf}
+use Rattle.solve.specs.declared.Solved.{Solved}
+use Rattle.solve.specs.Solve.{Solution}
+use Rattle.solve.specs.Contract.{solvedAt, SolveDone}
+use Rattle.refresh.specs.declared.Updated.{Updated}
+use Rattle.refresh.specs.Contract.{updatedAt, UpdateDone}
+use Rattle.multigrid.specs.declared.calls.Counted.{Counted}
+
+-- a solve: question 19, and then that of the hierarchy in the stores
+abbrev pub solvedOf : Handle → List ℕ → List Float → List ℕ → List Float → List Float → LinearSolverOptions → Outcome Solution
+solvedOf h w F t rhs x s = ask (soundOf h w (length F) (length t / 4)) Refusal.UnsoundStores (solvedAt h w F t rhs x s)
+
+-- What a solve with the stores w and F and the statistics t leaves: G, u and, in place of x, y; and its answer r. The hierarchy in the
+-- stores is as it was.
+pub record SolveCall (h : Handle) (w : List ℕ) (F G : List Float) (t u : List ℕ) (rhs x y : List Float) (s : LinearSolverOptions) (r : Solved) : Type 0 where
+  pub done : SolveDone h w F G t u x y (solvedOf h w F t rhs x s) r
+  pub view : viewOf (h .levels) w G 0 ≡ viewOf (h .levels) w F 0
+
+-- an update: question 19, and then that of the hierarchy in the stores
+abbrev pub updatedOf : Handle → List ℕ → List Float → List ℕ → List ℕ → List ℕ → List Float → Outcome Hierarchy
+updatedOf h w F t offsets columns values =
+    ask (soundOf h w (length F) (length t / 4)) Refusal.UnsoundStores (updatedAt h w F offsets columns values)
+
+-- What an update with the stores w and F and the statistics t leaves: G, and its answer r.
+pub record UpdateCall (h : Handle) (w : List ℕ) (F G : List Float) (t : List ℕ) (offsets columns : List ℕ) (values : List Float) (r : Updated) : Type 0 where
+  pub done : UpdateDone h w F G (updatedOf h w F t offsets columns values) r
+
+-- how many records at the front of the statistics are the levels', or question 19's refusal
+abbrev pub countedIf : Bool → ℕ → Counted
+countedIf true levels = Counted.Levels levels
+countedIf false levels = Counted.Refused Refusal.UnsoundStores
+
+-- the answer of `statistics`
+abbrev pub countedOf : Handle → List ℕ → List Float → List ℕ → Counted
+countedOf h w F t = countedIf (soundOf h w (length F) (length t / 4)) (h .levels)

@@ -1,0 +1,202 @@
+// One build of a list: its arguments, and the call.
+use build::Built;
+use lists::least;
+use lists::reading;
+use options::MultigridOptions;
+
+// How much of each array and store the build gets, its controls, and where the text goes on after these arguments.
+pub struct Problem {
+    pub rows: usize,
+    pub offsets: usize,
+    pub columns: usize,
+    pub values: usize,
+    pub given: bool,
+    pub weights: usize,
+    pub options: MultigridOptions,
+    pub words: usize,
+    pub floats: usize,
+    pub statistics: usize,
+    pub next: usize,
+}
+
+fn byte(x: u64) -> u8 {
+    (x % 256) as u8
+}
+
+// The controls in the order of options.rs.
+fn controls(c: &[u64; 16]) -> MultigridOptions {
+    flat::options_of(
+        byte(c[0]),
+        byte(c[1]),
+        c[2],
+        c[3],
+        c[4],
+        c[5],
+        c[6],
+        c[7],
+        c[8],
+        c[9],
+        c[10],
+        byte(c[11]),
+        float::of_bits(c[12]),
+        float::of_bits(c[13]),
+        c[14],
+        byte(c[15]),
+    )
+}
+
+// The problem with these sizes, whose controls start at `at`, with the stores' sizes after them.
+fn sized(text: &[u8], at: usize, sizes: &[u64; 6]) -> Problem {
+    let mut c = [0u64; 16];
+    let mut lent = [0u64; 3];
+    let at = reading::numbers(text, at, 16, &mut c);
+    let next = reading::numbers(text, at, 3, &mut lent);
+    Problem {
+        rows: sizes[0] as usize,
+        offsets: sizes[1] as usize,
+        columns: sizes[2] as usize,
+        values: sizes[3] as usize,
+        given: sizes[4] != 0,
+        weights: sizes[5] as usize,
+        options: controls(&c),
+        words: lent[0] as usize,
+        floats: lent[1] as usize,
+        statistics: lent[2] as usize,
+        next: next,
+    }
+}
+
+// The arrays of a build into those that are lent, and the rest of its arguments.
+pub fn read(
+    text: &[u8],
+    offsets: &mut [u32],
+    columns: &mut [u32],
+    values: &mut [f64],
+    weights: &mut [f64],
+) -> Problem {
+    let mut sizes = [0u64; 6];
+    let at = reading::numbers(text, 0, 6, &mut sizes);
+    let at = reading::words(text, at, sizes[1] as usize, offsets);
+    let at = reading::words(text, at, sizes[2] as usize, columns);
+    let at = reading::floats(text, at, sizes[3] as usize, values);
+    let at = reading::floats(text, at, sizes[5] as usize, weights);
+    sized(text, at, &sizes)
+}
+
+// The build that pairs by values. Each call has a function of its own, so that the choice between them stays small.
+fn plain(
+    rows: usize,
+    offsets: &[u32],
+    columns: &[u32],
+    values: &[f64],
+    options: MultigridOptions,
+    words: &mut [u32],
+    floats: &mut [f64],
+    statistics: &mut [u64],
+) -> Built {
+    multigrid::new(
+        rows,
+        offsets,
+        columns,
+        values,
+        options,
+        words,
+        floats,
+        statistics,
+    )
+}
+
+// The build that pairs by weights.
+fn weighted(
+    rows: usize,
+    offsets: &[u32],
+    columns: &[u32],
+    values: &[f64],
+    weights: &[f64],
+    options: MultigridOptions,
+    words: &mut [u32],
+    floats: &mut [f64],
+    statistics: &mut [u64],
+) -> Built {
+    multigrid::new_with_face_weights(
+        rows,
+        offsets,
+        columns,
+        values,
+        weights,
+        options,
+        words,
+        floats,
+        statistics,
+    )
+}
+
+fn call(
+    rows: usize,
+    offsets: &[u32],
+    columns: &[u32],
+    values: &[f64],
+    given: bool,
+    weights: &[f64],
+    options: MultigridOptions,
+    words: &mut [u32],
+    floats: &mut [f64],
+    statistics: &mut [u64],
+) -> Built {
+    if given {
+        weighted(
+            rows,
+            offsets,
+            columns,
+            values,
+            weights,
+            options,
+            words,
+            floats,
+            statistics,
+        )
+    } else {
+        plain(
+            rows,
+            offsets,
+            columns,
+            values,
+            options,
+            words,
+            floats,
+            statistics,
+        )
+    }
+}
+
+// The build over so much of each array and store as it is to get.
+pub fn run(
+    p: Problem,
+    offsets: &[u32],
+    columns: &[u32],
+    values: &[f64],
+    weights: &[f64],
+    words: &mut [u32],
+    floats: &mut [f64],
+    statistics: &mut [u64],
+) -> Built {
+    let a = least(p.offsets, offsets.len());
+    let b = least(p.columns, columns.len());
+    let c = least(p.values, values.len());
+    let d = least(p.weights, weights.len());
+    let e = least(p.words, words.len());
+    let f = least(p.floats, floats.len());
+    let g = least(p.statistics, statistics.len());
+    call(
+        p.rows,
+        &offsets[..a],
+        &columns[..b],
+        &values[..c],
+        p.given,
+        &weights[..d],
+        p.options,
+        &mut words[..e],
+        &mut floats[..f],
+        &mut statistics[..g],
+    )
+}

@@ -1,0 +1,123 @@
+-- Questions 31 and 10 of an update, as the code asks them.
+-- Assumes nothing.
+use mathlib.Core.Path.{_≡_, refl, sym, ap, _∙_}
+use mathlib.Core.Bool.{Bool, true, false, _&&_}
+use mathlib.Core.List.{List}
+use Prim.Native.Nat.{ℕ, _+_, _≤_, _<_}
+use native.Mathlib.Omega.{arith}
+use lib.Dec.{eqb}
+use lib.ListN.{length}
+use lib.Ieee.{Float}
+use borrow.Author.Tests.{eqb-true, eq-eqb, ne-eqb}
+use Rattle.store.specs.Region.{idx, part}
+use Rattle.store.specs.Vector.{each}
+use Rattle.store.proofs.Region.{getD-part, length-part}
+use Rattle.store.proofs.Each.{Passed, both-l, both-r, each-same, passed-on, passed-no}
+use Rattle.refusal.specs.declared.Refusal.{Refusal}
+use Rattle.refusal.specs.declared.Verdict.{Verdict}
+use Rattle.refusal.specs.Outcome.{passed, ask, verdictOf}
+use Rattle.refusal.proofs.Outcome.{ask-yes, ask-no}
+use Rattle.values.specs.Mirrors.{mirrorsEqual, MirrorsOk}
+use Rattle.layout.specs.declared.Place.{Place}
+use Rattle.layout.specs.Layout.{entriesAt, locate}
+use Rattle.sound.specs.Sound.{shapeIn}
+use Rattle.refresh.specs.Update.{sameList, samePattern}
+use Rattle.refresh.specs.Steps.{askedOf, bareAt, PatternOk, AskOk}
+
+module _ (w : List ℕ) (from : ℕ) (v : List ℕ) where
+  -- the test of index k
+  abbrev pub wordSame : ℕ → Bool
+  wordSame k = eqb (idx v k) (idx w (from + k))
+
+  -- Two words that are the same pass.
+  pub word-on : {n k : ℕ} → Passed wordSame n k → k < n → idx v k ≡ idx w (from + k) → Passed wordSame n (k + 1)
+  word-on {n} {k} p h e = passed-on p h refl (eq-eqb (idx v k) (idx w (from + k)) e)
+
+  -- Two that differ end the loop.
+  pub word-no : (n k : ℕ) → k < n → (idx v k ≡ idx w (from + k) → ⊥) → false ≡ each wordSame n
+  word-no n k h e = passed-no wordSame n k false h (sym (ne-eqb (idx v k) (idx w (from + k)) e)) refl
+
+  module _ {n : ℕ} (fits : from + n ≤ length w) where
+    -- Lists of different lengths are not the same.
+    pub words-differ : (length v ≡ n → ⊥) → false ≡ sameList v (part from n w)
+    unfolding sameList
+    words-differ e = let l = length-part from n w fits in sym (rw (l, ne-eqb (length v) n e))
+
+    -- Those of the same length are compared word by word.
+    pub words-same : length v ≡ n → {r : Bool} → r ≡ each wordSame (length v) → r ≡ sameList v (part from n w)
+    unfolding sameList
+    words-same e {r} t =
+        let l : length (part from n w) ≡ n = length-part from n w fits in
+        let long : eqb (length v) n ≡ true = eq-eqb (length v) n e in
+        t ∙ ap (each wordSame) e
+        ∙ each-same wordSame (λ k. eqb (idx v k) (idx (part from n w) k)) n (λ k h. ap (eqb (idx v k)) (sym (getD-part from n w k 0 h)))
+        ∙ sym (rw (l, long))
+
+-- Question 31.
+pub pattern-same : (w : List ℕ) (p : Place) (offsets columns : List ℕ) (values : List Float) {a b : Bool}
+    → a ≡ sameList offsets (part (p .offsets) (p .rows + 1) w) → b ≡ sameList columns (part (p .columns) (p .entries) w)
+    → (a && b && eqb (length values) (length columns)) ≡ samePattern (bareAt w p) offsets columns values
+unfolding samePattern
+pattern-same w p offsets columns values e f = rw (e, f)
+
+-- What question 31 tells: as many values as the finest level has entries.
+pub many-values : {w : List ℕ} (offsets columns : List ℕ) (values : List Float) → AskOk w → samePattern (shapeIn w 0) offsets columns values ≡ true
+    → length values ≡ entriesAt w 0
+unfolding samePattern sameList
+many-values {w} offsets columns values ok e =
+    let p = locate w 0 0 in
+    let rows = sameList offsets (part (p .offsets) (p .rows + 1) w) in
+    let same = sameList columns (part (p .columns) (p .entries) w) in
+    let one = both-r (rows && same) (eqb (length values) (length columns)) e in
+    let two = both-r rows same (both-l (rows && same) (eqb (length values) (length columns)) e) in
+    let three = both-l (eqb (length columns) (length (part (p .columns) (p .entries) w))) _ two in
+    eqb-true (length values) (length columns) one ∙ eqb-true (length columns) (length (part (p .columns) (p .entries) w)) three
+    ∙ length-part (p .columns) (p .entries) w (ok .pattern .columns)
+
+module _ {w : List ℕ} (offsets columns : List ℕ) (values : List Float) {p : Place} {t : Bool} (ok : AskOk w) (is : p ≡ locate w 0 0)
+    (e : t ≡ samePattern (bareAt w p) offsets columns values) where
+  -- The answer of question 31 is that of the finest shape.
+  same-is : t ≡ samePattern (shapeIn w 0) offsets columns values
+  unfolding samePattern
+  same-is = rw is at e
+
+  -- What question 10 requires.
+  pub mirrors-ready : t ≡ true → MirrorsOk w (length values) (p .faces) (p .uppers) (p .lowers)
+  mirrors-ready told =
+      let many : length values ≡ entriesAt w 0 = many-values offsets columns values ok (sym same-is ∙ told) in
+      let inside = ok .place .inside in
+      rw (is, many) (record { uppers = omega arith; lowers = omega arith; up = ok .uppers; low = ok .lowers })
+
+  -- Question 31 refuses.
+  pub asked-other : t ≡ false → Verdict.Refused Refusal.OtherPattern ≡ verdictOf (askedOf (shapeIn w 0) offsets columns values)
+  asked-other fails =
+      ap verdictOf (sym (ask-no (samePattern (shapeIn w 0) offsets columns values) Refusal.OtherPattern _ (sym same-is ∙ fails)))
+
+  module _ (told : t ≡ true) {m : Bool} (f : m ≡ mirrorsEqual (p .faces) (part (p .uppers) (p .faces) w) (part (p .lowers) (p .faces) w) values) where
+    -- The answer of question 10 is that of the finest shape.
+    mirrors-are : mirrorsEqual (length (shapeIn w 0 .uppers)) (shapeIn w 0 .uppers) (shapeIn w 0 .lowers) values ≡ m
+    mirrors-are =
+        let q = locate w 0 0 in
+        let inside = ok .place .inside in
+        let l : length (part (q .uppers) (q .faces) w) ≡ q .faces = length-part (q .uppers) (q .faces) w (omega arith) in
+        ap (λ (n : ℕ). mirrorsEqual n (part (q .uppers) (q .faces) w) (part (q .lowers) (q .faces) w) values) l ∙ sym (rw is at f)
+
+    -- Once 31 has passed, 10 is asked.
+    on : askedOf (shapeIn w 0) offsets columns values ≡ ask m Refusal.UnequalMirrors passed
+    on =
+        let s = shapeIn w 0 in
+        ask-yes (samePattern s offsets columns values) Refusal.OtherPattern
+        (ask (mirrorsEqual (length (s .uppers)) (s .uppers) (s .lowers) values) Refusal.UnequalMirrors passed) (sym same-is ∙ told)
+        ∙ ap (λ (b : Bool). ask b Refusal.UnequalMirrors passed) mirrors-are
+
+    -- Question 10 refuses.
+    pub asked-unequal : m ≡ false → Verdict.Refused Refusal.UnequalMirrors ≡ verdictOf (askedOf (shapeIn w 0) offsets columns values)
+    asked-unequal fails = sym (ap verdictOf (on ∙ ask-no m Refusal.UnequalMirrors passed fails))
+
+    -- Both pass.
+    pub asked-passed : m ≡ true → Verdict.Passed ≡ verdictOf (askedOf (shapeIn w 0) offsets columns values)
+    asked-passed holds = sym (ap verdictOf (on ∙ ask-yes m Refusal.UnequalMirrors passed holds))
+
+-- What the comparison of the pattern requires.
+pub pattern-ready : {w : List ℕ} {p : Place} → AskOk w → p ≡ locate w 0 0 → PatternOk w p
+pattern-ready ok is = rw is (ok .pattern)

@@ -1,0 +1,34 @@
+-- `refresh::sums` meets its contract: zeros, or the row sums of the level's kernel.
+-- Assumes nothing.
+use Rattle.refresh.proofs.Summing.{sum-ready, summed-none, summed-all}
+use borrow.Author.Needs.{needs}
+use Rattle.refresh.proofs.sums.Statement.{statement}
+use Rattle.refresh.proofs.sums.Tie as tie
+
+fill-requires : tie.Need-fill-requires
+fill-requires c κs = c .before .before .before .before .before .pre .room
+
+row-sums-into-requires : tie.Need-row-sums-into-requires
+row-sums-into-requires c κs = sum-ready (c .before .before .before .before .before .before .pre) (c .kernel-in .ensures)
+
+returns : tie.Need-returns
+returns c = summed-none (c .before .before .before .before .enum-told .given .1) (c .before .before .fill .ensures)
+
+returns-2 : tie.Need-returns-2
+returns-2 c =
+    summed-all (c .before .before .before .before .before .enum-told2 .given .1) (c .before .before .before .kernel-in .ensures)
+    (c .before .before .row-sums-into .ensures)
+
+pub sums-spec : {M : Type 1} → statement M
+sums-spec =
+    tie.close
+    (tie.spec
+    (λ c. search needs)
+    fill-requires
+    (λ c. search needs)
+    (λ c κs. search needs)
+    row-sums-into-requires
+    (λ c. search needs)
+    returns
+    (λ c. search needs)
+    returns-2)

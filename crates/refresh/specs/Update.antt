@@ -1,0 +1,67 @@
+-- `update` of hierarchy.rs and `update_values` of mod.rs over lists, with questions 31, 10 and 11 to 18 in their order. Definitions only.
+use mathlib.Core.Bool.{Bool, _&&_}
+use mathlib.Core.List.{List, [], _∷_}
+use Prim.Native.Nat.{ℕ, _+_}
+use lib.Dec.{eqb, leb, ltb}
+use lib.ListN.{length}
+use lib.Ieee.{Float}
+use Rattle.store.specs.Region.{idx}
+use Rattle.store.specs.Vector.{each}
+use Rattle.options.specs.declared.MultigridOptions.{MultigridOptions}
+use Rattle.refusal.specs.declared.Refusal.{Refusal}
+use Rattle.refusal.specs.Outcome.{Outcome, accepted, refused, passed, ask, askEach, _>>=_, _>>_}
+use Rattle.vector.specs.Dot.{allFinite}
+use Rattle.values.specs.Mirrors.{mirrorsEqual}
+use Rattle.pattern.specs.Pattern.{entries}
+use Rattle.hierarchy.specs.Level.{Shape, Level, Hierarchy}
+use Rattle.hierarchy.specs.Refresh.{numbersOf, coarseValues, withSums}
+
+-- ---- question 31
+
+-- whether two lists of numbers are the same
+unfoldable pub sameList : List ℕ → List ℕ → Bool
+sameList u v = eqb (length u) (length v) && each (λ k. eqb (idx u k) (idx v k)) (length v)
+
+-- question 31: offsets and columns are those of the finest level, with as many values as columns
+unfoldable pub samePattern : Shape → List ℕ → List ℕ → List Float → Bool
+samePattern s offsets columns values =
+    sameList offsets (s .pattern .offsets) && sameList columns (s .pattern .columns) && eqb (length values) (length columns)
+
+-- ---- question 11
+
+-- whether the stored position of row's diagonal is the row's diagonal entry
+unfoldable pub diagonalStands : Shape → ℕ → Bool
+diagonalStands s row =
+    let d = idx (s .diagonals) row in
+    leb (idx (s .pattern .offsets) row) d && ltb d (idx (s .pattern .offsets) (row + 1)) && eqb (idx (s .pattern .columns) d) row
+
+-- question 11 of a level, row by row: only stores that no build wrote can fail it
+unfoldable pub diagonalsStand : ℕ → Shape → Outcome Unit
+diagonalsStand level s =
+    askEach (s .pattern .rows) (λ row. ask (diagonalStands s row) (Refusal.MissingDiagonal level row) passed) passed
+
+-- ---- the levels
+
+module _ (o : MultigridOptions) where
+  -- the levels of the shapes from `level` on, from the values of the first: 11, 12 and 13, then 15, or 16 and 17; then 18 of the next level
+  unfoldable pub renewOf : ℕ → List Shape → List Float → Outcome (List Level)
+  renewOf level [] values = accepted []
+  renewOf level (s ∷ []) values = do
+    _ ← diagonalsStand level s
+    n ← numbersOf o level s values
+    accepted (record { shape = s; numbers = n } ∷ [])
+  renewOf level (s ∷ t ∷ rest) values = do
+    _ ← diagonalsStand level s
+    n ← numbersOf o level s values
+    ask (allFinite (entries (t .pattern)) (coarseValues o s t values)) Refusal.BadCoarseValue
+    deeper ← renewOf (level + 1) (t ∷ rest) (coarseValues o s t values)
+    accepted (record { shape = s; numbers = n } ∷ deeper)
+
+  -- `update_values` of a hierarchy of those shapes: its hierarchy with new values, or the first refusal
+  unfoldable pub updateOf : List Shape → List ℕ → List ℕ → List Float → Outcome Hierarchy
+  updateOf [] offsets columns values = refused Refusal.OtherPattern
+  updateOf (s ∷ rest) offsets columns values = do
+    ask (samePattern s offsets columns values) Refusal.OtherPattern
+    ask (mirrorsEqual (length (s .uppers)) (s .uppers) (s .lowers) values) Refusal.UnequalMirrors
+    levels ← renewOf 0 (s ∷ rest) values
+    accepted (withSums o levels)

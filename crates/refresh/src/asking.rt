@@ -1,0 +1,68 @@
+// What an update asks of its arrays before it writes: question 31, that they have the pattern of the finest level, and question 10.
+ghost use mathlib.Core.Path.{_≡_};
+ghost use Prim.Native.Nat.{_+_, _≤_};
+ghost use lib.Dec.{eqb};
+ghost use lib.ListN.{length};
+ghost use Rattle.store.specs.Region.{idx, part};
+ghost use Rattle.store.specs.Vector.{each};
+ghost use Rattle.refusal.specs.Outcome.{verdictOf};
+ghost use Rattle.sound.specs.Sound.{shapeIn};
+ghost use Rattle.refresh.specs.Update.{sameList, samePattern};
+ghost use Rattle.refresh.specs.Steps.{askedOf, bareAt, PatternOk, AskOk};
+use crate::place;
+use layout::Place;
+use refusal::Refusal;
+use refusal::Verdict;
+
+// Whether the words from `from` on are those of v.
+fn equal_words(w: &[u32], from: usize, v: &[u32]) -> bool
+    requires { ⌜ from + length (now v) ≤ length (now w) ⌝ }
+    ensures { λ r. ⌜ r ≡ each (λ k. eqb (idx (now (v .entry)) k) (idx (now (w .entry)) (from + k))) (length (now (v .entry))) ⌝ }
+{
+    let n = v.len();
+    let mut k = 0;
+    while k < n {
+        if v[k] == w[from + k] {
+            k += 1;
+        } else {
+            return false;
+        }
+    }
+    true
+}
+
+// Whether v is the n words from `from` on.
+fn same_words(w: &[u32], from: usize, n: usize, v: &[u32]) -> bool
+    requires { ⌜ from + n ≤ length (now w) ⌝ }
+    ensures { λ r. ⌜ r ≡ sameList (now (v .entry)) (part from n (now (w .entry))) ⌝ }
+{
+    if v.len() != n {
+        return false;
+    }
+    equal_words(w, from, v)
+}
+
+// Question 31.
+fn same_pattern(w: &[u32], p: Place, offsets: &[u32], columns: &[u32], values: &[f64]) -> bool
+    requires { ⌜ PatternOk (now w) p ⌝ }
+    ensures { λ r. ⌜ r ≡ samePattern (bareAt (now (w .entry)) p) (now (offsets .entry)) (now (columns .entry)) (now (values .entry)) ⌝ }
+{
+    same_words(w, p.offsets, p.rows + 1, offsets)
+        & same_words(w, p.columns, p.entries, columns)
+        & (values.len() == columns.len())
+}
+
+// Questions 31 and 10.
+pub fn asked(w: &[u32], offsets: &[u32], columns: &[u32], values: &[f64]) -> Verdict
+    requires { ⌜ AskOk (now w) ⌝ }
+    ensures { λ r. ⌜ r ≡ verdictOf (askedOf (shapeIn (now (w .entry)) 0) (now (offsets .entry)) (now (columns .entry)) (now (values .entry))) ⌝ }
+{
+    let p = place::locate(w, 0, 0);
+    if same_pattern(w, p, offsets, columns, values) {
+        if values::equal_mirrors(w, values, p.faces, p.uppers, p.lowers) {
+            return Verdict::Passed;
+        }
+        return Verdict::Refused(Refusal::UnequalMirrors);
+    }
+    Verdict::Refused(Refusal::OtherPattern)
+}

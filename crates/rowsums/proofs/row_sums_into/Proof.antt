@@ -1,0 +1,12 @@
+-- `rowsums::row_sums_into` meets its contract.
+-- Assumes nothing.
+use Rattle.matrix.proofs.Kernel.{sums-done}
+use borrow.Author.Needs.{needs}
+use Rattle.rowsums.proofs.row_sums_into.Statement.{statement}
+use Rattle.rowsums.proofs.row_sums_into.Tie as tie
+
+returns : tie.Need-returns
+returns c = search (sums-done)
+
+pub row-sums-into-spec : {M : Type 1} → statement M
+row-sums-into-spec = tie.close (tie.spec (λ c κs. search needs) (λ c κs. search needs) (λ c. search needs) returns)

@@ -1,0 +1,29 @@
+-- `rowsums::sum_row` meets its contract.
+-- Assumes nothing.
+use Rattle.matrix.proofs.Turns.{faces-ok, sum-rowed}
+use borrow.Author.Needs.{needs}
+use Rattle.rowsums.proofs.sum_row.Statement.{statement}
+use Rattle.rowsums.proofs.sum_row.Tie as tie
+
+sum-faces-requires : tie.Need-sum-faces-requires
+sum-faces-requires c κs = search (faces-ok, needs)
+
+returns : tie.Need-returns
+returns c = search (sum-rowed)
+
+pub sum-row-spec : {M : Type 1} → statement M
+sum-row-spec =
+    tie.close
+    (tie.spec
+    (λ c. search needs)
+    (λ c. search needs)
+    (λ c. search needs)
+    (λ c κs. search needs)
+    (λ c. search needs)
+    (λ c. search needs)
+    (λ c. search needs)
+    (λ c. search needs)
+    (λ c κs. search needs)
+    sum-faces-requires
+    (λ c. search needs)
+    returns)

@@ -1,0 +1,83 @@
+// `row_sums_into` of matrix.rs: the row sums of the face-addressed matrix of a level.
+ghost use Prim.Native.Nat.{_+_, _<_, _≤_};
+ghost use lib.ListN.{length};
+ghost use Rattle.store.specs.Region.{Wrote};
+ghost use Rattle.matrix.specs.Kernel.{kernelAt, rowSumsOf, KernelOk};
+ghost use Rattle.matrix.specs.Turns.{FacesOk, RowsOk, SumFaced, SumRowed, Summed};
+use matrix::SymmetricMatrix;
+
+// The faces from lo to hi of a row, each added to the row's sum and to its neighbour's.
+fn sum_faces(
+    w: &[u32],
+    f: &mut [f64],
+    rows: usize,
+    lo: usize,
+    hi: usize,
+    neighbors: usize,
+    coefficients: usize,
+    sums: usize,
+    row: usize,
+)
+    requires { ⌜ FacesOk (now w) (length (now f)) rows hi neighbors coefficients sums sums ⌝ }
+    requires { ⌜ row < rows ⌝ }
+    ensures { λ _. ⌜ SumFaced (now (w .entry)) neighbors coefficients sums row lo hi (now (f .entry)) (now (f .exit)) ⌝ }
+{
+    let mut face = lo;
+    while face < hi {
+        let neighbor = store::index_at(w, neighbors, face, rows);
+        let a = f[coefficients + face];
+        f[sums + row] = f[sums + row] + a;
+        f[sums + neighbor] = f[sums + neighbor] + a;
+        face += 1;
+    }
+}
+
+// The faces of one row.
+fn sum_row(
+    w: &[u32],
+    f: &mut [f64],
+    rows: usize,
+    offsets: usize,
+    neighbors: usize,
+    coefficients: usize,
+    sums: usize,
+    row: usize,
+)
+    requires { ⌜ RowsOk (now w) (length (now f)) rows offsets neighbors coefficients sums sums ⌝ }
+    requires { ⌜ row < rows ⌝ }
+    ensures { λ _. ⌜ SumRowed (now (w .entry)) offsets neighbors coefficients sums row (now (f .entry)) (now (f .exit)) ⌝ }
+{
+    let lo = store::wide(w[offsets + row]);
+    let hi = store::wide(w[offsets + row + 1]);
+    sum_faces(w, f, rows, lo, hi, neighbors, coefficients, sums, row);
+}
+
+// The faces of every row.
+fn sum_rows(
+    w: &[u32],
+    f: &mut [f64],
+    rows: usize,
+    offsets: usize,
+    neighbors: usize,
+    coefficients: usize,
+    sums: usize,
+)
+    requires { ⌜ RowsOk (now w) (length (now f)) rows offsets neighbors coefficients sums sums ⌝ }
+    ensures { λ _. ⌜ Summed (now (w .entry)) rows offsets neighbors coefficients sums (now (f .entry)) (now (f .exit)) ⌝ }
+{
+    let mut row = 0;
+    while row < rows {
+        sum_row(w, f, rows, offsets, neighbors, coefficients, sums, row);
+        row += 1;
+    }
+}
+
+// The sum of each row of A.
+pub fn row_sums_into(w: &[u32], f: &mut [f64], s: SymmetricMatrix, sums: usize)
+    requires { ⌜ KernelOk (now w) sums s ⌝ }
+    requires { ⌜ sums + s .rows ≤ length (now f) ⌝ }
+    ensures { λ _. ⌜ Wrote sums (s .rows) (rowSumsOf (kernelAt s (now (w .entry)) (now (f .entry)))) (now (f .entry)) (now (f .exit)) ⌝ }
+{
+    store::copy(f, s.rows, s.diagonal, sums);
+    sum_rows(w, f, s.rows, s.offsets, s.neighbors, s.coefficients, sums);
+}

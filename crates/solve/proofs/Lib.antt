@@ -1,0 +1,8 @@
+pub mod Copying
+pub mod Placing
+pub mod Moving
+pub mod Advancing
+pub mod Iterations
+pub mod Solving
+pub mod Examples
+pub mod Counters

@@ -1,0 +1,418 @@
+-- The whole solve: a law for each way out, on copies and then in the caller's vectors.
+-- Assumes nothing.
+use mathlib.Core.Path.{_≡_, refl, sym, ap, _∙_}
+use mathlib.Core.Bool.{Bool, true, false, cond, not, _&&_}
+use mathlib.Core.List.{List, [], _∷_, _++_}
+use Prim.Native.Nat.{ℕ, _+_, _*_, _/_, _≤_, _<_}
+use native.Mathlib.Omega.{arith}
+use borrow.Author.Tests.{leb-true, eqb-true, eq-eqb, ne-eqb}
+use lib.Dec.{eqb, leb}
+use lib.ListN.{length, replicate, length-replicate, getD-replicate}
+use lib.Seq.{ext-getD, take-length}
+use lib.Ieee.{Float, le, lt}
+use Rattle.float.specs.Float.{zero64, isFinite}
+use Rattle.store.specs.Region.{part, lay, splice, Wrote, Kept}
+use Rattle.store.specs.Vector.{tab, filled}
+use Rattle.store.proofs.Region.{wrote-at, wrote-off, kept-wrote, kept-on, kept-less, kept-self, kept-part}
+use Rattle.store.proofs.Vector.{length-tab, getD-tab}
+use Rattle.store.proofs.Each.{both-l, both-r}
+use Rattle.options.specs.declared.Handle.{Handle}
+use Rattle.options.specs.declared.solver.LinearSolverOptions.{LinearSolverOptions}
+use Rattle.options.specs.declared.solver.LinearSolverStatus.{LinearSolverStatus}
+use Rattle.options.specs.declared.solver.LinearSolveReport.{LinearSolveReport}
+use Rattle.refusal.specs.declared.Refusal.{Refusal}
+use Rattle.refusal.specs.Outcome.{Outcome, accepted, refused, ask, _>>=_}
+use Rattle.refusal.proofs.Outcome.{ask-yes, ask-no}
+use Rattle.vector.specs.declared.Product.{Product}
+use Rattle.vector.specs.Dot.{allFinite}
+use Rattle.matrix.specs.Kernel.{Kernel, kernelAt, applyOf}
+use Rattle.correction.specs.Correction.{subtractOf}
+use Rattle.acceleration.specs.Contract.{memoryAt}
+use Rattle.measure.specs.Measure.{measureOf}
+use Rattle.measure.specs.Normalization.{normalizationOf, thresholdOf, NormalizationOk}
+use Rattle.hierarchy.specs.Level.{Hierarchy}
+use Rattle.layout.specs.Layout.{rowsAt, entriesAt, viewOf}
+use Rattle.sound.specs.declared.Walk.{Walk}
+use Rattle.sound.specs.Sound.{walkOf, isSound, handleSound, scratchStart, scratchEnd, cycleStart, soundOf}
+use Rattle.sound.proofs.Question.{handle-few}
+use Rattle.solve.specs.declared.Regions.{Regions}
+use Rattle.solve.specs.declared.Solved.{Solved}
+use Rattle.solve.specs.Solve.{System, State, Solution, measured, residualOf, measuredOf, factorOf, reportOf, runOf, iterateOf, lengthsOk, inputOk, solveOf}
+use Rattle.solve.specs.Contract.{systemAt, solvedAt, countersOf, answerOf, solutionOf, statisticsOf, SolveDone}
+use Rattle.solve.specs.Steps.{regionsAt, Opened, Ready, VectorsOk, Renewed, productAt, stateAt, Ran, iterateAt, attemptOf, attemptAt, begunAt, BeginOk}
+use Rattle.solve.proofs.Placing.{vectors, rows-is, system-kept, sums-is, kernel-is, kernel-rows}
+use Rattle.solve.proofs.Iterations.{ran-accepted, ran-refused}
+
+-- ---- from question 22 on
+
+module _ {h : Handle} {w : List ℕ} (F : List Float) {g : Regions} (ready : Ready h w (length F) g) {G : List Float} (v : Renewed w F G g) where
+  abbrev y : System
+  y = systemAt h w F
+
+  abbrev rhs : List Float
+  rhs = part (g .rhs) (g .rows) F
+
+  abbrev x : List Float
+  x = part (g .solution) (g .rows) F
+
+  kept : Kept (g .solution) F G
+  kept = let l = vectors ready in kept-less (v .floats) (omega arith)
+
+  -- What the normalization and the norm require.
+  pub factor-ok : NormalizationOk (length G) (g .rows) (g .solution) (g .rhs) (g .product) (g .sums)
+  factor-ok =
+      let l = vectors ready in
+      let size = v .floats .size in
+      record { xs = omega arith; rhss = omega arith; products = omega arith; sums = omega arith }
+
+  pub norm-ok : g .residual + g .rows ≤ length G
+  norm-ok =
+      let l = vectors ready in
+      let size = v .floats .size in
+      omega arith
+
+  -- What the iterations require.
+  pub iterate-ok : Ready h w (length G) g
+  iterate-ok = let size = v .floats .size in rw size ready
+
+  rhs-same : part (g .rhs) (g .rows) G ≡ rhs
+  rhs-same = let l = vectors ready in kept-part (v .floats) _ _ (omega arith)
+
+  x-same : part (g .solution) (g .rows) G ≡ x
+  x-same = let l = vectors ready in kept-part (v .floats) _ _ (omega arith)
+
+  product-is : productAt w F g ≡ applyOf (y .kernel) x
+  product-is = ap (λ (k : Kernel). applyOf k x) (sym (kernel-is ready F))
+
+  -- The residual that stands in the store is that of the start.
+  residual-is : (factor : Float) → part (g .residual) (g .rows) G ≡ residualOf y rhs factor x
+  residual-is factor =
+      v .left ∙ ap (subtractOf (g .rows) rhs) product-is
+      ∙ ap (λ (n : ℕ). subtractOf n rhs (applyOf (y .kernel) x)) (sym (kernel-rows ready F))
+
+  module _ {factor : Float} (e : factor ≡ normalizationOf (h .options .«residual_norm») (g .rows) (part (g .solution) (g .rows) G)
+      (part (g .rhs) (g .rows) G) (part (g .product) (g .rows) G) (part (g .sums) (g .rows) G)) where
+    -- The factor is the definition's.
+    factor-is : factor ≡ factorOf y rhs x
+    factor-is =
+        let l = vectors ready in
+        let norm = h .options .«residual_norm» in
+        let product : part (g .product) (g .rows) G ≡ applyOf (y .kernel) x = v .made ∙ product-is in
+        let sums : part (g .sums) (g .rows) G ≡ y .sums = kept-part (v .floats) _ _ (omega arith) ∙ sums-is ready F in
+        let rows : g .rows ≡ y .kernel .rows = sym (kernel-rows ready F) in
+        e ∙ ap (λ (u : List Float). normalizationOf norm (g .rows) u (part (g .rhs) (g .rows) G) (part (g .product) (g .rows) G) (part (g .sums) (g .rows) G)) x-same
+        ∙ ap (λ (u : List Float). normalizationOf norm (g .rows) x u (part (g .product) (g .rows) G) (part (g .sums) (g .rows) G)) rhs-same
+        ∙ ap (λ (u : List Float). normalizationOf norm (g .rows) x rhs u (part (g .sums) (g .rows) G)) product
+        ∙ ap (λ (u : List Float). normalizationOf norm (g .rows) x rhs (applyOf (y .kernel) x) u) sums
+        ∙ ap (λ (n : ℕ). normalizationOf norm n x rhs (applyOf (y .kernel) x) (y .sums)) rows
+
+    module _ (t : List ℕ) (s : LinearSolverOptions) where
+      -- A factor that is not finite.
+      pub attempt-none : isFinite factor ≡ false → Ran g (attemptAt h w F t g s) F G t (Solved.Refused Refusal.BadNormalization)
+      attempt-none fails = ran-refused kept (ask-no _ _ _ (ap isFinite (sym factor-is) ∙ fails))
+
+      module _ (holds : isFinite factor ≡ true) where
+        -- What follows: the first norm, and the iterations unless it is small enough.
+        abbrev following : Outcome Solution
+        following = _>>=_ (measured (measureOf (h .options .«residual_norm») (g .rows) (part (g .residual) (g .rows) G) factor)) (λ initial.
+            cond (le initial (thresholdOf (s .«absolute_tolerance») (s .«relative_tolerance») initial))
+            (accepted (record { report = reportOf LinearSolverStatus.Converged 0 initial initial; x = part (g .solution) (g .rows) G; counts = t }))
+            (iterateAt h w G t g factor initial (thresholdOf (s .«absolute_tolerance») (s .«relative_tolerance») initial) (s .«max_iterations»)))
+
+        run-is : runOf y s rhs x t factor ≡ following
+        unfolding runOf memoryAt
+        run-is =
+            let l = vectors ready in
+            let size = v .floats .size in
+            let system : systemAt h w G ≡ y = system-kept ready kept (omega arith) (omega arith) in
+            let residual = residual-is factor in
+            let rows = kernel-rows ready F in
+            rw (system, rhs-same, x-same, residual, ← rows)
+
+        attempt-is : attemptAt h w F t g s ≡ following
+        attempt-is = ask-yes _ _ _ (ap isFinite (sym factor-is) ∙ holds) ∙ ap (runOf y s rhs x t) (sym factor-is) ∙ run-is
+
+        module _ {p : Product} (m : p ≡ measureOf (h .options .«residual_norm») (g .rows) (part (g .residual) (g .rows) G) factor) where
+          -- A norm that is not finite.
+          pub attempt-bad : p ≡ Product.NotFinite → Ran g (attemptAt h w F t g s) F G t (Solved.Refused Refusal.BadResidual)
+          attempt-bad told = ran-refused kept (attempt-is ∙ rw (← m, told))
+
+          module _ {initial threshold : Float} (told : p ≡ Product.Finite initial)
+              (th : threshold ≡ thresholdOf (s .«absolute_tolerance») (s .«relative_tolerance») initial) where
+            -- A start that is good enough.
+            pub attempt-done : le initial threshold ≡ true → {report : LinearSolveReport}
+                → report ≡ reportOf LinearSolverStatus.Converged 0 initial initial
+                → Ran g (attemptAt h w F t g s) F G t (Solved.Report report)
+            attempt-done below is = ran-accepted kept (attempt-is ∙ rw (← m, told, ← th, below)) is
+
+            -- The iterations from one that is not.
+            pub attempt-on : le initial threshold ≡ false → {H : List Float} {u : List ℕ} {r : Solved}
+                → Ran g (iterateAt h w G t g factor initial threshold (s .«max_iterations»)) G H u r
+                → Ran g (attemptAt h w F t g s) F H u r
+            attempt-on above {H} {u} {r} d =
+                let is : attemptAt h w F t g s ≡ iterateAt h w G t g factor initial threshold (s .«max_iterations») = attempt-is ∙ rw (← m, told, ← th, above) in
+                record {
+                  answer = d .answer ∙ ap answerOf (sym is);
+                  solved = λ a r. d .solved a (sym is ∙ r);
+                  counted = λ a r. d .counted a (sym is ∙ r);
+                  floats = kept-on kept (d .floats);
+                }
+
+-- ---- on copies
+
+-- A table of zeros.
+zeros-are : (n : ℕ) → replicate {A = ℕ} n 0 ≡ filled n 0
+zeros-are n =
+    ext-getD 0 (replicate n 0) (filled n 0) (length-replicate n 0 ∙ sym (length-tab (λ _. 0) n))
+    (λ i h. let b : i < n = rw length-replicate at h in getD-replicate n i 0 0 b ∙ sym (getD-tab (λ _. 0) n i 0 b))
+
+-- Only an accepted solve reports,
+report-is : {report : LinearSolveReport} (out : Outcome Solution) → Solved.Report report ≡ answerOf out → (a : Solution) × (out ≡ accepted a)
+report-is (accepted a) e = (a, refl)
+report-is (refused q) e = absurd (let none : _≡_ {A = ℕ} 0 1 = cc in omega arith)
+
+-- and only a refused one answers a refusal.
+refusal-is : {q : Refusal} (out : Outcome Solution) → Solved.Refused q ≡ answerOf out → out ≡ refused q
+refusal-is (accepted a) e = absurd (let none : _≡_ {A = ℕ} 0 1 = cc in omega arith)
+refusal-is (refused q) e = cc
+
+module _ {h : Handle} {w : List ℕ} {size words m n : ℕ} (b : BeginOk h w size words m n) where
+  -- What the places require.
+  pub opened-ok : size ≤ 18446744073709551615 → Opened h w 18446744073709551615
+  opened-ok fits = let o = b .opened in record {
+    some = o .some;
+    deep = o .deep;
+    krylov = o .krylov;
+    sound = o .sound;
+    rows = o .rows;
+    entries = o .entries;
+    room = let room = o .room in omega arith;
+  }
+
+  module _ {g : Regions} (e : g ≡ regionsAt h w) {other : ℕ} (same : other ≡ size) where
+    -- What the solve on copies requires.
+    pub ready-ok : Ready h w other g
+    ready-ok = rw same (record { opened = b .opened; regions = e })
+
+    -- There is room for the right-hand side and the start,
+    pub rhs-ok : g .rhs + m ≤ other
+    rhs-ok =
+        let l = vectors ready-ok in
+        let rows = rows-is ready-ok in
+        let given = b .given in
+        let is = b .opened .rows in
+        omega arith
+
+    pub start-ok : g .solution + n ≤ other
+    start-ok =
+        let l = vectors ready-ok in
+        let rows = rows-is ready-ok in
+        let start = b .start in
+        let is = b .opened .rows in
+        omega arith
+
+  -- and for the counters.
+  pub counts-ok : 4 * h .levels ≤ 512
+  counts-ok = let deep = b .opened .deep in omega arith
+
+module _ {h : Handle} {w : List ℕ} (F : List Float) (T : List ℕ) (rhs x : List Float) (s : LinearSolverOptions)
+    (b : BeginOk h w (length F) (length T) (length rhs) (length x)) {g : Regions} (e : g ≡ regionsAt h w)
+    {E D : List Float} (first : Wrote (g .rhs) (length rhs) rhs F E) (second : Wrote (g .solution) (length x) x E D)
+    {t t' : List ℕ} (zeros : t ≡ replicate 512 0) (counted : Wrote 0 (4 * h .levels) (part 0 (4 * h .levels) T) t t') where
+  abbrev ready : Ready h w (length F) g
+  ready = record { opened = b .opened; regions = e }
+
+  copied : Kept (g .rhs) F D
+  copied =
+      let l = vectors ready in
+      kept-on (kept-wrote first (omega arith)) (kept-wrote second (omega arith))
+
+  -- The solve on copies is that of the caller's vectors.
+  attempt-same : attemptAt h w D t' g s ≡ begunAt h w F T rhs x s
+  unfolding splice
+  attempt-same =
+      let l = vectors ready in
+      let rows = rows-is ready in
+      let is = b .opened .rows in
+      let given = b .given in
+      let start = b .start in
+      let size = first .size in
+      let long : length rhs ≡ g .rows = omega arith in
+      let wide : length x ≡ g .rows = omega arith in
+      let one : Wrote (g .rhs) (g .rows) rhs F E = rw long at first in
+      let two : Wrote (g .solution) (g .rows) x E D = rw wide at second in
+      let system : systemAt h w D ≡ systemAt h w F = system-kept ready copied (omega arith) (omega arith) in
+      let right : part (g .rhs) (g .rows) D ≡ rhs = wrote-off two _ _ (omega arith) ∙ wrote-at one (omega arith) in
+      let left : part (g .solution) (g .rows) D ≡ x = wrote-at two (omega arith) in
+      let counters : t' ≡ countersOf (h .levels) T = counted .is ∙ ap (lay (part 0 (4 * h .levels) T)) (zeros ∙ zeros-are 512) in
+      ap (λ (y : System). attemptOf y s (part (g .rhs) (g .rows) D) (part (g .solution) (g .rows) D) t') system
+      ∙ ap (λ (r : List Float). attemptOf (systemAt h w F) s r (part (g .solution) (g .rows) D) t') right
+      ∙ ap (λ (v : List Float). attemptOf (systemAt h w F) s rhs v t') left
+      ∙ ap (attemptOf (systemAt h w F) s rhs x) counters
+
+  module _ {H : List Float} {u : List ℕ} {r : Solved} (d : Ran g (attemptAt h w D t' g s) D H u r) where
+    below : Kept (scratchStart (h .levels) w) F H
+    below =
+        let l = vectors ready in
+        let at : g .rhs ≡ scratchStart (h .levels) w = ap (λ (g : Regions). g .rhs) e in
+        kept-less (kept-on copied (kept-less (d .floats) (omega arith))) (omega arith)
+
+    -- Accepted, solution and statistics are copied out.
+    pub begin-yes : {report : LinearSolveReport} → r ≡ Solved.Report report → {z : List Float} → z ≡ part (g .solution) (length x) H
+        → {U : List ℕ} → Wrote 0 (4 * h .levels) (part 0 (4 * h .levels) u) T U
+        → SolveDone h w F H T U x z (begunAt h w F T rhs x s) (Solved.Report report)
+    unfolding splice
+    begin-yes told {z} out {U} wrote =
+        let answer = sym told ∙ d .answer in
+        let a = report-is (attemptAt h w D t' g s) answer in
+        let is : begunAt h w F T rhs x s ≡ accepted (a .0) = sym attempt-same ∙ a .1 in
+        let rows = rows-is ready in
+        let rowed = b .opened .rows in
+        let start = b .start in
+        let wide : length x ≡ g .rows = omega arith in
+        record {
+          answer = answer ∙ ap answerOf attempt-same;
+          solution = out ∙ ap (λ (n : ℕ). part (g .solution) n H) wide ∙ d .solved (a .0) (a .1) ∙ sym (ap (solutionOf x) is);
+          statistics = wrote .is ∙ ap (λ (c : List ℕ). lay (part 0 (4 * h .levels) c) T) (d .counted (a .0) (a .1)) ∙ sym (ap (statisticsOf (h .levels) T) is);
+          floats = below;
+        }
+
+    -- Refused, they are as they were.
+    pub begin-no : {q : Refusal} → r ≡ Solved.Refused q → SolveDone h w F H T T x x (begunAt h w F T rhs x s) (Solved.Refused q)
+    begin-no told =
+        let answer = sym told ∙ d .answer in
+        let is = sym attempt-same ∙ refusal-is (attemptAt h w D t' g s) answer in
+        record {
+          answer = answer ∙ ap answerOf attempt-same;
+          solution = sym (ap (solutionOf x) is);
+          statistics = sym (ap (statisticsOf (h .levels) T) is);
+          floats = below;
+        }
+
+-- ---- questions 19 to 21
+
+-- Of six tests each.
+all-six : (a b c d e f : Bool) → a && b && c && d && e && f ≡ true
+    → (a ≡ true) × (b ≡ true) × (c ≡ true) × (d ≡ true) × (e ≡ true) × (f ≡ true)
+all-six a b c d e f t =
+    let t5 = both-l (a && b && c && d && e) f t in
+    let t4 = both-l (a && b && c && d) e t5 in
+    let t3 = both-l (a && b && c) d t4 in
+    let t2 = both-l (a && b) c t3 in
+    (both-l a b t2, both-r a b t2, both-r (a && b) c t3, both-r (a && b && c) d t4, both-r (a && b && c && d) e t5, both-r (a && b && c && d && e) f t)
+
+-- A walk that went through.
+walked : (v : Walk) → isSound v ≡ true → v ≡ Walk.Sound
+walked Walk.Sound e = refl
+walked (Walk.Stopped level row) e = absurd (let none : _≡_ {A = ℕ} 0 1 = cc in omega arith)
+
+-- What question 19 tells.
+pub opened-of : (h : Handle) (w : List ℕ) (size records : ℕ) → soundOf h w size records ≡ true → Opened h w size × (h .levels ≤ records)
+unfolding soundOf
+opened-of h w size records e =
+    let o = h .options in
+    let end = scratchEnd (h .levels) w 0 (cycleStart (o .«krylov_dimension») (h .levels) w) in
+    let t = all-six (handleSound h) (leb (h .levels) records) (isSound (walkOf (h .levels) w 0 0)) (eqb (rowsAt w 0) (h .rows))
+    (eqb (entriesAt w 0) (h .entries)) (leb end size) e in
+    let few = handle-few h (t .0) in (
+      record {
+        some = few .0;
+        deep = few .1;
+        krylov = few .2;
+        sound = walked (walkOf (h .levels) w 0 0) (t .2);
+        rows = eqb-true (rowsAt w 0) (h .rows) (t .3);
+        entries = eqb-true (entriesAt w 0) (h .entries) (t .4);
+        room = leb-true end size (t .5);
+      },
+      leb-true (h .levels) records (t .1),
+    )
+
+-- What the solve on copies requires.
+pub begin-ok : {h : Handle} {w : List ℕ} {size words m n : ℕ} → soundOf h w size (words / 4) ≡ true → m ≡ h .rows → n ≡ h .rows
+    → BeginOk h w size words m n
+begin-ok {h} {w} {size} {words} e long wide =
+    let o = opened-of h w size (words / 4) e in
+    let records = o .1 in
+    record { opened = o .0; records = omega arith; given = long; start = wide }
+
+module _ (h : Handle) (w : List ℕ) (F : List Float) (T : List ℕ) (rhs x : List Float) (s : LinearSolverOptions)
+    (e : soundOf h w (length F) (length T / 4) ≡ true) where
+  -- The finest level's rows are the handle's.
+  rows-are : systemAt h w F .kernel .rows ≡ h .rows
+  rows-are =
+      let o = opened-of h w (length F) (length T / 4) e .0 in
+      let ready : Ready h w (length F) (regionsAt h w) = record { opened = o; regions = refl } in
+      kernel-rows ready F ∙ rows-is ready ∙ o .rows
+
+  -- Refused, nothing is written.
+  nothing : {q : Refusal} → solvedAt h w F T rhs x s ≡ refused q → SolveDone h w F F T T x x (solvedAt h w F T rhs x s) (Solved.Refused q)
+  nothing is = record {
+    answer = sym (ap answerOf is);
+    solution = sym (ap (solutionOf x) is);
+    statistics = sym (ap (statisticsOf (h .levels) T) is);
+    floats = kept-self;
+  }
+
+  -- Question 20 of the right-hand side,
+  pub solve-rhs : (length rhs ≡ h .rows → ⊥) → SolveDone h w F F T T x x (solvedAt h w F T rhs x s) (Solved.Refused Refusal.WrongLength)
+  unfolding solveOf
+  solve-rhs other =
+      let n = systemAt h w F .kernel .rows in
+      let wrong : eqb (length rhs) n ≡ false = ne-eqb (length rhs) n (λ e. other (e ∙ rows-are)) in
+      nothing (ask-no _ _ _ (ap (λ (t : Bool). t && eqb (length x) n) wrong))
+
+  module _ (long : length rhs ≡ h .rows) where
+    -- and of the solution.
+    pub solve-x : (length x ≡ h .rows → ⊥) → SolveDone h w F F T T x x (solvedAt h w F T rhs x s) (Solved.Refused Refusal.WrongLength)
+    unfolding solveOf
+    solve-x other =
+        let n = systemAt h w F .kernel .rows in
+        let right : eqb (length rhs) n ≡ true = eq-eqb (length rhs) n (long ∙ sym rows-are) in
+        let wrong : eqb (length x) n ≡ false = ne-eqb (length x) n (λ e. other (e ∙ rows-are)) in
+        nothing (ask-no _ _ _ (ap (λ (t : Bool). t && eqb (length x) n) right ∙ wrong))
+
+    module _ (wide : length x ≡ h .rows) where
+      lengths-fit : lengthsOk (systemAt h w F .kernel .rows) rhs x ≡ true
+      lengths-fit =
+          let n = systemAt h w F .kernel .rows in
+          ap (λ (t : Bool). t && eqb (length x) n) (eq-eqb (length rhs) n (long ∙ sym rows-are)) ∙ eq-eqb (length x) n (wide ∙ sym rows-are)
+
+      -- Question 21.
+      pub solve-input : {b : Bool} → b ≡ inputOk s rhs x → b ≡ false
+          → SolveDone h w F F T T x x (solvedAt h w F T rhs x s) (Solved.Refused Refusal.BadInput)
+      unfolding solveOf
+      solve-input is fails = nothing (ask-yes _ _ _ lengths-fit ∙ ask-no _ _ _ (sym is ∙ fails))
+
+      -- The solve of an input that passed.
+      pub solve-on : {b : Bool} → b ≡ inputOk s rhs x → b ≡ true → {G : List Float} {U : List ℕ} {z : List Float} {r : Solved}
+          → SolveDone h w F G T U x z (begunAt h w F T rhs x s) r → SolveDone h w F G T U x z (solvedAt h w F T rhs x s) r
+      unfolding solveOf
+      solve-on is holds {G} {U} {z} {r} d =
+          let same : solvedAt h w F T rhs x s ≡ begunAt h w F T rhs x s = ask-yes _ _ _ lengths-fit ∙ ask-yes _ _ _ (sym is ∙ holds) in
+          rw same d
+
+-- A vector is the region of its length.
+part-whole : (v : List Float) → part 0 (length v) v ≡ v
+unfolding part
+part-whole v = take-length v
+
+-- The tests of question 21, as the code makes them.
+pub input-is : (s : LinearSolverOptions) (rhs x : List Float) {a r b c : Bool} → a ≡ isFinite (s .«absolute_tolerance»)
+    → r ≡ isFinite (s .«relative_tolerance») → b ≡ allFinite (length rhs) (part 0 (length rhs) rhs) → c ≡ allFinite (length x) (part 0 (length x) x)
+    → leb 1 (s .«max_iterations») && (a && not (lt (s .«absolute_tolerance») zero64)) && (r && not (lt (s .«relative_tolerance») zero64)) && b && c
+    ≡ inputOk s rhs x
+unfolding inputOk
+input-is s rhs x ea er eb ec = rw (ea, er, eb, ec, part-whole rhs, part-whole x)
+
+-- the hierarchy of a system
+abbrev hierarchyIn : System → Hierarchy
+hierarchyIn y = record { levels = y .levels; sums = y .sums }
+
+-- A solve leaves the hierarchy as it was.
+pub view-kept : (h : Handle) (w : List ℕ) (F : List Float) (records : ℕ) → soundOf h w (length F) records ≡ true → {G : List Float}
+    → Kept (scratchStart (h .levels) w) F G → viewOf (h .levels) w G 0 ≡ viewOf (h .levels) w F 0
+view-kept h w F records e {G} kept =
+    let o = opened-of h w (length F) records e .0 in
+    let ready : Ready h w (length F) (regionsAt h w) = record { opened = o; regions = refl } in
+    let l = vectors ready in
+    ap (λ (y : System). hierarchyIn y) (system-kept ready kept (omega arith) (omega arith))

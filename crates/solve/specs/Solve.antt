@@ -1,0 +1,164 @@
+-- `solve` of mod.rs over lists, with questions 20 to 30 in the order of the Rust. Definitions only.
+use mathlib.Core.Bool.{Bool, cond, _&&_}
+use mathlib.Core.List.{List, [], _∷_}
+use Prim.Native.Nat.{ℕ, zero, suc, _+_}
+use lib.Dec.{eqb, leb}
+use lib.Ieee.{Float, le}
+use lib.ListN.{length}
+use Rattle.float.specs.Float.{zero64, isFinite}
+use Rattle.store.specs.Vector.{filled}
+use Rattle.options.specs.declared.MultigridOptions.{MultigridOptions}
+use Rattle.options.specs.declared.solver.LinearSolverOptions.{LinearSolverOptions}
+use Rattle.options.specs.declared.solver.LinearSolverStatus.{LinearSolverStatus}
+use Rattle.options.specs.declared.solver.LinearSolveReport.{LinearSolveReport}
+use Rattle.options.specs.Options.{tolerable}
+use Rattle.refusal.specs.declared.Refusal.{Refusal}
+use Rattle.refusal.specs.Outcome.{Outcome, accepted, refused, passed, ask, _>>=_, _>>_}
+use Rattle.vector.specs.declared.Product.{Product}
+use Rattle.vector.specs.declared.Product.the-variants.{Finite, NotFinite}
+use Rattle.vector.specs.Dot.{allFinite}
+use Rattle.matrix.specs.Kernel.{Kernel, applyOf}
+use Rattle.correction.specs.Correction.{subtractOf, addPlainOf}
+use Rattle.acceleration.specs.Gcr.{Pair, Corrections, correctOf}
+use Rattle.measure.specs.Measure.{measureOf}
+use Rattle.measure.specs.Normalization.{normalizationOf, thresholdOf, relativeOf}
+use Rattle.hierarchy.specs.Level.{Level, Hierarchy}
+use Rattle.cycle.specs.Cycle.{kernelIn, cycleOf}
+
+-- ---- questions 20 and 21
+
+-- question 20: right-hand side and solution have the row count
+abbrev pub lengthsOk : ℕ → List Float → List Float → Bool
+lengthsOk n rhs x = eqb (length rhs) n && eqb (length x) n
+
+-- question 21: a limit above zero, tolerances finite and not below zero, both vectors finite
+unfoldable pub inputOk : LinearSolverOptions → List Float → List Float → Bool
+inputOk s rhs x =
+    leb 1 (s .«max_iterations»)
+    && tolerable (s .«absolute_tolerance»)
+    && tolerable (s .«relative_tolerance»)
+    && allFinite (length rhs) rhs
+    && allFinite (length x) x
+
+-- ---- one iteration
+
+-- `measure(..)?`: question 23
+abbrev pub measured : Product → Outcome Float
+measured (Finite value) = accepted value
+measured NotFinite = refused Refusal.BadResidual
+
+-- where an iteration stands: solution, residual, the stored pairs of GCR, the counters, and the measured residual
+pub record State : Type 0 where
+  pub x : List Float
+  pub residual : List Float
+  pub memory : List Pair
+  pub counts : List ℕ
+  pub last : Float
+
+-- the hierarchy as a solve has it: controls, levels, the finest level's kernel and its row sums
+pub record System : Type 0 where
+  pub options : MultigridOptions
+  pub levels : List Level
+  pub kernel : Kernel
+  pub sums : List Float
+
+module _ (y : System) (rhs : List Float) (factor : Float) where
+  -- the residual of x
+  abbrev pub residualOf : List Float → List Float
+  residualOf x = subtractOf (y .kernel .rows) rhs (applyOf (y .kernel) x)
+
+  -- its norm: question 23
+  abbrev pub measuredOf : List Float → Outcome Float
+  measuredOf residual = measured (measureOf (y .options .«residual_norm») (y .kernel .rows) residual factor)
+
+  -- the solution moved by a correction: as it is where the controls ask for no directions, else by GCR (28 to 30)
+  unfoldable pub movedOf : List Pair → List Float → List Float → List Float → Outcome Corrections
+  movedOf memory correction residual x =
+      cond (eqb (y .options .«krylov_dimension») 0)
+      (accepted (record { memory = memory; solution = addPlainOf (y .kernel .rows) correction x }))
+      (correctOf (y .kernel .rows) (y .options .«krylov_dimension») memory
+      (record { direction = correction; image = applyOf (y .kernel) correction }) residual x)
+
+  -- one iteration: a cycle on the residual (24 to 27), the solution moved, and its true residual
+  unfoldable pub stepOf : State → Outcome State
+  stepOf s = do
+    let n = y .kernel .rows
+    c ← cycleOf (y .options) (y .levels) 0 (s .residual) (filled n zero64) (s .counts)
+    m ← movedOf (s .memory) (c .x) (s .residual) (s .x)
+    last ← measuredOf (residualOf (m .solution))
+    accepted (record {
+      x = m .solution;
+      residual = residualOf (m .solution);
+      memory = m .memory;
+      counts = c .counts;
+      last = last;
+    })
+
+-- ---- the solve
+
+-- what an accepted solve gives: its report, the solution and the statistics
+pub record Solution : Type 0 where
+  pub report : LinearSolveReport
+  pub x : List Float
+  pub counts : List ℕ
+
+-- `report` of mod.rs
+abbrev pub reportOf : LinearSolverStatus → ℕ → Float → Float → LinearSolveReport
+reportOf status iterations initial last = record {
+  status = status;
+  iterations = iterations;
+  «initial_residual» = initial;
+  «final_residual» = last;
+  «relative_residual» = relativeOf initial last;
+}
+
+-- a state with its report
+abbrev pub solution : LinearSolverStatus → ℕ → Float → State → Solution
+solution status iterations initial s = record {
+  report = reportOf status iterations initial (s .last);
+  x = s .x;
+  counts = s .counts;
+}
+
+module _ (y : System) (rhs : List Float) (factor initial threshold : Float) where
+  -- so many iterations at most, after `done`
+  unfoldable pub iterateOf : ℕ → ℕ → State → Outcome Solution
+  iterateOf zero done s = accepted (solution LinearSolverStatus.MaxIterations done initial s)
+  iterateOf (suc more) done s = do
+    t ← stepOf y rhs factor s
+    cond (le (t .last) threshold) (accepted (solution LinearSolverStatus.Converged (done + 1) initial t)) (iterateOf more (done + 1) t)
+
+-- the state before the first iteration
+abbrev pub begun : List Float → List Float → List ℕ → Float → State
+begun x residual counts initial = record { x = x; residual = residual; memory = []; counts = counts; last = initial }
+
+-- a solve whose input has passed, with the normalization `factor`: the first residual (23), and the iterations unless it is small enough
+unfoldable pub runOf : System → LinearSolverOptions → List Float → List Float → List ℕ → Float → Outcome Solution
+runOf y s rhs x counts factor = do
+  let residual = residualOf y rhs factor x
+  initial ← measuredOf y rhs factor residual
+  let threshold = thresholdOf (s .«absolute_tolerance») (s .«relative_tolerance») initial
+  let start = begun x residual counts initial
+  cond (le initial threshold) (accepted (solution LinearSolverStatus.Converged 0 initial start))
+      (iterateOf y rhs factor initial threshold (s .«max_iterations») 0 start)
+
+-- `factor` of mod.rs for that right-hand side and start
+abbrev pub factorOf : System → List Float → List Float → Float
+factorOf y rhs x = normalizationOf (y .options .«residual_norm») (y .kernel .rows) x rhs (applyOf (y .kernel) x) (y .sums)
+
+-- the kernel of the first of the levels; there is always one
+abbrev pub kernelFirst : List Level → Kernel
+kernelFirst [] = record { rows = 0; diagonal = []; inverse = []; offsets = []; neighbors = []; coefficients = [] }
+kernelFirst (l ∷ rest) = kernelIn l
+
+-- a hierarchy with its controls, as a solve has it
+abbrev pub systemOf : MultigridOptions → Hierarchy → System
+systemOf o h = record { options = o; levels = h .levels; kernel = kernelFirst (h .levels); sums = h .sums }
+
+-- `solve`, from the counters so far: questions 20 to 22, and the rest
+unfoldable pub solveOf : System → LinearSolverOptions → List Float → List Float → List ℕ → Outcome Solution
+solveOf y s rhs x counts = do
+  ask (lengthsOk (y .kernel .rows) rhs x) Refusal.WrongLength
+  ask (inputOk s rhs x) Refusal.BadInput
+  ask (isFinite (factorOf y rhs x)) Refusal.BadNormalization
+  runOf y s rhs x counts (factorOf y rhs x)

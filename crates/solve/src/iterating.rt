@@ -1,0 +1,74 @@
+// The iterations of a solve, and its report.
+ghost use mathlib.Core.Path.{_≡_};
+ghost use lib.ListN.{length};
+ghost use Rattle.solve.specs.Solve.{reportOf};
+ghost use Rattle.solve.specs.Steps.{Ready, iterateAt, Ran};
+use crate::Regions;
+use crate::Solved;
+use crate::Step;
+use crate::stepping;
+use options::Handle;
+use options::LinearSolveReport;
+use options::LinearSolverStatus;
+
+pub fn report(
+    status: LinearSolverStatus,
+    iterations: u64,
+    initial: f64,
+    last: f64,
+) -> LinearSolveReport
+    ensures { λ r. ⌜ r ≡ reportOf status iterations initial last ⌝ }
+{
+    LinearSolveReport {
+        status: status,
+        iterations: iterations,
+        initial_residual: initial,
+        final_residual: last,
+        relative_residual: measure::relative(initial, last),
+    }
+}
+
+// Iterations until the norm of the residual is at or below the threshold, or so many are done.
+pub fn iterate(
+    h: Handle,
+    w: &[u32],
+    f: &mut [f64],
+    t: &mut [u64; 512],
+    g: Regions,
+    factor: f64,
+    initial: f64,
+    threshold: f64,
+    limit: u64,
+) -> Solved
+    requires { ⌜ Ready h (now w) (length (now f)) g ⌝ }
+    ensures { λ r. ⌜ Ran g (iterateAt h (now (w .entry)) (now (f .entry)) (now (t .entry)) g factor initial threshold limit) (now (f .entry)) (now (f .exit)) (now (t .exit)) r ⌝ }
+{
+    let mut used = 0;
+    let mut last = initial;
+    let mut done = 0;
+    while done < limit {
+        let after = stepping::step(h, w, f, t, g, factor, used);
+        match after {
+            Step::Done {
+                used: stored,
+                last: norm,
+            } => {
+                used = stored;
+                last = norm;
+                done += 1;
+                if norm <= threshold {
+                    return Solved::Report(report(
+                        LinearSolverStatus::Converged,
+                        done,
+                        initial,
+                        norm,
+                    ));
+                }
+            }
+            Step::Refused(q) => {
+                return Solved::Refused(q);
+            }
+        }
+    }
+    Solved::Report(report(LinearSolverStatus::MaxIterations, done, initial, last))
+}

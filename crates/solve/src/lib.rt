@@ -1,0 +1,149 @@
+// mod.rs: the iterations of a solve over regions of the store.
+ghost use mathlib.Core.Path.{_≡_};
+ghost use mathlib.Core.Bool.{true};
+ghost use Prim.Native.Nat.{_/_};
+ghost use lib.ListN.{length};
+ghost use Rattle.sound.specs.Sound.{soundOf};
+ghost use Rattle.solve.specs.Solve.{inputOk};
+ghost use Rattle.solve.specs.Contract.{solvedAt, SolveDone};
+ghost use Rattle.solve.specs.Steps.{BeginOk, begunAt, attemptAt, Ready, Ran};
+use matrix::SymmetricMatrix;
+use options::Handle;
+use options::LinearSolveReport;
+use options::LinearSolverOptions;
+use options::LinearSolverStatus;
+use refusal::Refusal;
+use vector::Product;
+
+mod copies;
+mod iterating;
+mod places;
+mod stepping;
+
+// The report of a solve, or its refusal.
+pub enum Solved {
+    Report(LinearSolveReport),
+    Refused(Refusal),
+}
+
+// Where the finest matrix and the vectors of a solve stand, and their length.
+pub struct Regions {
+    pub matrix: SymmetricMatrix,
+    pub rows: usize,
+    pub sums: usize,
+    pub rhs: usize,
+    pub solution: usize,
+    pub directions: usize,
+    pub images: usize,
+    pub residual: usize,
+    pub correction: usize,
+    pub product: usize,
+}
+
+// An iteration: the pairs stored now and the norm of the residual, or a refusal.
+pub enum Step {
+    Done { used: usize, last: f64 },
+    Refused(Refusal),
+}
+
+// Question 21: a limit above zero, tolerances finite and not below zero, both vectors finite.
+fn input_fits(s: LinearSolverOptions, rhs: &[f64], x: &[f64]) -> bool
+    ensures { λ r. ⌜ r ≡ inputOk s (now (rhs .entry)) (now (x .entry)) ⌝ }
+{
+    (1 <= s.max_iterations)
+        & (float::is_finite(s.absolute_tolerance) & !(s.absolute_tolerance < 0.0))
+        & (float::is_finite(s.relative_tolerance) & !(s.relative_tolerance < 0.0))
+        & vector::all_finite(rhs, rhs.len(), 0)
+        & vector::all_finite(x, x.len(), 0)
+}
+
+// Questions 22 and 23 on the right-hand side and the start in the store, and the iterations unless the start is good enough.
+fn attempt(
+    h: Handle,
+    w: &[u32],
+    f: &mut [f64],
+    t: &mut [u64; 512],
+    g: Regions,
+    s: LinearSolverOptions,
+) -> Solved
+    requires { ⌜ Ready h (now w) (length (now f)) g ⌝ }
+    ensures { λ r. ⌜ Ran g (attemptAt h (now (w .entry)) (now (f .entry)) (now (t .entry)) g s) (now (f .entry)) (now (f .exit)) (now (t .exit)) r ⌝ }
+{
+    let options = h.options;
+    let norm = options.residual_norm;
+    stepping::renew(w, f, g);
+    let factor = measure::normalization(f, g.rows, g.solution, g.rhs, g.product, g.sums, norm);
+    if !float::is_finite(factor) {
+        return Solved::Refused(Refusal::BadNormalization);
+    }
+    match measure::measure(f, g.rows, g.residual, norm, factor) {
+        Product::Finite(initial) => {
+            let threshold = measure::threshold(s.absolute_tolerance, s.relative_tolerance, initial);
+            if initial <= threshold {
+                return Solved::Report(iterating::report(
+                    LinearSolverStatus::Converged,
+                    0,
+                    initial,
+                    initial,
+                ));
+            }
+            iterating::iterate(h, w, f, t, g, factor, initial, threshold, s.max_iterations)
+        }
+        Product::NotFinite => Solved::Refused(Refusal::BadResidual),
+    }
+}
+
+// The solve of an input that has passed, on copies: solution and statistics are written where it is accepted, and only there.
+fn begin(
+    h: Handle,
+    w: &[u32],
+    f: &mut [f64],
+    statistics: &mut [u64],
+    rhs: &[f64],
+    x: &mut [f64],
+    s: LinearSolverOptions,
+) -> Solved
+    requires { ⌜ BeginOk h (now w) (length (now f)) (length (now statistics)) (length (now rhs)) (length (now x)) ⌝ }
+    ensures { λ r. ⌜ SolveDone h (now (w .entry)) (now (f .entry)) (now (f .exit)) (now (statistics .entry)) (now (statistics .exit)) (now (x .entry)) (now (x .exit)) (begunAt h (now (w .entry)) (now (f .entry)) (now (statistics .entry)) (now (rhs .entry)) (now (x .entry)) s) r ⌝ }
+{
+    let g = places::regions(h, w);
+    let n = 4 * (h.levels as usize);
+    let mut t = [0u64; 512];
+    copies::load_counts(&mut t, statistics, n);
+    copies::copy_in(f, g.rhs, rhs);
+    copies::copy_in(f, g.solution, x);
+    match attempt(h, w, f, &mut t, g, s) {
+        Solved::Report(report) => {
+            copies::copy_out(x, f, g.solution);
+            copies::store_counts(statistics, t, n);
+            Solved::Report(report)
+        }
+        Solved::Refused(q) => Solved::Refused(q),
+    }
+}
+
+// The system of a hierarchy solved from x on, for stores that have passed the index check; refused, solution and statistics are as they were.
+pub fn solve(
+    h: Handle,
+    w: &[u32],
+    f: &mut [f64],
+    statistics: &mut [u64],
+    rhs: &[f64],
+    x: &mut [f64],
+    s: LinearSolverOptions,
+) -> Solved
+    requires { ⌜ soundOf h (now w) (length (now f)) (length (now statistics) / 4) ≡ true ⌝ }
+    ensures { λ r. ⌜ SolveDone h (now (w .entry)) (now (f .entry)) (now (f .exit)) (now (statistics .entry)) (now (statistics .exit)) (now (x .entry)) (now (x .exit)) (solvedAt h (now (w .entry)) (now (f .entry)) (now (statistics .entry)) (now (rhs .entry)) (now (x .entry)) s) r ⌝ }
+{
+    let n = h.rows as usize;
+    if rhs.len() != n {
+        return Solved::Refused(Refusal::WrongLength);
+    }
+    if x.len() != n {
+        return Solved::Refused(Refusal::WrongLength);
+    }
+    if !input_fits(s, rhs, x) {
+        return Solved::Refused(Refusal::BadInput);
+    }
+    begin(h, w, f, statistics, rhs, x, s)
+}

@@ -1,0 +1,5 @@
+pub mod Laws
+pub mod Walking
+pub mod Sizes
+pub mod Question
+pub mod Facts
