@@ -68,6 +68,8 @@ const COMPARISONS: &[(&str, Comparison)] = &[
     ("build", build::compare),
     #[cfg(feature = "library")]
     ("sequence", sequence::compare),
+    #[cfg(feature = "library")]
+    ("damage", sequence::damage::compare),
 ];
 
 struct Arguments {

@@ -2,7 +2,7 @@
 //! the statistics, and after a refusal every word but scratch as it was. After a build with weights each solve is also
 //! held against a hierarchy that is built afresh from the latest accepted values.
 
-mod damage;
+pub mod damage;
 mod expected;
 mod hand;
 pub mod list;
@@ -32,7 +32,6 @@ pub fn compare(report: &mut Report, random: &mut Random, effort: Effort) {
         one_sequence(report, random, name, &problem, calls);
     }
     weeks(report, random, effort);
-    damage::compare(report, random, effort);
 }
 
 /// One hierarchy, refreshed and solved with for long: the last answer is still that of a fresh build.

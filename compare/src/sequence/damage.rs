@@ -9,8 +9,8 @@ use crate::report::Report;
 use multigrid::lent::{self, Handle};
 
 pub fn compare(report: &mut Report, random: &mut Random, effort: Effort) {
-    let kind = report.kind("sequence/damaged-stores");
-    for _ in 0..effort.times(500, 30_000) {
+    let kind = report.kind("damage/stores");
+    for _ in 0..effort.times(500, 36_000) {
         let problem = accepted(random);
         let calls = draw_calls(random, &problem);
         let mut stores = noisy(random, &problem.lent);
@@ -87,7 +87,7 @@ fn one_call(report: &mut Report, handle: &Handle, stores: &mut Stores, call: &Ca
     let number = number.map_or("accepted".to_string(), |number| {
         format!("refused-{number:02}")
     });
-    report.answer(&format!("sequence/damaged/{name}/{number}"));
+    report.answer(&format!("damage/{name}/{number}"));
     (number == "accepted" || stores.statistics == before.statistics)
         && stores.words == before.words
         && asked == (number == "refused-19")
