@@ -180,48 +180,73 @@ const ROWS: &[Row] = &[
     },
 ];
 
+/// What the words of the command ask for: the rounds, the rows whose names start so, and the sides of the grids.
+struct Asked {
+    rounds: usize,
+    only: String,
+    sides: Vec<usize>,
+}
+
 fn main() -> ExitCode {
-    match rounds() {
-        Ok(rounds) => run(rounds),
+    match asked() {
+        Ok(asked) => run(&asked),
         Err(sentence) => {
-            eprintln!("bench: {sentence}\nusage: bench [--rounds NUMBER]");
+            eprintln!("bench: {sentence}\nusage: bench [--rounds NUMBER] [--only NAME] [--side NUMBER]");
             ExitCode::from(2)
         }
     }
 }
 
-fn rounds() -> Result<usize, String> {
-    let words: Vec<String> = std::env::args().skip(1).collect();
-    let rounds = match words.as_slice() {
-        [] => Ok(ROUNDS),
-        [word, number] if word == "--rounds" => number
-            .parse()
-            .map_err(|error| format!("{number:?}: {error}")),
-        _ => Err(format!("{words:?} is not understood")),
-    }?;
-    if rounds >= LEAST_ROUNDS && rounds % 2 == 1 {
-        Ok(rounds)
-    } else {
-        Err(format!(
-            "{rounds} rounds: an odd number from {LEAST_ROUNDS} on"
-        ))
+fn asked() -> Result<Asked, String> {
+    let mut asked = Asked {
+        rounds: ROUNDS,
+        only: String::new(),
+        sides: SIDES.to_vec(),
+    };
+    let mut words = std::env::args().skip(1);
+    while let Some(word) = words.next() {
+        match (word.as_str(), words.next()) {
+            ("--rounds", Some(word)) => asked.rounds = number(&word)?,
+            ("--side", Some(word)) => asked.sides = vec![number(&word)?],
+            ("--only", Some(name)) => asked.only = name,
+            _ => return Err(format!("{word:?} is not understood")),
+        }
     }
+    if asked.rounds < LEAST_ROUNDS || asked.rounds % 2 == 0 {
+        return Err(format!(
+            "{} rounds: an odd number from {LEAST_ROUNDS} on",
+            asked.rounds
+        ));
+    }
+    if !ROWS.iter().any(|row| row.name.starts_with(&asked.only)) {
+        return Err(format!("no row starts with {:?}", asked.only));
+    }
+    if !asked.sides.iter().all(|side| SIDES.contains(side)) {
+        return Err(format!("{:?}: a side of {SIDES:?}", asked.sides));
+    }
+    Ok(asked)
+}
+
+fn number(word: &str) -> Result<usize, String> {
+    word.parse().map_err(|error| format!("{word:?}: {error}"))
 }
 
 /// Exit status 1 where a ratio is greater than wanted.
-fn run(rounds: usize) -> ExitCode {
+fn run(asked: &Asked) -> ExitCode {
     println!(
-        "five-point grids, random positive weights; medians of {rounds} rounds; microseconds of the processor"
+        "five-point grids, random positive weights; medians of {} rounds; microseconds of the processor",
+        asked.rounds
     );
     println!(
         "{:<28} {:>9} {:>11} {:>11} {:>10} {:>7}",
         "kernel", "grid", "Rust", "ours", "ours/Rust", "wanted"
     );
     let mut missed = false;
-    for side in SIDES {
+    for &side in &asked.sides {
         let grid = Grid::new(&mut Random::new(SEED), side);
-        for row in ROWS.iter().filter(|row| row.sides.contains(&side)) {
-            let medians = measure((row.kernel)(&grid).as_mut(), rounds);
+        let rows = ROWS.iter().filter(|row| row.sides.contains(&side));
+        for row in rows.filter(|row| row.name.starts_with(&asked.only)) {
+            let medians = measure((row.kernel)(&grid).as_mut(), asked.rounds);
             print(row, side, &medians);
             missed |= row.wanted(side).is_some_and(|most| medians.ratio() > most);
         }
