@@ -1,11 +1,11 @@
 -- How a chain of questions goes on, and how it ends. Assumes nothing.
 use mathlib.Core.Path.{_≡_, refl}
 use mathlib.Core.Bool.{Bool, true, false}
-use Prim.Native.Nat.{ℕ, suc, _+_, _-_, _≤_, _<_}
+use Prim.Native.Nat.{ℕ, zero, suc, _+_, _-_, _≤_, _<_}
 use native.Mathlib.Omega.{arith}
 use Rattle.refusal.specs.declared.Refusal.{Refusal}
 use Rattle.refusal.specs.declared.Verdict.{Verdict}
-use Rattle.refusal.specs.Outcome.{Outcome, accepted, refused, passed, ask, _>>=_, askRows, askFrom, verdictOf}
+use Rattle.refusal.specs.Outcome.{Outcome, accepted, refused, passed, ask, _>>=_, askRows, askFrom, askEach, verdictOf}
 
 module _ {A : Type 0} (holds : Bool) (q : Refusal) (rest : Outcome A) where
   -- a question that holds goes on
@@ -40,6 +40,28 @@ module _ {A : Type 0} (row rows : ℕ) (asked : ℕ → Outcome Unit) (rest : Ou
   pub each-done : rows ≤ row → askFrom row rows asked rest ≡ rest
   unfolding askRows
   each-done h = let none : rows - row ≡ 0 = omega arith in rw none
+
+module _ {A : Type 0} (asked : ℕ → Outcome Unit) (rest : Outcome A) where
+  all-from : (fuel row : ℕ) → ((k : ℕ) → row ≤ k → k < row + fuel → asked k ≡ passed) → askRows fuel row asked rest ≡ rest
+  unfolding askRows
+  all-from zero row e = refl
+  all-from (suc fuel) row e = rw (e row (omega arith) (omega arith)) (all-from fuel (row + 1) (λ k l h. e k (omega arith) (omega arith)))
+
+  -- where every row passes, the rest follows
+  pub each-all : (rows : ℕ) → ((row : ℕ) → row < rows → asked row ≡ passed) → askEach rows asked rest ≡ rest
+  each-all rows e = all-from (rows - 0) 0 (λ k l h. e k (omega arith))
+
+  same-from : (others : ℕ → Outcome Unit) (fuel row : ℕ) → ((k : ℕ) → row ≤ k → k < row + fuel → asked k ≡ others k)
+      → askRows fuel row asked rest ≡ askRows fuel row others rest
+  unfolding askRows
+  same-from others zero row e = refl
+  same-from others (suc fuel) row e =
+      rw (e row (omega arith) (omega arith), same-from others fuel (row + 1) (λ k l h. e k (omega arith) (omega arith)))
+
+  -- the same questions have the same outcome
+  pub each-alike : (others : ℕ → Outcome Unit) (rows : ℕ) → ((row : ℕ) → row < rows → asked row ≡ others row)
+      → askEach rows asked rest ≡ askEach rows others rest
+  each-alike others rows e = same-from others (rows - 0) 0 (λ k l h. e k (omega arith))
 
 module _ {A : Type 0} (o : Outcome A) where
   -- an accepted outcome passes

@@ -1,4 +1,4 @@
--- Laws of `each`, the test of every index: what it tells, and a loop in code that leaves at the first index that fails.
+-- Laws of `each`, the test of every index: what it tells, a loop in code that leaves at the first index that fails, and one that tests them all.
 -- Assumes nothing.
 use mathlib.Core.Path.{_≡_, refl, sym}
 use mathlib.Core.Bool.{Bool, true, false, _&&_}
@@ -67,3 +67,22 @@ passed-yes {p} {n} {k} a h = let b : k ≤ n = a .within in let z : n ≡ k = om
 -- An early end: the code's test fails at k, and so does the whole.
 pub passed-no : (p : ℕ → Bool) (n k : ℕ) (r : Bool) → k < n → r ≡ p k → r ≡ false → false ≡ each p n
 passed-no p n k r h e f = sym (each-no p n k h (rw e at f))
+
+-- The invariant of a loop that tests every index and leaves at none: ok is the answer of the indices below k.
+pub record Tested (p : ℕ → Bool) (n k : ℕ) (ok : Bool) : Type 0 where
+  pub is : ok ≡ each p k
+  pub within : k ≤ n
+
+-- At the start nothing has been tested.
+pub tested-start : (p : ℕ → Bool) (n : ℕ) → Tested p n 0 true
+unfolding each
+tested-start p n = record { is = refl; within = omega arith }
+
+-- A turn: r, the code's test, is that of index k.
+pub tested-on : {p : ℕ → Bool} {n k : ℕ} {ok r : Bool} → Tested p n k ok → k < n → r ≡ p k → Tested p n (k + 1) (ok && r)
+unfolding each
+tested-on {p} {n} {k} {ok} {r} a h e = record { is = rw (add-one k, a .is, e); within = omega arith }
+
+-- The end: the answer is that of the whole.
+pub tested-done : {p : ℕ → Bool} {n k : ℕ} {ok : Bool} → Tested p n k ok → n ≤ k → ok ≡ each p n
+tested-done {p} {n} {k} {ok} a h = let b : k ≤ n = a .within in let z : n ≡ k = omega arith in rw z (a .is)

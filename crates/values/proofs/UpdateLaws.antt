@@ -1,7 +1,7 @@
 -- The loops of `update` as the code has them, and the frame `Within`.
 -- Assumes nothing.
 use mathlib.Core.Path.{_≡_, refl, sym, ap, _∙_}
-use mathlib.Core.Bool.{Bool, true, false}
+use mathlib.Core.Bool.{Bool, true, false, _&&_}
 use mathlib.Core.List.{List, [], _∷_, _++_}
 use Prim.Native.Nat.{ℕ, _+_, _-_, _≤_, _<_}
 use native.Mathlib.Numerals.{add-one}
@@ -13,16 +13,17 @@ use Rattle.float.specs.Float.{div64, one64, isFinite}
 use Rattle.refusal.specs.declared.Refusal.{Refusal}
 use Rattle.refusal.specs.declared.Verdict.{Verdict}
 use Rattle.refusal.specs.Outcome.{Outcome, accepted, refused, passed, askFrom, askEach}
-use Rattle.refusal.proofs.Outcome.{each-step, each-stop, each-done}
+use Rattle.refusal.proofs.Outcome.{each-step, each-stop, each-done, each-all, each-alike}
 use Rattle.store.specs.Loop.{for}
 use Rattle.store.specs.Region.{at, idx, part, splice, Wrote, Kept}
 use Rattle.store.specs.Vector.{tab}
 use Rattle.store.proofs.Loop.{Left, left-end}
-use Rattle.store.proofs.Region.{length-part, length-splice, getD-part, getD-splice-below, set-splice-below, set-splice-end, splice-nil, part-splice-above, wrote, wrote-at, wrote-off, kept-wrote, kept-part}
-use Rattle.store.proofs.Vector.{length-tab, tab-same, for-each}
+use Rattle.store.proofs.Region.{length-part, length-splice, getD-part, getD-splice-below, getD-splice-in, set-splice-below, set-splice-end, splice-nil, part-splice-above, wrote, wrote-at, wrote-off, kept-wrote, kept-part}
+use Rattle.store.proofs.Vector.{length-tab, getD-tab, tab-same, for-each}
+use Rattle.store.proofs.Each.{Tested, both-l, both-r, each-at, tested-start, tested-on, tested-done}
 use Rattle.matrix.specs.declared.SymmetricMatrix.{SymmetricMatrix}
 use Rattle.values.specs.declared.values.Entries.{Entries}
-use Rattle.values.specs.Update.{isPositive, diagonalAsked, entryOf, Coefficients, updateOf, updateAt, Within, Holds, UpdateOk, Updated, EntriesOk, pickTurn, after, diagonalAt, writtenTo, RowsUpdated}
+use Rattle.values.specs.Update.{isPositive, diagonalAsked, diagonalGood, entryOf, Coefficients, updateOf, updateAt, Within, Holds, UpdateOk, Updated, EntriesOk, pickTurn, after, diagonalAt, writtenTo, RowsSettled, RowsUpdated, RowsAsked}
 
 -- ---- the frame
 
@@ -93,33 +94,36 @@ pick-on w places values to k entry F e = rw e
 set-end : {A : Type 0} (b k : ℕ) (v F : List A) (a : A) → length v ≡ k → set (splice b v F) (b + k) a ≡ splice b (v ++ (a ∷ [])) F
 set-end b k v F a l = ap (λ (m : ℕ). set (splice b v F) (b + m) a) (sym l) ∙ set-splice-end b v F a
 
--- The invariant of the loop over the rows: the questions from `row` on are what is left, and the rows below it are written.
-pub record Updating (level : ℕ) (w : List ℕ) (rows entries places values diagonal inverse : ℕ) (F G : List Float) (row : ℕ) : Type 0 where
-  pub asked : (rest : Outcome Coefficients)
-      → askEach rows (λ r. diagonalAsked level r (diagonalAt w rows entries places values F r)) rest
-      ≡ askFrom row rows (λ r. diagonalAsked level r (diagonalAt w rows entries places values F r)) rest
-  pub is : G ≡ writtenTo w rows entries places values F diagonal inverse row
-  pub reach : row ≤ rows
-
-module _ (level : ℕ) (w : List ℕ) (rows entries places values diagonal inverse : ℕ) (F : List Float) where
+module _ (w : List ℕ) (rows entries places values diagonal inverse : ℕ) (F : List Float) where
   abbrev own : ℕ → Float
   own = diagonalAt w rows entries places values F
 
-  abbrev asks : ℕ → Outcome Unit
-  asks r = diagonalAsked level r (own r)
+  abbrev written : ℕ → List Float
+  written = writtenTo w rows entries places values F diagonal inverse
 
-  pub updating-start : Updating level w rows entries places values diagonal inverse F F 0
+  -- The invariant of the pass over the rows: those below `row` are written, and ok tells whether they are good.
+  pub record Settling (G : List Float) (row : ℕ) (ok : Bool) : Type 0 where
+    pub is : G ≡ written row
+    pub tested : Tested (λ r. diagonalGood (own r)) rows row ok
+
+  -- At the start no row is written.
+  pub settling-start : Settling F 0 true
   unfolding tab
-  updating-start = record { asked = λ rest. refl; is = sym (splice-nil inverse (splice diagonal [] F) ∙ splice-nil diagonal F); reach = omega arith }
+  settling-start = record {
+    is = sym (splice-nil inverse (splice diagonal [] F) ∙ splice-nil diagonal F);
+    tested = tested-start _ rows;
+  }
 
-  written-within : {G : List Float} (k : ℕ) → k ≤ rows → diagonal + rows ≤ inverse → G ≡ writtenTo w rows entries places values F diagonal inverse k
-      → Within diagonal (inverse + rows) F G
-  written-within {G} k h l e =
-      within-on (within-wrote (wrote {b = diagonal} {v = tab own k} refl (length-tab own k)) (omega arith) (omega arith))
-      (within-wrote (wrote {b = inverse} e (length-tab _ k)) (omega arith) (omega arith))
+  -- At the end every row is.
+  pub rows-settled : {G : List Float} {row : ℕ} {ok : Bool} → Settling G row ok → rows ≤ row
+      → RowsSettled w rows entries places values F diagonal inverse G ok
+  rows-settled {G} {row} {ok} s h =
+      let reach : row ≤ rows = s .tested .within in
+      let e : row ≡ rows = omega arith in
+      record { is = rw e at (s .is); all = tested-done (s .tested) h }
 
   module _ (G : List Float) (row entry : ℕ) (ok : EntriesOk w (length F) rows entries places values diagonal) (l : diagonal + rows ≤ inverse)
-      (u : Updating level w rows entries places values diagonal inverse F G row) (h : row < rows) (i : entry ≡ idx w (places + row)) where
+      (is : G ≡ written row) (h : row < rows) (i : entry ≡ idx w (places + row)) where
     -- the value that the code reads
     abbrev d : Float
     d = at G (values + entry)
@@ -129,68 +133,110 @@ module _ (level : ℕ) (w : List ℕ) (rows entries places values diagonal inver
         let near : idx w (places + row) < entries = ok .near row h in
         let b : values + idx w (places + row) < diagonal = omega arith in
         let b' : values + idx w (places + row) < inverse = omega arith in
-        rw (i, u .is) (simp (getD-part, getD-splice-below))
+        rw (i, is) (simp (getD-part, getD-splice-below))
 
-    write : set (set G (diagonal + row) d) (inverse + row) (div64 one64 d) ≡ writtenTo w rows entries places values F diagonal inverse (row + 1)
+    write : set (set G (diagonal + row) d) (inverse + row) (div64 one64 d) ≡ written (row + 1)
     unfolding tab
     write =
         let b : diagonal + row < inverse = omega arith in
-        rw (read, u .is, add-one row)
+        rw (read, is, add-one row)
         (ap (λ (I : List Float). set I (inverse + row) (div64 one64 (own row)))
         (set-splice-below inverse (tab (λ r. div64 one64 (own r)) row) (splice diagonal (tab own row) F) (diagonal + row) (own row) b
         ∙ ap (splice inverse (tab (λ r. div64 one64 (own r)) row)) (set-end diagonal row (tab own row) F (own row) (length-tab own row)))
         ∙ set-end inverse row (tab (λ r. div64 one64 (own r)) row) (splice diagonal (tab own row ++ (own row ∷ [])) F) (div64 one64 (own row)) (length-tab _ row))
 
-    module _ (p : Bool) (e : p ≡ isPositive d) where
-      -- Question 12 refuses.
-      pub row-bad : p ≡ false → RowsUpdated w rows entries places values F level diagonal inverse G (Verdict.Refused (Refusal.BadDiagonal level row))
+  -- A turn writes one row more.
+  pub settle-on : {G : List Float} {row entry : ℕ} {good p q : Bool} → EntriesOk w (length F) rows entries places values diagonal
+      → diagonal + rows ≤ inverse → Settling G row good → row < rows → entry ≡ idx w (places + row)
+      → p ≡ isPositive (at G (values + entry)) → q ≡ isFinite (div64 one64 (at G (values + entry)))
+      → Settling (set (set G (diagonal + row) (at G (values + entry))) (inverse + row) (div64 one64 (at G (values + entry)))) (row + 1) (good && (p && q))
+  unfolding diagonalGood
+  settle-on {G} {row} {entry} ok l s h i e e' =
+      let same = read G row entry ok l (s .is) h i in
+      record { is = write G row entry ok l (s .is) h i; tested = tested-on (s .tested) h (rw (e, e', same)) }
+
+-- ---- the questions of the rows
+
+-- A good row passes both questions.
+good-passes : (level row : ℕ) (d : Float) → diagonalGood d ≡ true → diagonalAsked level row d ≡ passed
+unfolding diagonalGood diagonalAsked
+good-passes level row d e = rw (both-l (isPositive d) (isFinite (div64 one64 d)) e, both-r (isPositive d) (isFinite (div64 one64 d)) e)
+
+module _ (level rows diagonal : ℕ) (F : List Float) where
+  abbrev asks : ℕ → Outcome Unit
+  asks r = diagonalAsked level r (at F (diagonal + r))
+
+  -- The invariant of the questions: those from `row` on are what is left.
+  pub record Asking (row : ℕ) : Type 0 where
+    pub left : (rest : Outcome Coefficients) → askEach rows asks rest ≡ askFrom row rows asks rest
+
+  -- At the start all are left.
+  pub asking-start : Asking 0
+  asking-start = record { left = λ rest. refl }
+
+  -- All have passed.
+  pub asking-done : {row : ℕ} → Asking row → rows ≤ row → RowsAsked level rows diagonal F Verdict.Passed
+  unfolding after
+  asking-done {row} a h = record { asked = λ rest. a .left rest ∙ each-done row rows asks rest h }
+
+  module _ {row : ℕ} {p : Bool} (a : Asking row) (h : row < rows) (e : p ≡ isPositive (at F (diagonal + row))) where
+    -- Question 12 refuses.
+    pub row-bad : p ≡ false → RowsAsked level rows diagonal F (Verdict.Refused (Refusal.BadDiagonal level row))
+    unfolding after diagonalAsked
+    row-bad t =
+        let no : isPositive (at F (diagonal + row)) ≡ false = sym e ∙ t in
+        record { asked = λ rest. a .left rest ∙ each-stop row rows asks rest h (rw no) }
+
+    module _ {q : Bool} (yes : p ≡ true) (e' : q ≡ isFinite (div64 one64 (at F (diagonal + row)))) where
+      -- Question 13 refuses.
+      pub row-bad-reciprocal : q ≡ false → RowsAsked level rows diagonal F (Verdict.Refused (Refusal.BadReciprocal level row))
       unfolding after diagonalAsked
-      row-bad t =
-          let no : isPositive (own row) ≡ false = rw read at (sym e ∙ t) in
-          record {
-            asked = λ rest. u .asked rest ∙ each-stop row rows asks rest h (rw no);
-            is = λ q. let z : _≡_ {A = ℕ} 0 1 = cc in absurd (omega arith);
-            within = written-within row (omega arith) l (u .is);
-          }
+      row-bad-reciprocal t =
+          let good : isPositive (at F (diagonal + row)) ≡ true = sym e ∙ yes in
+          let no : isFinite (div64 one64 (at F (diagonal + row))) ≡ false = sym e' ∙ t in
+          record { asked = λ rest. a .left rest ∙ each-stop row rows asks rest h (rw (good, no)) }
 
-      module _ (q : Bool) (e' : q ≡ isFinite (div64 one64 d)) (yes : p ≡ true) where
-        -- Question 13 refuses; the row is written by then.
-        pub row-bad-reciprocal : q ≡ false
-            → RowsUpdated w rows entries places values F level diagonal inverse (set (set G (diagonal + row) d) (inverse + row) (div64 one64 d)) (Verdict.Refused (Refusal.BadReciprocal level row))
-        unfolding after diagonalAsked
-        row-bad-reciprocal t =
-            let good : isPositive (own row) ≡ true = rw read at (sym e ∙ yes) in
-            let no : isFinite (div64 one64 (own row)) ≡ false = rw read at (sym e' ∙ t) in
-            record {
-              asked = λ rest. u .asked rest ∙ each-stop row rows asks rest h (rw (good, no));
-              is = λ q. let z : _≡_ {A = ℕ} 0 1 = cc in absurd (omega arith);
-              within = written-within (row + 1) (omega arith) l write;
-            }
+      -- Both pass: the next row.
+      pub row-on : q ≡ true → Asking (row + 1)
+      unfolding diagonalAsked
+      row-on t =
+          let good : isPositive (at F (diagonal + row)) ≡ true = sym e ∙ yes in
+          let fine : isFinite (div64 one64 (at F (diagonal + row))) ≡ true = sym e' ∙ t in
+          record { left = λ rest. a .left rest ∙ each-step row rows asks rest h (rw (good, fine)) }
 
-        -- Both pass: the next row.
-        pub row-on : q ≡ true
-            → Updating level w rows entries places values diagonal inverse F (set (set G (diagonal + row) d) (inverse + row) (div64 one64 d)) (row + 1)
-        unfolding diagonalAsked
-        row-on t =
-            let good : isPositive (own row) ≡ true = rw read at (sym e ∙ yes) in
-            let fine : isFinite (div64 one64 (own row)) ≡ true = rw read at (sym e' ∙ t) in
-            record { asked = λ rest. u .asked rest ∙ each-step row rows asks rest h (rw (good, fine)); is = write; reach = omega arith }
+module _ {w : List ℕ} {rows entries places values diagonal inverse : ℕ} {F G : List Float} {ok : Bool}
+    (l : diagonal + rows ≤ inverse) (fits : inverse + rows ≤ length F) (s : RowsSettled w rows entries places values F diagonal inverse G ok) where
+  rows-within : Within diagonal (inverse + rows) F G
+  rows-within =
+      within-on (within-wrote (wrote {b = diagonal} refl (length-tab (diagonalAt w rows entries places values F) rows)) (omega arith) (omega arith))
+      (within-wrote (wrote {b = inverse} (s .is) (length-tab _ rows)) (omega arith) (omega arith))
 
--- Every row has passed.
-pub rows-done : {level : ℕ} {w : List ℕ} {rows entries places values diagonal inverse row : ℕ} {F G : List Float}
-    → EntriesOk w (length F) rows entries places values diagonal → diagonal + rows ≤ inverse
-    → Updating level w rows entries places values diagonal inverse F G row → rows ≤ row
-    → RowsUpdated w rows entries places values F level diagonal inverse G Verdict.Passed
-unfolding after
-rows-done {level} {w} {rows} {entries} {places} {values} {diagonal} {inverse} {row} {F} {G} ok l u h =
-    let r : row ≤ rows = u .reach in
-    let e : row ≡ rows = omega arith in
-    let is : G ≡ writtenTo w rows entries places values F diagonal inverse rows = rw e at (u .is) in
-    record {
-      asked = λ rest. u .asked rest ∙ each-done row rows (λ r. diagonalAsked level r (diagonalAt w rows entries places values F r)) rest (omega arith);
-      is = λ q. is;
-      within = written-within level w rows entries places values diagonal inverse F rows (omega arith) l is;
-    }
+  -- Every row is good.
+  pub rows-good : (level : ℕ) → ok ≡ true → RowsUpdated w rows entries places values F level diagonal inverse G Verdict.Passed
+  unfolding after
+  rows-good level t = record {
+    asked = λ rest. each-all (λ r. diagonalAsked level r (diagonalAt w rows entries places values F r)) rest rows
+        (λ r h. good-passes level r (diagonalAt w rows entries places values F r) (each-at _ rows (sym (s .all) ∙ t) r h));
+    is = λ _. s .is;
+    within = rows-within;
+  }
+
+  -- The diagonal that is written is that of the rows.
+  diagonal-read : (r : ℕ) → r < rows → at G (diagonal + r) ≡ diagonalAt w rows entries places values F r
+  diagonal-read r h =
+      let b : diagonal + r < inverse = omega arith in
+      let b' : diagonal + r < length F = omega arith in
+      let z : r < length (tab (diagonalAt w rows entries places values F) rows) = rw (length-tab (diagonalAt w rows entries places values F) rows) h in
+      rw (s .is) (simp (getD-splice-below, getD-splice-in, getD-tab))
+
+  -- Else the questions, asked one by one, give the verdict.
+  pub rows-asked : {level : ℕ} {r : Verdict} → RowsAsked level rows diagonal G r → RowsUpdated w rows entries places values F level diagonal inverse G r
+  rows-asked {level} a = record {
+    asked = λ rest. each-alike (λ k. diagonalAsked level k (diagonalAt w rows entries places values F k)) rest (λ k. diagonalAsked level k (at G (diagonal + k))) rows
+        (λ k h. ap (diagonalAsked level k) (sym (diagonal-read k h))) ∙ a .asked rest;
+    is = λ _. s .is;
+    within = rows-within;
+  }
 
 -- ---- the ways out
 

@@ -10,7 +10,7 @@ use Rattle.refusal.specs.declared.Refusal.{Refusal}
 use Rattle.refusal.specs.declared.Verdict.{Verdict}
 use Rattle.refusal.specs.Outcome.{Outcome, accepted, refused, passed, ask, _>>_, askEach, verdictOf}
 use Rattle.store.specs.Region.{at, idx, part, splice}
-use Rattle.store.specs.Vector.{tab}
+use Rattle.store.specs.Vector.{tab, each}
 use Rattle.matrix.specs.declared.SymmetricMatrix.{SymmetricMatrix}
 use Rattle.values.specs.declared.values.Entries.{Entries}
 
@@ -24,6 +24,10 @@ diagonalAsked level row d = do
   ask (isPositive d) (Refusal.BadDiagonal level row)
   ask (isFinite (div64 one64 d)) (Refusal.BadReciprocal level row)
   passed
+
+-- whether both pass
+unfoldable pub diagonalGood : Float → Bool
+diagonalGood d = isPositive d && isFinite (div64 one64 d)
 
 -- the value of entry k of a list of positions
 abbrev pub entryOf : List ℕ → List Float → ℕ → Float
@@ -108,8 +112,17 @@ module _ (w : List ℕ) (rows entries places values : ℕ) (F : List Float) wher
   abbrev pub writtenTo : ℕ → ℕ → ℕ → List Float
   writtenTo diagonal inverse k = splice inverse (tab (λ row. div64 one64 (diagonalAt row)) k) (splice diagonal (tab diagonalAt k) F)
 
+  -- what a pass over all rows leaves: every row is written, and whether all of them are good
+  pub record RowsSettled (diagonal inverse : ℕ) (G : List Float) (r : Bool) : Type 0 where
+    pub is : G ≡ writtenTo diagonal inverse rows
+    pub all : r ≡ each (λ row. diagonalGood (diagonalAt row)) rows
+
   -- what the rows leave: their verdict decides how the questions go on, and where they pass, every row is written
   pub record RowsUpdated (level diagonal inverse : ℕ) (G : List Float) (r : Verdict) : Type 0 where
     pub asked : (rest : Outcome Coefficients) → askEach rows (λ row. diagonalAsked level row (diagonalAt row)) rest ≡ after r rest
     pub is : r ≡ Verdict.Passed → G ≡ writtenTo diagonal inverse rows
     pub within : Within diagonal (inverse + rows) F G
+
+-- the verdict on the rows whose diagonal stands in F decides how the questions go on
+pub record RowsAsked (level rows diagonal : ℕ) (F : List Float) (r : Verdict) : Type 0 where
+  pub asked : (rest : Outcome Coefficients) → askEach rows (λ row. diagonalAsked level row (at F (diagonal + row))) rest ≡ after r rest

@@ -11,21 +11,19 @@ fn mirrors_agree(a: f64, b: f64) -> bool
     float::is_finite(a) & float::is_finite(b) & (a == b)
 }
 
-// Whether the values at each face's two positions agree.
+// Whether the values at each face's two positions agree. No branch leaves the loop: a symmetric image passes as a whole.
 pub fn equal_mirrors(w: &[u32], values: &[f64], faces: usize, upper: usize, lower: usize) -> bool
     requires { ⌜ MirrorsOk (now w) (length (now values)) faces upper lower ⌝ }
     ensures { λ r. ⌜ r ≡ mirrorsEqual faces (part upper faces (now (w .entry))) (part lower faces (now (w .entry))) (now (values .entry)) ⌝ }
 {
     let count = values.len();
+    let mut ok = true;
     let mut face = 0;
     while face < faces {
         let a = store::index_at(w, upper, face, count);
         let b = store::index_at(w, lower, face, count);
-        if mirrors_agree(values[a], values[b]) {
-            face += 1;
-        } else {
-            return false;
-        }
+        ok = ok & mirrors_agree(values[a], values[b]);
+        face += 1;
     }
-    true
+    ok
 }

@@ -4,7 +4,7 @@ ghost use Prim.Native.Nat.{_+_, _≤_};
 ghost use lib.ListN.{length};
 ghost use Rattle.store.specs.Region.{idx, part, Wrote};
 ghost use Rattle.store.specs.Vector.{tab};
-ghost use Rattle.values.specs.Update.{isPositive, entryOf, updateAt, UpdateOk, Updated, EntriesOk, RowsUpdated};
+ghost use Rattle.values.specs.Update.{isPositive, entryOf, updateAt, UpdateOk, Updated, EntriesOk, RowsUpdated, RowsSettled, RowsAsked};
 use matrix::SymmetricMatrix;
 use refusal::Refusal;
 use refusal::Verdict;
@@ -23,8 +23,9 @@ fn is_positive(d: f64) -> bool
     float::is_finite(d) & (d > 0.0)
 }
 
-// The diagonal and its reciprocals, row by row: questions 12 and 13.
-fn update_rows(
+// The diagonal of every row and its reciprocal, and whether all of them pass questions 12 and 13. No branch leaves the
+// loop, so that one division does not wait for the test of another.
+fn settle_rows(
     w: &[u32],
     f: &mut [f64],
     rows: usize,
@@ -33,20 +34,34 @@ fn update_rows(
     values: usize,
     diagonal: usize,
     inverse: usize,
-    level: u64,
-) -> Verdict
+) -> bool
     requires { ⌜ EntriesOk (now w) (length (now f)) rows entries places values diagonal ⌝ }
     requires { ⌜ diagonal + rows ≤ inverse ⌝ }
     requires { ⌜ inverse + rows ≤ length (now f) ⌝ }
-    ensures { λ r. ⌜ RowsUpdated (now (w .entry)) rows entries places values (now (f .entry)) level diagonal inverse (now (f .exit)) r ⌝ }
+    ensures { λ r. ⌜ RowsSettled (now (w .entry)) rows entries places values (now (f .entry)) diagonal inverse (now (f .exit)) r ⌝ }
 {
+    let mut ok = true;
     let mut row = 0;
     while row < rows {
         let entry = store::index_at(w, places, row, entries);
         let d = f[values + entry];
+        ok = ok & (is_positive(d) & float::is_finite(1.0 / d));
+        f[diagonal + row] = d;
+        f[inverse + row] = 1.0 / d;
+        row += 1;
+    }
+    ok
+}
+
+// Questions 12 and 13, row by row, of the diagonal that is written: which row fails first.
+fn ask_rows(f: &[f64], rows: usize, diagonal: usize, level: u64) -> Verdict
+    requires { ⌜ diagonal + rows ≤ length (now f) ⌝ }
+    ensures { λ r. ⌜ RowsAsked level rows diagonal (now (f .entry)) r ⌝ }
+{
+    let mut row = 0;
+    while row < rows {
+        let d = f[diagonal + row];
         if is_positive(d) {
-            f[diagonal + row] = d;
-            f[inverse + row] = 1.0 / d;
             if float::is_finite(1.0 / d) {
                 row += 1;
             } else {
@@ -63,6 +78,29 @@ fn update_rows(
         }
     }
     Verdict::Passed
+}
+
+// The diagonal and its reciprocals: questions 12 and 13, row by row. Rows are asked one by one only where one of them fails.
+fn update_rows(
+    w: &[u32],
+    f: &mut [f64],
+    rows: usize,
+    entries: usize,
+    places: usize,
+    values: usize,
+    diagonal: usize,
+    inverse: usize,
+    level: u64,
+) -> Verdict
+    requires { ⌜ EntriesOk (now w) (length (now f)) rows entries places values diagonal ⌝ }
+    requires { ⌜ diagonal + rows ≤ inverse ⌝ }
+    requires { ⌜ inverse + rows ≤ length (now f) ⌝ }
+    ensures { λ r. ⌜ RowsUpdated (now (w .entry)) rows entries places values (now (f .entry)) level diagonal inverse (now (f .exit)) r ⌝ }
+{
+    if settle_rows(w, f, rows, entries, places, values, diagonal, inverse) {
+        return Verdict::Passed;
+    }
+    ask_rows(f, rows, diagonal, level)
 }
 
 // The faces' values, copied without a test: their finiteness is asked of the whole image.

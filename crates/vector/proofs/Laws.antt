@@ -1,7 +1,7 @@
 -- The turns of the loops of `dot_block`, `dot_sum` and `all_finite` as the code has them.
 -- Assumes nothing.
 use mathlib.Core.Path.{_≡_, refl, sym, ap, _∙_}
-use mathlib.Core.Bool.{Bool, true, false}
+use mathlib.Core.Bool.{Bool, true, false, _&&_}
 use mathlib.Core.List.{List}
 use Prim.Native.Nat.{ℕ, suc, _+_, _*_, _/_, _≤_, _<_, min, zero-le}
 use native.Mathlib.Omega.{arith}
@@ -13,7 +13,7 @@ use Rattle.store.specs.Region.{at, part}
 use Rattle.store.specs.Vector.{each}
 use Rattle.store.proofs.Loop.{Left, left-start, left-on, left-end, for-count}
 use Rattle.store.proofs.Region.{getD-part}
-use Rattle.store.proofs.Each.{Passed, each-same, passed-start, passed-on, passed-no, passed-yes}
+use Rattle.store.proofs.Each.{Tested, each-same, tested-start, tested-on, tested-done}
 use Rattle.vector.specs.declared.Product.{Product}
 use Rattle.vector.specs.declared.Product.the-variants.{Finite, NotFinite}
 use Rattle.vector.specs.declared.Sums.{Sums}
@@ -124,19 +124,16 @@ finite-part : (F : List Float) (x n : ℕ) → each (λ k. isFinite (at F (x + k
 unfolding allFinite
 finite-part F x n = each-same _ _ n (λ k h. simp getD-part)
 
--- The invariant of `all_finite`: the first k of the n elements at x are finite.
-pub record Finites (F : List Float) (x n k : ℕ) : Type 0 where
-  pub passed : Passed (λ i. isFinite (at F (x + i))) n k
+-- The invariant of `all_finite`: ok tells whether the first k of the n elements at x are finite.
+pub record Finites (F : List Float) (x n k : ℕ) (ok : Bool) : Type 0 where
+  pub tested : Tested (λ i. isFinite (at F (x + i))) n k ok
 
-pub finites-start : (F : List Float) (x n : ℕ) → Finites F x n 0
-finites-start F x n = record { passed = passed-start _ n }
+pub finites-start : (F : List Float) (x n : ℕ) → Finites F x n 0 true
+finites-start F x n = record { tested = tested-start _ n }
 
-pub finites-on : {F : List Float} {x n k : ℕ} {r : Bool} → Finites F x n k → k < n → r ≡ isFinite (at F (x + k)) → r ≡ true → Finites F x n (k + 1)
-finites-on p h e t = record { passed = passed-on (p .passed) h e t }
+pub finites-on : {F : List Float} {x n k : ℕ} {ok r : Bool} → Finites F x n k ok → k < n → r ≡ isFinite (at F (x + k)) → Finites F x n (k + 1) (ok && r)
+finites-on t h e = record { tested = tested-on (t .tested) h e }
 
--- It ends with the definition's answer, at an element that is not finite or past the last.
-pub finites-no : (F : List Float) (x n k : ℕ) (r : Bool) → k < n → r ≡ isFinite (at F (x + k)) → r ≡ false → false ≡ allFinite n (part x n F)
-finites-no F x n k r h e f = passed-no _ n k r h e f ∙ finite-part F x n
-
-pub finites-yes : {F : List Float} {x n k : ℕ} → Finites F x n k → n ≤ k → true ≡ allFinite n (part x n F)
-finites-yes {F} {x} {n} p h = passed-yes (p .passed) h ∙ finite-part F x n
+-- It ends with the definition's answer.
+pub finites-done : {F : List Float} {x n k : ℕ} {ok : Bool} → Finites F x n k ok → n ≤ k → ok ≡ allFinite n (part x n F)
+finites-done {F} {x} {n} t h = tested-done (t .tested) h ∙ finite-part F x n

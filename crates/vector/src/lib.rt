@@ -132,18 +132,16 @@ pub fn norm_l2(f: &[f64], a: usize, n: usize) -> Product
     }
 }
 
-// Whether each of the n elements at x is finite.
+// Whether each of the n elements at x is finite. No branch leaves the loop, so that it takes several elements at once.
 pub fn all_finite(f: &[f64], n: usize, x: usize) -> bool
     requires { ⌜ x + n ≤ length (now f) ⌝ }
     ensures { λ r. ⌜ r ≡ allFinite n (part x n (now (f .entry))) ⌝ }
 {
+    let mut ok = true;
     let mut k = 0;
     while k < n {
-        if float::is_finite(f[x + k]) {
-            k += 1;
-        } else {
-            return false;
-        }
+        ok = ok & float::is_finite(f[x + k]);
+        k += 1;
     }
-    true
+    ok
 }

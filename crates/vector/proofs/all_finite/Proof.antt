@@ -1,17 +1,17 @@
--- `vector::all_finite` meets its contract. The loop's invariant: each element passed is finite.
+-- `vector::all_finite` meets its contract. The loop's invariant: the answer so far is that of the elements passed.
 -- Assumes nothing.
 use Prim.Native.Nat.{_-_}
 use native.Mathlib.Omega.{arith}
 use borrow.Author.Needs.{needs}
-use Rattle.vector.proofs.Laws.{Finites, finites-start, finites-on, finites-no, finites-yes}
+use Rattle.vector.proofs.Laws.{Finites, finites-start, finites-on, finites-done}
 use Rattle.vector.proofs.all_finite.Statement.{statement}
 use Rattle.vector.proofs.all_finite.Tie as tie
 
 abbrev Inv-loop : tie.InvT-loop
-Inv-loop f n x k₀ k = Finites f x n k
+Inv-loop f n x ok₀ k₀ ok k = Finites f x n k ok
 
 abbrev μ-loop : tie.MeasureT-loop
-μ-loop f n x k₀ k = n - k
+μ-loop f n x ok₀ k₀ ok k = n - k
 
 loop-holds : tie.Need-loop-holds Inv-loop μ-loop
 loop-holds c = finites-start _ _ _
@@ -20,10 +20,7 @@ loop-again : tie.Need-loop-again Inv-loop μ-loop
 loop-again c = search (finites-on)
 
 returns : tie.Need-returns Inv-loop μ-loop
-returns c = search (finites-no)
-
-returns-2 : tie.Need-returns-2 Inv-loop μ-loop
-returns-2 c = search (finites-yes)
+returns c = search (finites-done)
 
 pub all-finite-spec : {M : Type 1} → statement M
 all-finite-spec =
@@ -39,5 +36,4 @@ all-finite-spec =
     (λ c. omega arith)
     (λ c. omega arith)
     loop-again
-    returns
-    returns-2)
+    returns)

@@ -1,17 +1,17 @@
--- `values::symmetry::equal_mirrors` meets its contract. The loop's invariant: each pair passed agrees.
+-- `values::symmetry::equal_mirrors` meets its contract. The loop's invariant: the answer so far is that of the pairs passed.
 -- Assumes nothing.
 use Prim.Native.Nat.{_-_}
-use Rattle.values.proofs.Mirrors.{up-of, low-of, Agreed, agreed-start, agreed-on, agreed-no, agreed-yes}
+use Rattle.values.proofs.Mirrors.{up-of, low-of, Agreed, agreed-start, agreed-on, agreed-done}
 use native.Mathlib.Omega.{arith}
 use borrow.Author.Needs.{needs}
 use Rattle.values.proofs.symmetry.equal_mirrors.Statement.{statement}
 use Rattle.values.proofs.symmetry.equal_mirrors.Tie as tie
 
 abbrev Inv-loop : tie.InvT-loop
-Inv-loop w values faces upper lower count face₀ face = Agreed w values upper lower faces face
+Inv-loop w values faces upper lower count ok₀ face₀ ok face = Agreed w values upper lower faces face ok
 
 abbrev μ-loop : tie.MeasureT-loop
-μ-loop w values faces upper lower count face₀ face = faces - face
+μ-loop w values faces upper lower count ok₀ face₀ ok face = faces - face
 
 loop-holds : tie.Need-loop-holds Inv-loop μ-loop
 loop-holds c = agreed-start _ _ _ _ _
@@ -26,10 +26,7 @@ loop-again : tie.Need-loop-again Inv-loop μ-loop
 loop-again c = search (agreed-on)
 
 returns : tie.Need-returns Inv-loop μ-loop
-returns c = search (agreed-no)
-
-returns-2 : tie.Need-returns-2 Inv-loop μ-loop
-returns-2 c = search (agreed-yes)
+returns c = search (agreed-done)
 
 pub equal-mirrors-spec : {M : Type 1} → statement M
 equal-mirrors-spec =
@@ -48,5 +45,4 @@ equal-mirrors-spec =
     (λ c. omega arith)
     (λ c. omega arith)
     loop-again
-    returns
-    returns-2)
+    returns)
