@@ -15,16 +15,18 @@ use Rattle.store.specs.Region.{at, idx, part, splice, Wrote}
 use Rattle.store.specs.Vector.{tab}
 use Rattle.store.proofs.Loop.{for-map, Left, left-on, left-end, left-stop}
 use Rattle.store.proofs.Region.{length-part, getD-part, getD-splice-in, getD-splice-below, set-splice, splice-part, wrote, wrote-at, wrote-off, wrote-again, kept-wrote}
-use Rattle.store.proofs.Vector.{for-tab}
+use Rattle.store.proofs.Vector.{length-tab, getD-tab, tab-same, for-each}
+use Rattle.store.proofs.Each.{each-at}
 use Rattle.refusal.specs.declared.Refusal.{Refusal}
 use Rattle.refusal.specs.declared.Verdict.{Verdict}
-use Rattle.refusal.specs.Outcome.{Outcome, accepted, refused, askEach, askFrom}
-use Rattle.refusal.proofs.Outcome.{each-step, each-stop, each-done}
+use Rattle.refusal.specs.Outcome.{Outcome, accepted, refused, passed, ask, askEach, askFrom}
+use Rattle.refusal.proofs.Outcome.{each-step, each-stop, each-done, each-all, each-alike}
+use Rattle.vector.specs.Dot.{allFinite}
 use Rattle.matrix.specs.declared.SymmetricMatrix.{SymmetricMatrix}
 use Rattle.matrix.specs.Kernel.{Kernel, kernelAt}
 use Rattle.matrix.proofs.Kernel.{kernel-kept}
 use Rattle.sweeps.specs.Sweep.{eachFace}
-use Rattle.dic.specs.Dic.{isPivot, pivotFace, pivotRow, pivotsOf, reciprocalAsked, reciprocalsOf, dicOf, DicOk, settled, Settled}
+use Rattle.dic.specs.Dic.{isPivot, pivotFace, pivotRow, pivotsOf, reciprocalAsked, invertedOf, reciprocalsOf, dicOf, DicOk, settled, Settled, ReciprocalsAsked}
 use Rattle.dic.specs.Turns.{pivotTurn, PivotRowed}
 
 -- ---- the pivots
@@ -115,83 +117,84 @@ pivots-done p h = record { held = p .vector; wrote = p .wrote; is = sym (left-en
 
 -- ---- the reciprocals
 
--- the reciprocal of element k
-abbrev inverted : List Float → ℕ → Float
-inverted v k = div64 one64 (at v k)
+-- a turn of `invert`
+unfoldable pub invertTurn : ℕ → ℕ → List Float → List Float
+invertTurn d k F = set F (d + k) (div64 one64 (at F (d + k)))
 
--- The invariant of the loop: the questions and the elements that are left.
-pub record Inverting (level n d row : ℕ) (F G : List Float) : Type 0 where
-  pub vector : List Float
-  pub wrote : Wrote d n vector F G
-  pub left : Left (λ k u. set u k (inverted (part d n F) k)) row n vector (tab (inverted (part d n F)) n)
-  pub still : (k : ℕ) → row ≤ k → at vector k ≡ at (part d n F) k
-  pub asked : (rest : Outcome (List Float)) → askEach n (reciprocalAsked level (part d n F)) rest ≡ askFrom row n (reciprocalAsked level (part d n F)) rest
+-- Its loop leaves the reciprocals.
+pub invert-done : {F G : List Float} {n d k : ℕ} → Left (invertTurn d) k n G (for (invertTurn d) 0 n F) → n ≤ k
+    → Wrote d n (invertedOf n (part d n F)) F G
+unfolding invertTurn
+invert-done {F} {G} {n} {d} {k} l h =
+    wrote (left-end l h
+    ∙ for-each d n F (λ k G. div64 one64 (at G (d + k))) (λ k b G same. rw (same (d + k) nan (omega arith)))
+    ∙ ap (λ (v : List Float). splice d v F) (tab-same _ _ n (λ k b. simp getD-part))) (length-tab _ n)
 
--- At the start they are the pivots.
-pub inverting-start : {level n d : ℕ} {F : List Float} → d + n ≤ length F → Inverting level n d 0 F F
-inverting-start {level} {n} {d} {F} h =
-    let long : length (part d n F) ≡ n = length-part d n F h in
-    record {
-      vector = part d n F;
-      wrote = wrote (sym (splice-part d n F)) long;
-      left = record { gives = for-tab (inverted (part d n F)) n (part d n F) long };
-      still = λ k _. refl;
-      asked = λ rest. refl;
-    }
+module _ (level n d : ℕ) (F : List Float) where
+  -- the question of a reciprocal that is written
+  abbrev asks : ℕ → Outcome Unit
+  asks row = ask (isFinite (at F (d + row))) (Refusal.BadDicReciprocal level row) passed
 
-module _ {level n d row : ℕ} {F G : List Float} (p : Inverting level n d row F G) (fits : d + n ≤ length F) (h : row < n) where
-  -- what the code writes
-  abbrev new : Float
-  new = div64 one64 (at G (d + row))
+  -- The invariant of the questions: those from `row` on are what is left.
+  pub record Asking (row : ℕ) : Type 0 where
+    pub left : (v : List Float) → askEach n asks (accepted v) ≡ askFrom row n asks (accepted v)
 
-  new-is : new ≡ inverted (part d n F) row
-  new-is =
-      let l = p .wrote .long in
-      let b : row < length (p .vector) = omega arith in
-      let i : d + row < length F = omega arith in
-      rw (p .wrote .is, getD-splice-in d (p .vector) F row nan b i, p .still row (omega arith))
+  -- At the start all are left.
+  pub asking-start : Asking 0
+  asking-start = record { left = λ v. refl }
 
-  written : Wrote d n (set (p .vector) row (inverted (part d n F) row)) F (set G (d + row) new)
-  written =
-      let l = p .wrote .long in
-      let b : row < length (p .vector) = omega arith in
-      wrote (rw (new-is, p .wrote .is) (set-splice d (p .vector) F row _ b)) (length-set (p .vector) row _ ∙ p .wrote .long)
+  -- All have passed.
+  pub asking-done : {row : ℕ} → Asking row → n ≤ row → ReciprocalsAsked level n d F Verdict.Passed
+  unfolding settled
+  asking-done {row} a h = record { asked = λ v. a .left v ∙ each-done row n asks (accepted v) h }
 
-  module _ {r : Bool} (e : r ≡ isFinite new) where
+  module _ {row : ℕ} {r : Bool} (a : Asking row) (h : row < n) (e : r ≡ isFinite (at F (d + row))) where
     -- A reciprocal that is finite: the next row.
-    pub inverting-on : r ≡ true → Inverting level n d (row + 1) F (set G (d + row) new)
-    inverting-on t =
-        let good : isFinite (inverted (part d n F) row) ≡ true = rw new-is at (sym e ∙ t) in
-        record {
-          vector = set (p .vector) row (inverted (part d n F) row);
-          wrote = written;
-          left = left-on (p .left) h refl;
-          still = λ k b. getD-set-other (p .vector) row k _ nan (λ z. absurd (omega arith)) ∙ p .still k (omega arith);
-          asked = λ rest. p .asked rest ∙ each-step row n (reciprocalAsked level (part d n F)) rest h (rw good);
-        }
+    pub asking-on : r ≡ true → Asking (row + 1)
+    asking-on t =
+        let good : isFinite (at F (d + row)) ≡ true = sym e ∙ t in
+        record { left = λ v. a .left v ∙ each-step row n asks (accepted v) h (rw good) }
 
     -- Question 17 refuses.
-    pub inverting-no : r ≡ false
-        → Settled d n (reciprocalsOf level n (part d n F)) F (set G (d + row) new) (Verdict.Refused (Refusal.BadDicReciprocal level row))
-    unfolding reciprocalsOf settled
-    inverting-no t =
-        let bad : isFinite (inverted (part d n F) row) ≡ false = rw new-is at (sym e ∙ t) in
-        record {
-          held = set (p .vector) row (inverted (part d n F) row);
-          wrote = written;
-          is = p .asked _ ∙ each-stop row n (reciprocalAsked level (part d n F)) _ h (rw bad);
-        }
+    pub asking-no : r ≡ false → ReciprocalsAsked level n d F (Verdict.Refused (Refusal.BadDicReciprocal level row))
+    unfolding settled
+    asking-no t =
+        let bad : isFinite (at F (d + row)) ≡ false = sym e ∙ t in
+        record { asked = λ v. a .left v ∙ each-stop row n asks (accepted v) h (rw bad) }
 
--- Every reciprocal is finite.
-pub inverting-done : {level n d row : ℕ} {F G : List Float} → Inverting level n d row F G → n ≤ row
-    → Settled d n (reciprocalsOf level n (part d n F)) F G Verdict.Passed
-unfolding reciprocalsOf settled
-inverting-done {level} {n} {d} {row} {F} {G} p h =
-    record {
-      held = p .vector;
-      wrote = p .wrote;
-      is = p .asked _ ∙ each-done row n (reciprocalAsked level (part d n F)) _ h ∙ ap accepted (sym (left-end (p .left) h));
-    }
+module _ {n d : ℕ} {F G : List Float} (fits : d + n ≤ length F) (c : Wrote d n (invertedOf n (part d n F)) F G) where
+  -- What is written at a row is its reciprocal.
+  inverted-at : (k : ℕ) → k < n → at G (d + k) ≡ div64 one64 (at (part d n F) k)
+  inverted-at k h =
+      let i : d + k < length F = omega arith in
+      let b : k < length (invertedOf n (part d n F)) = rw (length-tab (λ row. div64 one64 (at (part d n F) row)) n) h in
+      rw (c .is) (simp (getD-splice-in, getD-tab))
+
+  -- Every reciprocal is finite.
+  pub reciprocals-good : (level : ℕ) {r : Bool} → r ≡ allFinite n (part d n G) → r ≡ true
+      → Settled d n (reciprocalsOf level n (part d n F)) F G Verdict.Passed
+  unfolding reciprocalsOf settled allFinite
+  reciprocals-good level {r} e t = record {
+    held = invertedOf n (part d n F);
+    wrote = c;
+    is = each-all (reciprocalAsked level (part d n F)) _ n
+        (λ k h.
+        let fine : isFinite (at (part d n G) k) ≡ true = each-at _ n (sym e ∙ t) k h in
+        let same : at (part d n G) k ≡ div64 one64 (at (part d n F) k) = getD-part d n G k nan h ∙ inverted-at k h in
+        let good : isFinite (div64 one64 (at (part d n F) k)) ≡ true = rw same at fine in
+        rw good);
+  }
+
+  -- Else the questions, asked one by one, give the verdict.
+  pub reciprocals-asked : {level : ℕ} {r : Verdict} → ReciprocalsAsked level n d G r → Settled d n (reciprocalsOf level n (part d n F)) F G r
+  unfolding reciprocalsOf
+  reciprocals-asked {level} {r} a = record {
+    held = invertedOf n (part d n F);
+    wrote = c;
+    is = each-alike (reciprocalAsked level (part d n F)) _ (asks level n d G) n
+        (λ k h. ap (λ (x : Float). ask (isFinite x) (Refusal.BadDicReciprocal level k) passed) (sym (inverted-at k h)))
+        ∙ a .asked (invertedOf n (part d n F));
+  }
 
 -- ---- the ways out
 

@@ -43,10 +43,14 @@ abbrev pub reciprocalAsked : ℕ → List Float → ℕ → Outcome Unit
 reciprocalAsked level d row = ask (isFinite (div64 one64 (at d row))) (Refusal.BadDicReciprocal level row) passed
 
 -- the reciprocals of n pivots
+abbrev pub invertedOf : ℕ → List Float → List Float
+invertedOf n d = tab (λ row. div64 one64 (at d row)) n
+
+-- the same with question 17
 unfoldable pub reciprocalsOf : ℕ → ℕ → List Float → Outcome (List Float)
 reciprocalsOf level n d = do
   askEach n (reciprocalAsked level d)
-  accepted (tab (λ row. div64 one64 (at d row)) n)
+  accepted (invertedOf n d)
 
 -- `update_dic_diagonal`: the reciprocals of the pivots, which have all been asked by then
 unfoldable pub dicOf : ℕ → Kernel → Outcome (List Float)
@@ -70,3 +74,8 @@ pub record Settled (b n : ℕ) (o : Outcome (List Float)) (F G : List Float) (r 
   pub held : List Float
   pub wrote : Wrote b n held F G
   pub is : o ≡ settled r held
+
+-- the verdict on n reciprocals that stand in F at d decides how the questions go on
+pub record ReciprocalsAsked (level n d : ℕ) (F : List Float) (r : Verdict) : Type 0 where
+  pub asked : (v : List Float)
+      → askEach n (λ row. ask (isFinite (at F (d + row))) (Refusal.BadDicReciprocal level row) passed) (accepted v) ≡ settled r v

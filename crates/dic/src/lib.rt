@@ -2,11 +2,11 @@
 ghost use mathlib.Core.Path.{_≡_};
 ghost use Prim.Native.Nat.{_+_, _<_, _≤_};
 ghost use lib.ListN.{length};
-ghost use Rattle.store.specs.Region.{part};
+ghost use Rattle.store.specs.Region.{part, Wrote};
 ghost use Rattle.matrix.specs.Kernel.{kernelAt};
 ghost use Rattle.matrix.specs.Turns.{FacesOk};
 ghost use Rattle.sweeps.specs.Turns.{Ran};
-ghost use Rattle.dic.specs.Dic.{isPivot, pivotsOf, reciprocalsOf, dicOf, DicOk, Settled};
+ghost use Rattle.dic.specs.Dic.{isPivot, pivotsOf, invertedOf, reciprocalsOf, dicOf, DicOk, Settled, ReciprocalsAsked};
 ghost use Rattle.dic.specs.Turns.{pivotTurn, PivotRowed};
 use matrix::SymmetricMatrix;
 use refusal::Refusal;
@@ -77,16 +77,26 @@ fn dic_pivots(w: &[u32], f: &mut [f64], s: SymmetricMatrix, d: usize, level: u64
     Verdict::Passed
 }
 
-// The reciprocal of each pivot, and question 17.
-fn dic_reciprocals(f: &mut [f64], rows: usize, d: usize, level: u64) -> Verdict
+// The reciprocal of each pivot, in its place.
+fn invert(f: &mut [f64], rows: usize, d: usize)
     requires { ⌜ d + rows ≤ length (now f) ⌝ }
-    ensures { λ r. ⌜ Settled d rows (reciprocalsOf level rows (part d rows (now (f .entry)))) (now (f .entry)) (now (f .exit)) r ⌝ }
+    ensures { λ _. ⌜ Wrote d rows (invertedOf rows (part d rows (now (f .entry)))) (now (f .entry)) (now (f .exit)) ⌝ }
 {
     let mut row = 0;
     while row < rows {
-        let inverse = 1.0 / f[d + row];
-        f[d + row] = inverse;
-        if float::is_finite(inverse) {
+        f[d + row] = 1.0 / f[d + row];
+        row += 1;
+    }
+}
+
+// Question 17, row by row, of the reciprocals that are written: which row fails first.
+fn ask_reciprocals(f: &[f64], rows: usize, d: usize, level: u64) -> Verdict
+    requires { ⌜ d + rows ≤ length (now f) ⌝ }
+    ensures { λ r. ⌜ ReciprocalsAsked level rows d (now (f .entry)) r ⌝ }
+{
+    let mut row = 0;
+    while row < rows {
+        if float::is_finite(f[d + row]) {
             row += 1;
         } else {
             return Verdict::Refused(Refusal::BadDicReciprocal {
@@ -96,6 +106,18 @@ fn dic_reciprocals(f: &mut [f64], rows: usize, d: usize, level: u64) -> Verdict
         }
     }
     Verdict::Passed
+}
+
+// The reciprocals, and question 17. Rows are asked one by one only where one of them fails.
+fn dic_reciprocals(f: &mut [f64], rows: usize, d: usize, level: u64) -> Verdict
+    requires { ⌜ d + rows ≤ length (now f) ⌝ }
+    ensures { λ r. ⌜ Settled d rows (reciprocalsOf level rows (part d rows (now (f .entry)))) (now (f .entry)) (now (f .exit)) r ⌝ }
+{
+    invert(f, rows, d);
+    if vector::all_finite(f, rows, d) {
+        return Verdict::Passed;
+    }
+    ask_reciprocals(f, rows, d, level)
 }
 
 // The reciprocal pivots of the incomplete factor, at d. Where it refuses, some of them may have been written.

@@ -1,0 +1,47 @@
+-- `dic::invert` meets its contract. The loop's invariant: what is left to do from here gives what the whole gives.
+-- Assumes nothing.
+use borrow.Author.Needs.{needs}
+use native.Mathlib.Omega.{arith}
+use mathlib.Core.Path.{_≡_, refl}
+use Prim.Native.Nat.{_-_}
+use lib.ListN.{length}
+use Rattle.store.specs.Loop.{for}
+use Rattle.store.proofs.Loop.{Left, left-start, left-on}
+use Rattle.dic.proofs.Dic.{invertTurn, invert-done}
+use Rattle.dic.proofs.invert.Statement.{statement}
+use Rattle.dic.proofs.invert.Tie as tie
+
+abbrev Inv-loop : tie.InvT-loop
+Inv-loop f₀ rows d row₀ f row = (length f ≡ length f₀) × Left (invertTurn d) row rows f (for (invertTurn d) 0 rows f₀)
+
+abbrev μ-loop : tie.MeasureT-loop
+μ-loop f₀ rows d row₀ f row = rows - row
+
+loop-holds : tie.Need-loop-holds Inv-loop μ-loop
+loop-holds c = (refl, left-start)
+
+loop-again : tie.Need-loop-again Inv-loop μ-loop
+unfolding invertTurn
+loop-again c = search (left-on, needs)
+
+returns : tie.Need-returns Inv-loop μ-loop
+returns c = search (invert-done)
+
+pub invert-spec : {M : Type 1} → statement M
+invert-spec =
+    tie.close
+    (tie.spec
+    Inv-loop
+    μ-loop
+    loop-holds
+    (λ c. omega arith)
+    (λ c. omega arith)
+    (λ c. omega arith)
+    (λ c. omega arith)
+    (λ c. omega arith)
+    (λ c. omega arith)
+    (λ c. omega arith)
+    (λ c. omega arith)
+    loop-again
+    (λ c. omega arith)
+    returns)
