@@ -86,28 +86,29 @@ module _ {w : List ℕ} (F : List Float) {s : SymmetricMatrix} {d : ℕ} (ok : D
         let i : d + row < length F = omega (arith, ok .fits) in
         rw (p .wrote .is) (getD-splice-in d (p .vector) F row nan b i)
 
-    module _ {r : Bool} (e : r ≡ isPivot (at G (d + row))) where
-      -- A pivot that is good goes to the row's neighbours.
-      pub pivots-on : {H : List Float} → r ≡ true → PivotRowed w s d row (at G (d + row)) G H → Pivoting level w s d (row + 1) F H
-      unfolding pivotRow
-      pivots-on {H} t c =
-          let good : isPivot (at (p .vector) row) ≡ true = rw read at (sym e ∙ t) in
-          let law = row-turn (at (p .vector) row) row h (p .vector) (p .wrote .long) in
-          let is : H ≡ for (pivotTurn w (s .neighbors) (s .coefficients) d (at (p .vector) row)) (idx w (s .offsets + row)) (idx w (s .offsets + row + 1)) (splice d (p .vector) F) =
-          rw (read, p .wrote .is) at (c .is) in
-          record {
-            vector = eachFace here row (pivotFace here (at (p .vector) row)) (p .vector);
-            wrote = wrote (is ∙ law .1) (law .0);
-            left = left-on (p .left) h (rw good);
-          }
+    -- A pivot that is good goes to the row's neighbours.
+    pub pivots-on : {H : List Float} {pivot next : Float} {r : Bool} → PivotRowed w s d row pivot G H next → pivot ≡ at G (d + row) → r ≡ isPivot pivot → r ≡ true
+        → Pivoting level w s d (row + 1) F H
+    unfolding pivotRow
+    pivots-on {H} {pivot} c is e t =
+        let good : isPivot (at (p .vector) row) ≡ true = rw (is, read) at (sym e ∙ t) in
+        let law = row-turn (at (p .vector) row) row h (p .vector) (p .wrote .long) in
+        let made : H ≡ for (pivotTurn w (s .neighbors) (s .coefficients) d (at (p .vector) row)) (idx w (s .offsets + row)) (idx w (s .offsets + row + 1)) (splice d (p .vector) F) =
+        rw (is, read, p .wrote .is) at (c .is) in
+        record {
+          vector = eachFace here row (pivotFace here (at (p .vector) row)) (p .vector);
+          wrote = wrote (made ∙ law .1) (law .0);
+          left = left-on (p .left) h (rw good);
+        }
 
-      -- Question 16 refuses.
-      pub pivots-no : r ≡ false → Settled d (s .rows) (pivotsOf level here) F G (Verdict.Refused (Refusal.BadDicPivot level row))
-      unfolding pivotRow settled
-      pivots-no t =
-          let bad : isPivot (at (p .vector) row) ≡ false = rw read at (sym e ∙ t) in
-          let stop : refused (Refusal.BadDicPivot level row) ≡ pivotRow level here row (accepted (p .vector)) = rw bad in
-          record { held = p .vector; wrote = p .wrote; is = sym (left-stop (p .left) h stop (λ j. refl)) }
+    -- Question 16 refuses.
+    pub pivots-no : {pivot : Float} {r : Bool} → pivot ≡ at G (d + row) → r ≡ isPivot pivot → r ≡ false
+        → Settled d (s .rows) (pivotsOf level here) F G (Verdict.Refused (Refusal.BadDicPivot level row))
+    unfolding pivotRow settled
+    pivots-no is e t =
+        let bad : isPivot (at (p .vector) row) ≡ false = rw (is, read) at (sym e ∙ t) in
+        let stop : refused (Refusal.BadDicPivot level row) ≡ pivotRow level here row (accepted (p .vector)) = rw bad in
+        record { held = p .vector; wrote = p .wrote; is = sym (left-stop (p .left) h stop (λ j. refl)) }
 
 -- Every pivot is good.
 pub pivots-done : {level : ℕ} {w : List ℕ} {s : SymmetricMatrix} {d row : ℕ} {F G : List Float} → Pivoting level w s d row F G → s .rows ≤ row

@@ -4,21 +4,21 @@ use mathlib.Core.Path.{_≡_, _∙_}
 use mathlib.Core.List.{List}
 use Prim.Native.Nat.{ℕ, _+_, _≤_, _<_}
 use native.Mathlib.Omega.{arith}
-use lib.ListN.{set}
 use lib.Ieee.{Float}
 use Rattle.float.specs.Float.{sub64, mul64, div64}
-use Rattle.store.specs.Region.{at, idx}
+use Rattle.store.specs.Region.{at, idx, Put}
 use Rattle.matrix.specs.declared.SymmetricMatrix.{SymmetricMatrix}
 use Rattle.matrix.specs.Turns.{FacesOk}
-use Rattle.sweeps.specs.Turns.{Ran}
+use Rattle.sweeps.specs.Turns.{Watched}
 use Rattle.dic.specs.Dic.{DicOk}
 use Rattle.dic.specs.Turns.{pivotTurn, PivotRowed}
 
 -- A face that takes a pivot to its neighbour.
-pub pivot-on : (w : List ℕ) (neighbors coefficients : ℕ) (F : List Float) (d e j : ℕ) (pivot : Float) → j ≡ idx w (neighbors + e)
-    → set F (d + j) (sub64 (at F (d + j)) (div64 (mul64 (at F (coefficients + e)) (at F (coefficients + e))) pivot)) ≡ pivotTurn w neighbors coefficients d pivot e F
+pub pivot-put : (w : List ℕ) (neighbors coefficients d e j watched : ℕ) (F G : List Float) (pivot r : Float) → j ≡ idx w (neighbors + e)
+    → Put (d + j) (sub64 (at F (d + j)) (div64 (mul64 (at F (coefficients + e)) (at F (coefficients + e))) pivot)) watched F G r
+    → G ≡ pivotTurn w neighbors coefficients d pivot e F
 unfolding pivotTurn
-pivot-on w neighbors coefficients F d e j pivot h = rw h
+pivot-put w neighbors coefficients d e j watched F G pivot r h c = c .is ∙ rw h
 
 -- The layout holds in a store of the same size.
 pub dic-resize : {w : List ℕ} {size size' d : ℕ} {s : SymmetricMatrix} → DicOk w size s d → size' ≡ size → DicOk w size' s d
@@ -33,7 +33,7 @@ faces-pivot {w} {size} {d} {row} {hi} {s} ok h e =
     record { columns = omega arith; faces = omega arith; xs = omega arith; outs = omega arith; near = λ j l. k .near j (omega arith) }
 
 -- The faces of one row.
-pub pivot-rowed : (w : List ℕ) (s : SymmetricMatrix) (d row lo hi : ℕ) (pivot : Float) (F G : List Float)
+pub pivot-rowed : (w : List ℕ) (s : SymmetricMatrix) (d row lo hi : ℕ) (pivot r : Float) (F G : List Float)
     → lo ≡ idx w (s .offsets + row) → hi ≡ idx w (s .offsets + row + 1)
-    → Ran (pivotTurn w (s .neighbors) (s .coefficients) d pivot) lo hi F G → PivotRowed w s d row pivot F G
-pivot-rowed w s d row lo hi pivot F G a b c = record { is = c .is ∙ rw (a, b) }
+    → Watched (pivotTurn w (s .neighbors) (s .coefficients) d pivot) lo hi F G (d + (row + 1)) r → PivotRowed w s d row pivot F G r
+pivot-rowed w s d row lo hi pivot r F G a b c = record { is = c .is ∙ rw (a, b); next = c .held }

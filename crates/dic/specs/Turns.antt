@@ -15,6 +15,7 @@ pivotTurn w neighbors coefficients d pivot e F =
     let j = idx w (neighbors + e) in
     set F (d + j) (sub64 (at F (d + j)) (div64 (squareOf (at F (coefficients + e))) pivot))
 
--- what the faces of one row make of the pivots
-pub record PivotRowed (w : List ℕ) (s : SymmetricMatrix) (d row : ℕ) (pivot : Float) (F G : List Float) : Type 0 where
+-- what the faces of one row make of the pivots, and the next row's
+pub record PivotRowed (w : List ℕ) (s : SymmetricMatrix) (d row : ℕ) (pivot : Float) (F G : List Float) (r : Float) : Type 0 where
   pub is : G ≡ for (pivotTurn w (s .neighbors) (s .coefficients) d pivot) (idx w (s .offsets + row)) (idx w (s .offsets + row + 1)) F
+  pub next : r ≡ at G (d + (row + 1))

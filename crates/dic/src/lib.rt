@@ -2,10 +2,10 @@
 ghost use mathlib.Core.Path.{_≡_};
 ghost use Prim.Native.Nat.{_+_, _<_, _≤_};
 ghost use lib.ListN.{length};
-ghost use Rattle.store.specs.Region.{part, Wrote};
+ghost use Rattle.store.specs.Region.{at, part, Wrote};
 ghost use Rattle.matrix.specs.Kernel.{kernelAt};
 ghost use Rattle.matrix.specs.Turns.{FacesOk};
-ghost use Rattle.sweeps.specs.Turns.{Ran};
+ghost use Rattle.sweeps.specs.Turns.{Watched};
 ghost use Rattle.dic.specs.Dic.{isPivot, pivotsOf, invertedOf, reciprocalsOf, dicOf, DicOk, Settled, ReciprocalsAsked};
 ghost use Rattle.dic.specs.Turns.{pivotTurn, PivotRowed};
 use matrix::SymmetricMatrix;
@@ -19,7 +19,8 @@ fn is_pivot(d: f64) -> bool
     float::is_finite(d) & !(d <= 0.0)
 }
 
-// A row's pivot, taken to the neighbours of its faces from lo to hi.
+// A row's pivot, taken to the neighbours of its faces from lo to hi. The answer is what then stands at `watched`, where
+// `held` stood.
 fn pivot_faces(
     w: &[u32],
     f: &mut [f64],
@@ -30,28 +31,49 @@ fn pivot_faces(
     coefficients: usize,
     d: usize,
     pivot: f64,
-)
+    watched: usize,
+    held: f64,
+) -> f64
     requires { ⌜ FacesOk (now w) (length (now f)) rows hi neighbors coefficients d d ⌝ }
-    ensures { λ _. ⌜ Ran (pivotTurn (now (w .entry)) neighbors coefficients d pivot) lo hi (now (f .entry)) (now (f .exit)) ⌝ }
+    requires { ⌜ held ≡ at (now f) watched ⌝ }
+    ensures { λ r. ⌜ Watched (pivotTurn (now (w .entry)) neighbors coefficients d pivot) lo hi (now (f .entry)) (now (f .exit)) watched r ⌝ }
 {
+    let mut next = held;
     let mut face = lo;
     while face < hi {
         let neighbor = store::index_at(w, neighbors, face, rows);
         let a = f[coefficients + face];
-        f[d + neighbor] = f[d + neighbor] - a * a / pivot;
+        let left = f[d + neighbor] - a * a / pivot;
+        next = store::put(f, d + neighbor, left, watched, next);
         face += 1;
     }
+    next
 }
 
-// The faces of one row.
-fn pivot_row(w: &[u32], f: &mut [f64], s: SymmetricMatrix, d: usize, row: usize, pivot: f64)
+// The faces of one row. The answer is the pivot of the next: it goes from row to row in a register, so that no row waits
+// until the one before it is stored.
+fn pivot_row(w: &[u32], f: &mut [f64], s: SymmetricMatrix, d: usize, row: usize, pivot: f64) -> f64
     requires { ⌜ DicOk (now w) (length (now f)) s d ⌝ }
     requires { ⌜ row < s .rows ⌝ }
-    ensures { λ _. ⌜ PivotRowed (now (w .entry)) s d row pivot (now (f .entry)) (now (f .exit)) ⌝ }
+    ensures { λ r. ⌜ PivotRowed (now (w .entry)) s d row pivot (now (f .entry)) (now (f .exit)) r ⌝ }
 {
     let lo = store::wide(w[s.offsets + row]);
     let hi = store::wide(w[s.offsets + row + 1]);
-    pivot_faces(w, f, s.rows, lo, hi, s.neighbors, s.coefficients, d, pivot);
+    let next = d + (row + 1);
+    let held = store::float_at(f, next);
+    pivot_faces(
+        w,
+        f,
+        s.rows,
+        lo,
+        hi,
+        s.neighbors,
+        s.coefficients,
+        d,
+        pivot,
+        next,
+        held,
+    )
 }
 
 // Question 16 of each row, whose pivot then goes to its neighbours.
@@ -61,11 +83,11 @@ fn dic_pivots(w: &[u32], f: &mut [f64], s: SymmetricMatrix, d: usize, level: u64
     ensures { λ r. ⌜ Settled d (s .rows) (pivotsOf level (kernelAt s (now (w .entry)) (now (f .entry)))) (now (f .entry)) (now (f .exit)) r ⌝ }
 {
     let rows = s.rows;
+    let mut pivot = store::float_at(f, d);
     let mut row = 0;
     while row < rows {
-        let pivot = f[d + row];
         if is_pivot(pivot) {
-            pivot_row(w, f, s, d, row, pivot);
+            pivot = pivot_row(w, f, s, d, row, pivot);
             row += 1;
         } else {
             return Verdict::Refused(Refusal::BadDicPivot {

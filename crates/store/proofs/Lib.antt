@@ -3,3 +3,4 @@ pub mod Region
 pub mod Vector
 pub mod Each
 pub mod Turns
+pub mod Single

@@ -3,7 +3,7 @@
 use mathlib.Core.Path.{_≡_}
 use mathlib.Core.List.{List, [], _∷_}
 use Prim.Native.Nat.{ℕ, zero, suc, _+_, _-_, _≤_, min}
-use lib.ListN.{length, getD, take, drop}
+use lib.ListN.{length, getD, set, take, drop}
 use lib.Ieee.{Float, nan}
 
 -- the float at index i of a store; past its end a NaN, which no proved function reads
@@ -44,6 +44,11 @@ pub record Wrote {A : Type 0} (b n : ℕ) (v F G : List A) : Type 0 where
 pub record Kept {A : Type 0} (p : ℕ) (F G : List A) : Type 0 where
   pub below : take p G ≡ take p F
   pub size : length G ≡ length F
+
+-- What a function that stores v at i ensures: of F it made G, in which r stands at `watched`.
+pub record Put (i : ℕ) (v : Float) (watched : ℕ) (F G : List Float) (r : Float) : Type 0 where
+  pub is : G ≡ set F i v
+  pub held : r ≡ at G watched
 
 -- n elements at `from` and n at `to`, which do not meet, in a store of that size
 pub record CopyOk (size n from to : ℕ) : Type 0 where

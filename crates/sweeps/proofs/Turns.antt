@@ -11,11 +11,20 @@ use Rattle.store.specs.Loop.{for}
 use Rattle.store.specs.Region.{at, idx}
 use Rattle.store.proofs.Loop.{Left, left-end}
 use Rattle.matrix.specs.Turns.{FacesOk}
-use Rattle.sweeps.specs.Turns.{Ran, Stored, Turned, gatherTurn, castTurn, freshAt, forwardTurn, backwardTurn, lowerTurn, upperAt, upperTurn, Gathered, Fresh, Scaled, Upper, SweepOk}
+use Rattle.sweeps.specs.Turns.{Ran, Stored, Watched, Turned, gatherTurn, castTurn, freshAt, forwardTurn, backwardTurn, lowerTurn, upperAt, upperTurn, Gathered, Fresh, Scaled, Upper, SweepOk}
 
 -- The end of a loop.
 pub ran : {S : Type 0} {turn : ℕ → S → S} {k lo hi : ℕ} {s t : S} → Left turn k hi t (for turn lo hi s) → hi ≤ k → Ran turn lo hi s t
 ran l h = record { is = left-end l h }
+
+-- The end of a loop that watches a float.
+pub watched-ran : {turn : ℕ → List Float → List Float} {k lo hi watched : ℕ} {F G : List Float} {r : Float} → Left turn k hi G (for turn lo hi F) → r ≡ at G watched → hi ≤ k
+    → Watched turn lo hi F G watched r
+watched-ran l e h = record { is = left-end l h; held = e }
+
+-- The first float of a vector.
+pub first-at : (F : List Float) (v : ℕ) (x : Float) → x ≡ at F v → x ≡ at F (v + 0)
+first-at F v x e = let z : v + 0 ≡ v = omega arith in rw z e
 
 -- The end of a loop over the rows.
 pub stored : {turn : ℕ → List Float → List Float} {k lo hi : ℕ} {F G : List Float} → length G ≡ length F → Left turn k hi G (for turn lo hi F) → hi ≤ k

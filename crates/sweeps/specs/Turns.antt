@@ -17,6 +17,11 @@ pub record Stored (turn : ℕ → List Float → List Float) (lo hi : ℕ) (F G 
   pub is : G ≡ for turn lo hi F
   pub size : length G ≡ length F
 
+-- what a loop leaves in a store, in which r stands at `watched`
+pub record Watched (turn : ℕ → List Float → List Float) (lo hi : ℕ) (F G : List Float) (watched : ℕ) (r : Float) : Type 0 where
+  pub is : G ≡ for turn lo hi F
+  pub held : r ≡ at G watched
+
 -- what a turn leaves
 pub record Turned {S : Type 0} (turn : ℕ → S → S) (k : ℕ) (s t : S) : Type 0 where
   pub is : t ≡ turn k s

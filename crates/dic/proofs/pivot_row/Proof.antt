@@ -2,11 +2,12 @@
 -- Assumes nothing.
 use Rattle.dic.proofs.Turns.{faces-pivot, pivot-rowed}
 use borrow.Author.Needs.{needs}
+use native.Mathlib.Omega.{arith}
 use Rattle.dic.proofs.pivot_row.Statement.{statement}
 use Rattle.dic.proofs.pivot_row.Tie as tie
 
 pivot-faces-requires : tie.Need-pivot-faces-requires
-pivot-faces-requires c κs = search (faces-pivot)
+pivot-faces-requires c κs = search (faces-pivot, needs)
 
 returns : tie.Need-returns
 returns c = search (pivot-rowed)
@@ -22,6 +23,9 @@ pivot-row-spec =
     (λ c. search needs)
     (λ c. search needs)
     (λ c. search needs)
+    (λ c. search needs)
+    (λ c κs. search needs)
+    (λ c. omega (arith, c .before .before .before .before .before .before .before .before .pre .0 .fits))
     (λ c. search needs)
     (λ c κs. search needs)
     pivot-faces-requires
