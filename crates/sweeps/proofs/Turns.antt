@@ -8,10 +8,10 @@ use lib.ListN.{length, set}
 use lib.Ieee.{Float}
 use Rattle.float.specs.Float.{add64, sub64, mul64, zero64}
 use Rattle.store.specs.Loop.{for}
-use Rattle.store.specs.Region.{at, idx}
+use Rattle.store.specs.Region.{at, idx, Put}
 use Rattle.store.proofs.Loop.{Left, left-end}
 use Rattle.matrix.specs.Turns.{FacesOk}
-use Rattle.sweeps.specs.Turns.{Ran, Stored, Watched, Turned, gatherTurn, castTurn, freshAt, forwardTurn, backwardTurn, lowerTurn, upperAt, upperTurn, Gathered, Fresh, Scaled, Upper, SweepOk}
+use Rattle.sweeps.specs.Turns.{Ran, Stored, Watched, Turned, Handed, gatherTurn, castTurn, freshAt, forwardTurn, backwardTurn, lowerTurn, upperAt, upperTurn, Gathered, Fresh, Scaled, Upper, SweepOk}
 
 -- The end of a loop.
 pub ran : {S : Type 0} {turn : ℕ → S → S} {k lo hi : ℕ} {s t : S} → Left turn k hi t (for turn lo hi s) → hi ≤ k → Ran turn lo hi s t
@@ -62,10 +62,10 @@ gather-on op w neighbors coefficients F v e j value h = rw h
 
 module _ (w : List ℕ) (neighbors coefficients : ℕ) where
   -- A face that is cast.
-  pub cast-on : (F : List Float) (v e j : ℕ) (value : Float) → j ≡ idx w (neighbors + e)
-      → set F (v + j) (sub64 (at F (v + j)) (mul64 (at F (coefficients + e)) value)) ≡ castTurn w neighbors coefficients v value e F
+  pub cast-put : (F G : List Float) (v e j watched : ℕ) (value r : Float) → j ≡ idx w (neighbors + e)
+      → Put (v + j) (sub64 (at F (v + j)) (mul64 (at F (coefficients + e)) value)) watched F G r → G ≡ castTurn w neighbors coefficients v value e F
   unfolding castTurn
-  cast-on F v e j value h = rw h
+  cast-put F G v e j watched value r h c = c .is ∙ rw h
 
 -- ---- rows
 
@@ -77,10 +77,10 @@ gathered l h = record { is = left-end l h }
 
 module _ {w : List ℕ} {offsets neighbors coefficients own beside row lo hi : ℕ} {F : List Float} {r : Float} where
   -- The new x of a row.
-  pub freshed : {x : ℕ} → lo ≡ idx w (offsets + row) → hi ≡ idx w (offsets + row + 1) → Gathered sub64 w neighbors coefficients x lo hi (at F (beside + row)) F r
-      → Fresh w offsets neighbors coefficients own x beside row F (mul64 r (at F (own + row)))
+  pub freshed : {x : ℕ} {start : Float} → lo ≡ idx w (offsets + row) → hi ≡ idx w (offsets + row + 1) → start ≡ at F (beside + row)
+      → Gathered sub64 w neighbors coefficients x lo hi start F r → Fresh w offsets neighbors coefficients own x beside row F (mul64 r (at F (own + row)))
   unfolding freshAt
-  freshed a b g = record { is = rw (g .is, a, b) }
+  freshed a b e g = record { is = rw (g .is, a, b, e) }
 
   -- The new correction of a row on the way back.
   pub uppered : lo ≡ idx w (offsets + row) → hi ≡ idx w (offsets + row + 1) → Gathered add64 w neighbors coefficients beside lo hi zero64 F r
@@ -91,16 +91,18 @@ module _ {w : List ℕ} {offsets neighbors coefficients own beside row lo hi : �
 module _ (w : List ℕ) (offsets neighbors coefficients own x beside row lo hi : ℕ) (F G : List Float) (value : Float)
     (a : lo ≡ idx w (offsets + row)) (b : hi ≡ idx w (offsets + row + 1)) where
   -- A row of the forward sweep.
-  pub forwarded : Fresh w offsets neighbors coefficients own x beside row F value → Ran (castTurn w neighbors coefficients beside value) lo hi F G
-      → Turned (forwardTurn w offsets neighbors coefficients own x beside) row F (set G (x + row) value)
+  pub forwarded : {H : List Float} {watched : ℕ} {cast r : Float} → Fresh w offsets neighbors coefficients own x beside row F value
+      → Watched (castTurn w neighbors coefficients beside value) lo hi F G watched cast → Put (x + row) value watched G H r
+      → Handed (forwardTurn w offsets neighbors coefficients own x beside) row F H watched r
   unfolding forwardTurn
-  forwarded e c = record { is = ap (λ (H : List Float). set H (x + row) value) (c .is) ∙ rw (a, b, ← e .is) }
+  forwarded e c p = record { is = p .is ∙ ap (λ (H : List Float). set H (x + row) value) (c .is) ∙ rw (a, b, ← e .is); held = p .held }
 
   -- A row of the forward substitution.
-  pub lowered : {H : List Float} → Scaled own beside row F G value → Ran (castTurn w neighbors coefficients beside value) lo hi G H
-      → Turned (lowerTurn w offsets neighbors coefficients own beside) row F H
+  pub lowered : {H : List Float} {watched : ℕ} {r : Float} → Scaled own beside row F G value
+      → Watched (castTurn w neighbors coefficients beside value) lo hi G H watched r
+      → Handed (lowerTurn w offsets neighbors coefficients own beside) row F H watched r
   unfolding lowerTurn
-  lowered {H} e c = record { is = c .is ∙ rw (a, b, e .is, ← e .value) }
+  lowered {H} e c = record { is = c .is ∙ rw (a, b, e .is, ← e .value); held = c .held }
 
 -- Row n - 1 - i of the backward sweep.
 pub backward-on : (w : List ℕ) (n offsets neighbors coefficients own x beside row i : ℕ) (F : List Float) (value : Float)

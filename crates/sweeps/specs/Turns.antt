@@ -26,6 +26,11 @@ pub record Watched (turn : ℕ → List Float → List Float) (lo hi : ℕ) (F G
 pub record Turned {S : Type 0} (turn : ℕ → S → S) (k : ℕ) (s t : S) : Type 0 where
   pub is : t ≡ turn k s
 
+-- what a turn leaves in a store, in which r stands at `watched`
+pub record Handed (turn : ℕ → List Float → List Float) (k : ℕ) (F G : List Float) (watched : ℕ) (r : Float) : Type 0 where
+  pub is : G ≡ turn k F
+  pub held : r ≡ at G watched
+
 module _ (w : List ℕ) (neighbors coefficients : ℕ) where
   -- `gatherFace` in a store
   unfoldable pub gatherTurn : (Float → Float → Float) → List Float → ℕ → ℕ → Float → Float

@@ -1,13 +1,14 @@
 // smoother.rs: one Gauss-Seidel sweep over regions of the store.
-ghost use Prim.Native.Nat.{_<_};
+ghost use mathlib.Core.Path.{_≡_};
+ghost use Prim.Native.Nat.{_+_, _<_};
 ghost use lib.ListN.{length};
 ghost use Rattle.float.specs.Float.{sub64};
-ghost use Rattle.store.specs.Region.{part};
+ghost use Rattle.store.specs.Region.{at, part};
 ghost use Rattle.matrix.specs.Kernel.{kernelAt};
 ghost use Rattle.matrix.specs.Turns.{FacesOk};
 ghost use Rattle.sweeps.specs.Sweep.{gaussSeidelOf};
 ghost use Rattle.sweeps.specs.Contract.{GaussSeidelOk, Both};
-ghost use Rattle.sweeps.specs.Turns.{Ran, Stored, Turned, castTurn, forwardTurn, backwardTurn, Gathered, Fresh, SweepOk};
+ghost use Rattle.sweeps.specs.Turns.{Stored, Watched, Handed, castTurn, forwardTurn, backwardTurn, Gathered, Fresh, SweepOk};
 use matrix::SymmetricMatrix;
 
 // start less a * v[neighbor] of each face from lo to hi.
@@ -35,7 +36,7 @@ fn take_faces(
     value
 }
 
-// v[neighbor] -= a * value, for each face from lo to hi.
+// v[neighbor] -= a * value, for each face from lo to hi. The answer is what then stands at `watched`, where `held` stood.
 pub fn cast_faces(
     w: &[u32],
     f: &mut [f64],
@@ -46,19 +47,25 @@ pub fn cast_faces(
     coefficients: usize,
     v: usize,
     value: f64,
-)
+    watched: usize,
+    held: f64,
+) -> f64
     requires { ⌜ FacesOk (now w) (length (now f)) rows hi neighbors coefficients v v ⌝ }
-    ensures { λ _. ⌜ Ran (castTurn (now (w .entry)) neighbors coefficients v value) lo hi (now (f .entry)) (now (f .exit)) ⌝ }
+    requires { ⌜ held ≡ at (now f) watched ⌝ }
+    ensures { λ r. ⌜ Watched (castTurn (now (w .entry)) neighbors coefficients v value) lo hi (now (f .entry)) (now (f .exit)) watched r ⌝ }
 {
+    let mut next = held;
     let mut face = lo;
     while face < hi {
         let neighbor = store::index_at(w, neighbors, face, rows);
-        f[v + neighbor] = f[v + neighbor] - f[coefficients + face] * value;
+        let left = f[v + neighbor] - f[coefficients + face] * value;
+        next = store::put(f, v + neighbor, left, watched, next);
         face += 1;
     }
+    next
 }
 
-// The new x of a row.
+// The new x of a row, of which `start` stands in work.
 fn fresh(
     w: &[u32],
     f: &[f64],
@@ -70,28 +77,21 @@ fn fresh(
     x: usize,
     work: usize,
     row: usize,
+    start: f64,
 ) -> f64
     requires { ⌜ SweepOk (now w) (length (now f)) rows offsets neighbors coefficients inverse x work ⌝ }
     requires { ⌜ row < rows ⌝ }
+    requires { ⌜ start ≡ at (now f) (work + row) ⌝ }
     ensures { λ r. ⌜ Fresh (now (w .entry)) offsets neighbors coefficients inverse x work row (now (f .entry)) r ⌝ }
 {
     let lo = store::wide(w[offsets + row]);
     let hi = store::wide(w[offsets + row + 1]);
-    let value = take_faces(
-        w,
-        f,
-        rows,
-        lo,
-        hi,
-        neighbors,
-        coefficients,
-        x,
-        f[work + row],
-    );
+    let value = take_faces(w, f, rows, lo, hi, neighbors, coefficients, x, start);
     value * f[inverse + row]
 }
 
-// A row of the forward sweep.
+// A row of the forward sweep. The answer is what stands in work for the next row: it goes from row to row in a register, so
+// that no row waits until the one before it is stored.
 fn forward_row(
     w: &[u32],
     f: &mut [f64],
@@ -103,10 +103,12 @@ fn forward_row(
     x: usize,
     work: usize,
     row: usize,
-)
+    start: f64,
+) -> f64
     requires { ⌜ SweepOk (now w) (length (now f)) rows offsets neighbors coefficients inverse x work ⌝ }
     requires { ⌜ row < rows ⌝ }
-    ensures { λ _. ⌜ Turned (forwardTurn (now (w .entry)) offsets neighbors coefficients inverse x work) row (now (f .entry)) (now (f .exit)) ⌝ }
+    requires { ⌜ start ≡ at (now f) (work + row) ⌝ }
+    ensures { λ r. ⌜ Handed (forwardTurn (now (w .entry)) offsets neighbors coefficients inverse x work) row (now (f .entry)) (now (f .exit)) (work + (row + 1)) r ⌝ }
 {
     let value = fresh(
         w,
@@ -119,11 +121,26 @@ fn forward_row(
         x,
         work,
         row,
+        start,
     );
     let lo = store::wide(w[offsets + row]);
     let hi = store::wide(w[offsets + row + 1]);
-    cast_faces(w, f, rows, lo, hi, neighbors, coefficients, work, value);
-    f[x + row] = value;
+    let next = work + (row + 1);
+    let held = store::float_at(f, next);
+    let cast = cast_faces(
+        w,
+        f,
+        rows,
+        lo,
+        hi,
+        neighbors,
+        coefficients,
+        work,
+        value,
+        next,
+        held,
+    );
+    store::put(f, x + row, value, next, cast)
 }
 
 // The rows upward.
@@ -141,9 +158,10 @@ fn forward(
     requires { ⌜ SweepOk (now w) (length (now f)) rows offsets neighbors coefficients inverse x work ⌝ }
     ensures { λ _. ⌜ Stored (forwardTurn (now (w .entry)) offsets neighbors coefficients inverse x work) 0 rows (now (f .entry)) (now (f .exit)) ⌝ }
 {
+    let mut start = store::float_at(f, work);
     let mut row = 0;
     while row < rows {
-        forward_row(
+        start = forward_row(
             w,
             f,
             rows,
@@ -154,6 +172,7 @@ fn forward(
             x,
             work,
             row,
+            start,
         );
         row += 1;
     }
@@ -188,6 +207,7 @@ fn backward(
             x,
             work,
             row,
+            f[work + row],
         );
         f[x + row] = value;
         i += 1;

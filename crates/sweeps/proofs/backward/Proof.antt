@@ -22,7 +22,8 @@ loop-holds : tie.Need-loop-holds Inv-loop μ-loop
 loop-holds c = (refl, left-start)
 
 fresh-requires : tie.Need-fresh-requires Inv-loop μ-loop
-fresh-requires c κs = search (sweep-resize, needs)
+fresh-requires c κs =
+    let at-loop = c .before .before in (sweep-resize (at-loop .before .before .before .pre) (at-loop .loop .inv .0), (omega arith, refl))
 
 loop-again : tie.Need-loop-again Inv-loop μ-loop
 loop-again c = search (left-on, backward-on, needs)
@@ -37,6 +38,9 @@ backward-spec =
     Inv-loop
     μ-loop
     loop-holds
+    (λ c. omega arith)
+    (λ c. omega arith)
+    (λ c. omega arith)
     (λ c. omega arith)
     (λ c. omega arith)
     fresh-requires

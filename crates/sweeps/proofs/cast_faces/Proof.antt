@@ -1,35 +1,49 @@
--- `sweeps::cast_faces` meets its contract. The loop's invariant: what is left to do from here gives what the whole gives.
+-- `sweeps::cast_faces` meets its contract. The loop's invariant: what is left to do from here gives what the whole gives, and the float
+-- watched is held.
 -- Assumes nothing.
 use mathlib.Core.Path.{_≡_, refl}
 use Prim.Native.Nat.{_-_}
 use lib.ListN.{length}
 use Rattle.store.specs.Loop.{for}
+use Rattle.store.specs.Region.{at}
 use Rattle.store.proofs.Loop.{Left, left-start, left-on}
 use Rattle.matrix.proofs.Turns.{near-of}
 use Rattle.sweeps.specs.Turns.{castTurn}
-use Rattle.sweeps.proofs.Turns.{cast-on, ran}
+use Rattle.sweeps.proofs.Turns.{cast-put, watched-ran}
 use native.Mathlib.Omega.{arith}
 use borrow.Author.Needs.{needs}
 use Rattle.sweeps.proofs.cast_faces.Statement.{statement}
 use Rattle.sweeps.proofs.cast_faces.Tie as tie
 
 abbrev Inv-loop : tie.InvT-loop
-Inv-loop w f₀ rows lo hi neighbors coefficients v value face₀ f face = (length f ≡ length f₀) × Left (castTurn w neighbors coefficients v value) face hi f (for (castTurn w neighbors coefficients v value) lo hi f₀)
+Inv-loop w f₀ rows lo hi neighbors coefficients v value watched held next₀ face₀ f next face =
+    (length f ≡ length f₀)
+    × Left (castTurn w neighbors coefficients v value) face hi f (for (castTurn w neighbors coefficients v value) lo hi f₀)
+    × (next ≡ at f watched)
 
 abbrev μ-loop : tie.MeasureT-loop
-μ-loop w f₀ rows lo hi neighbors coefficients v value face₀ f face = hi - face
+μ-loop w f₀ rows lo hi neighbors coefficients v value watched held next₀ face₀ f next face = hi - face
 
 loop-holds : tie.Need-loop-holds Inv-loop μ-loop
-loop-holds c = (refl, left-start)
+loop-holds c = (refl, left-start, search needs)
 
 index-at-requires : tie.Need-index-at-requires Inv-loop μ-loop
 index-at-requires c κs = search (near-of, needs)
 
 loop-again : tie.Need-loop-again Inv-loop μ-loop
-loop-again c = search (left-on, cast-on, needs)
+loop-again c =
+    let at-put = c .before .before in
+    let at-index = at-put .before .before .before .before in
+    let at-loop = at-index .before .before in
+    let start = at-loop .before .before .before in (
+      search needs,
+      left-on (at-loop .loop .inv .1) (at-index .before .loop-test .taken)
+      (cast-put _ (start .args .neighbors) (start .args .coefficients) _ _ (start .args .v) _ _ _ _ _ (at-index .index-at .ensures .0) (at-put .put .ensures)),
+      at-put .put .ensures .held,
+    )
 
 returns : tie.Need-returns Inv-loop μ-loop
-returns c = search (ran)
+returns c = search (watched-ran)
 
 pub cast-faces-spec : {M : Type 1} → statement M
 cast-faces-spec =
@@ -46,8 +60,7 @@ cast-faces-spec =
     (λ c. omega arith)
     (λ c. omega arith)
     (λ c. omega arith)
-    (λ c. omega arith)
-    (λ c. omega arith)
+    (λ c κs. search needs)
     (λ c. omega arith)
     (λ c. omega arith)
     loop-again

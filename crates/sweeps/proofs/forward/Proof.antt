@@ -1,25 +1,30 @@
--- `sweeps::forward` meets its contract. The loop's invariant: what is left to do from here gives what the whole gives.
+-- `sweeps::forward` meets its contract. The loop's invariant: what is left to do from here gives what the whole gives, and what stands in
+-- work for the next row is held.
 -- Assumes nothing.
 use mathlib.Core.Path.{_≡_, refl}
-use Prim.Native.Nat.{_-_}
+use Prim.Native.Nat.{_+_, _-_}
 use lib.ListN.{length}
 use Rattle.store.specs.Loop.{for}
+use Rattle.store.specs.Region.{at}
 use Rattle.store.proofs.Loop.{Left, left-start, left-on}
 use Rattle.sweeps.specs.Turns.{forwardTurn}
-use Rattle.sweeps.proofs.Turns.{sweep-resize, stored}
+use Rattle.sweeps.proofs.Turns.{first-at, sweep-resize, stored}
 use native.Mathlib.Omega.{arith}
 use borrow.Author.Needs.{needs}
 use Rattle.sweeps.proofs.forward.Statement.{statement}
 use Rattle.sweeps.proofs.forward.Tie as tie
 
 abbrev Inv-loop : tie.InvT-loop
-Inv-loop w f₀ rows offsets neighbors coefficients inverse x work row₀ f row = (length f ≡ length f₀) × Left (forwardTurn w offsets neighbors coefficients inverse x work) row rows f (for (forwardTurn w offsets neighbors coefficients inverse x work) 0 rows f₀)
+Inv-loop w f₀ rows offsets neighbors coefficients inverse x work start₀ row₀ f start row =
+    (length f ≡ length f₀)
+    × Left (forwardTurn w offsets neighbors coefficients inverse x work) row rows f (for (forwardTurn w offsets neighbors coefficients inverse x work) 0 rows f₀)
+    × (start ≡ at f (work + row))
 
 abbrev μ-loop : tie.MeasureT-loop
-μ-loop w f₀ rows offsets neighbors coefficients inverse x work row₀ f row = rows - row
+μ-loop w f₀ rows offsets neighbors coefficients inverse x work start₀ row₀ f start row = rows - row
 
 loop-holds : tie.Need-loop-holds Inv-loop μ-loop
-loop-holds c = (refl, left-start)
+loop-holds c = (refl, left-start, search (first-at, needs))
 
 forward-row-requires : tie.Need-forward-row-requires Inv-loop μ-loop
 forward-row-requires c κs = search (sweep-resize, needs)
@@ -36,6 +41,7 @@ forward-spec =
     (tie.spec
     Inv-loop
     μ-loop
+    (λ c κs. search needs)
     loop-holds
     forward-row-requires
     (λ c. omega arith)

@@ -2,11 +2,15 @@
 -- Assumes nothing.
 use Rattle.sweeps.proofs.Turns.{faces-beside, forwarded}
 use borrow.Author.Needs.{needs}
+use native.Mathlib.Omega.{arith}
 use Rattle.sweeps.proofs.forward_row.Statement.{statement}
 use Rattle.sweeps.proofs.forward_row.Tie as tie
 
 cast-faces-requires : tie.Need-cast-faces-requires
-cast-faces-requires c κs = search (faces-beside, needs)
+cast-faces-requires c κs = (search (faces-beside, needs), search needs)
+
+put-requires : tie.Need-put-requires
+put-requires c κs = (omega arith, c .before .before .before .cast-faces .ensures .held)
 
 returns : tie.Need-returns
 returns c = search (forwarded)
@@ -25,9 +29,11 @@ forward-row-spec =
     (λ c. search needs)
     (λ c. search needs)
     (λ c κs. search needs)
+    (λ c. search needs)
+    (λ c. search needs)
+    (λ c κs. search needs)
     cast-faces-requires
     (λ c. search needs)
-    (λ c. search needs)
-    (λ c. search needs)
+    put-requires
     (λ c. search needs)
     returns)

@@ -24,9 +24,6 @@ fresh-spec =
     (λ c. search needs)
     (λ c. search needs)
     (λ c κs. search needs)
-    (λ c. search needs)
-    (λ c. search needs)
-    (λ c. search needs)
     take-faces-requires
     (λ c. search needs)
     (λ c. search needs)
