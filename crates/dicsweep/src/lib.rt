@@ -1,16 +1,17 @@
 // smoother.rs: one DIC sweep over regions of the store.
+ghost use mathlib.Core.Path.{_≡_};
 ghost use Prim.Native.Nat.{_+_, _<_};
 ghost use lib.ListN.{length};
 ghost use Rattle.float.specs.Float.{add64};
-ghost use Rattle.store.specs.Region.{part};
+ghost use Rattle.store.specs.Region.{at, part};
 ghost use Rattle.matrix.specs.Kernel.{kernelAt};
 ghost use Rattle.matrix.specs.Turns.{FacesOk};
 ghost use Rattle.sweeps.specs.Sweep.{dicSweepOf};
 ghost use Rattle.sweeps.specs.Contract.{SmoothOk, Both};
-ghost use Rattle.sweeps.specs.Turns.{Stored, Turned, lowerTurn, upperTurn, Gathered, Scaled, Upper, SweepOk};
+ghost use Rattle.sweeps.specs.Turns.{Stored, Handed, lowerTurn, upperTurn, Gathered, Scaled, Upper, SweepOk};
 use matrix::SymmetricMatrix;
 
-// a * v[neighbor] of each face from lo to hi, added up from start.
+// a * v[neighbor] of each face from lo to hi, added up from start; `held` stands at `watched`.
 fn add_faces(
     w: &[u32],
     f: &[f64],
@@ -21,32 +22,38 @@ fn add_faces(
     coefficients: usize,
     v: usize,
     start: f64,
+    watched: usize,
+    held: f64,
 ) -> f64
     requires { ⌜ FacesOk (now w) (length (now f)) rows hi neighbors coefficients v v ⌝ }
+    requires { ⌜ held ≡ at (now f) watched ⌝ }
     ensures { λ r. ⌜ Gathered add64 (now (w .entry)) neighbors coefficients v lo hi start (now (f .entry)) r ⌝ }
 {
     let mut value = start;
     let mut face = lo;
     while face < hi {
         let neighbor = store::index_at(w, neighbors, face, rows);
-        value = value + f[coefficients + face] * f[v + neighbor];
+        let near = store::float_near(f, v + neighbor, watched, held);
+        value = value + f[coefficients + face] * near;
         face += 1;
     }
     value
 }
 
-// A row's correction times its DIC reciprocal, in place.
-fn scale(f: &mut [f64], dic: usize, correction: usize, row: usize) -> f64
+// A row's correction, which is `start`, times its DIC reciprocal, in place.
+fn scale(f: &mut [f64], dic: usize, correction: usize, row: usize, start: f64) -> f64
     requires { ⌜ dic + row < length (now f) ⌝ }
     requires { ⌜ correction + row < length (now f) ⌝ }
+    requires { ⌜ start ≡ at (now f) (correction + row) ⌝ }
     ensures { λ r. ⌜ Scaled dic correction row (now (f .entry)) (now (f .exit)) r ⌝ }
 {
-    let value = f[correction + row] * f[dic + row];
+    let value = start * f[dic + row];
     f[correction + row] = value;
     value
 }
 
-// A row of the forward substitution.
+// A row of the forward substitution. The answer is the correction of the next row so far: it goes from row to row in a
+// register, so that no row waits until the one before it is stored.
 fn lower_row(
     w: &[u32],
     f: &mut [f64],
@@ -57,14 +64,18 @@ fn lower_row(
     dic: usize,
     correction: usize,
     row: usize,
-)
+    start: f64,
+) -> f64
     requires { ⌜ SweepOk (now w) (length (now f)) rows offsets neighbors coefficients dic correction correction ⌝ }
     requires { ⌜ row < rows ⌝ }
-    ensures { λ _. ⌜ Turned (lowerTurn (now (w .entry)) offsets neighbors coefficients dic correction) row (now (f .entry)) (now (f .exit)) ⌝ }
+    requires { ⌜ start ≡ at (now f) (correction + row) ⌝ }
+    ensures { λ r. ⌜ Handed (lowerTurn (now (w .entry)) offsets neighbors coefficients dic correction) row (now (f .entry)) (now (f .exit)) (correction + (row + 1)) r ⌝ }
 {
     let lo = store::wide(w[offsets + row]);
     let hi = store::wide(w[offsets + row + 1]);
-    let value = scale(f, dic, correction, row);
+    let value = scale(f, dic, correction, row, start);
+    let next = correction + (row + 1);
+    let held = store::float_at(f, next);
     sweeps::cast_faces(
         w,
         f,
@@ -75,7 +86,9 @@ fn lower_row(
         coefficients,
         correction,
         value,
-    );
+        next,
+        held,
+    )
 }
 
 // The forward substitution.
@@ -92,9 +105,10 @@ fn lower(
     requires { ⌜ SweepOk (now w) (length (now f)) rows offsets neighbors coefficients dic correction correction ⌝ }
     ensures { λ _. ⌜ Stored (lowerTurn (now (w .entry)) offsets neighbors coefficients dic correction) 0 rows (now (f .entry)) (now (f .exit)) ⌝ }
 {
+    let mut start = store::float_at(f, correction);
     let mut row = 0;
     while row < rows {
-        lower_row(
+        start = lower_row(
             w,
             f,
             rows,
@@ -104,12 +118,13 @@ fn lower(
             dic,
             correction,
             row,
+            start,
         );
         row += 1;
     }
 }
 
-// The new correction of a row on the way back.
+// The new correction of a row on the way back; `held` stands at `watched`.
 fn upper_value(
     w: &[u32],
     f: &[f64],
@@ -121,18 +136,34 @@ fn upper_value(
     x: usize,
     correction: usize,
     row: usize,
+    watched: usize,
+    held: f64,
 ) -> f64
     requires { ⌜ SweepOk (now w) (length (now f)) rows offsets neighbors coefficients dic x correction ⌝ }
     requires { ⌜ row < rows ⌝ }
+    requires { ⌜ held ≡ at (now f) watched ⌝ }
     ensures { λ r. ⌜ Upper (now (w .entry)) offsets neighbors coefficients dic correction row (now (f .entry)) r ⌝ }
 {
     let lo = store::wide(w[offsets + row]);
     let hi = store::wide(w[offsets + row + 1]);
-    let upper = add_faces(w, f, rows, lo, hi, neighbors, coefficients, correction, 0.0);
+    let upper = add_faces(
+        w,
+        f,
+        rows,
+        lo,
+        hi,
+        neighbors,
+        coefficients,
+        correction,
+        0.0,
+        watched,
+        held,
+    );
     f[correction + row] - f[dic + row] * upper
 }
 
-// The backward substitution, row by row added to x.
+// The backward substitution, row by row added to x. The correction of the row before is held in a register, so that no row
+// waits until it is stored.
 fn upper(
     w: &[u32],
     f: &mut [f64],
@@ -147,6 +178,7 @@ fn upper(
     requires { ⌜ SweepOk (now w) (length (now f)) rows offsets neighbors coefficients dic x correction ⌝ }
     ensures { λ _. ⌜ Stored (upperTurn (now (w .entry)) offsets neighbors coefficients dic rows x correction) 0 rows (now (f .entry)) (now (f .exit)) ⌝ }
 {
+    let mut held = store::float_at(f, correction + rows);
     let mut i = 0;
     while i < rows {
         let row = rows - 1 - i;
@@ -161,10 +193,12 @@ fn upper(
             x,
             correction,
             row,
+            correction + (rows - i),
+            held,
         );
         let sum = f[x + row] + value;
         f[correction + row] = value;
-        f[x + row] = sum;
+        held = store::put(f, x + row, sum, correction + row, value);
         i += 1;
     }
 }

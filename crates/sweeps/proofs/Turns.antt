@@ -1,6 +1,6 @@
 -- The inner functions' turns as the code has them, and what one requires of the next.
 -- Assumes nothing.
-use mathlib.Core.Path.{_≡_, ap, _∙_}
+use mathlib.Core.Path.{_≡_, refl, ap, _∙_}
 use mathlib.Core.List.{List}
 use Prim.Native.Nat.{ℕ, _+_, _-_, _≤_, _<_}
 use native.Mathlib.Omega.{arith}
@@ -11,11 +11,7 @@ use Rattle.store.specs.Loop.{for}
 use Rattle.store.specs.Region.{at, idx, Put}
 use Rattle.store.proofs.Loop.{Left, left-end}
 use Rattle.matrix.specs.Turns.{FacesOk}
-use Rattle.sweeps.specs.Turns.{Ran, Stored, Watched, Turned, Handed, gatherTurn, castTurn, freshAt, forwardTurn, backwardTurn, lowerTurn, upperAt, upperTurn, Gathered, Fresh, Scaled, Upper, SweepOk}
-
--- The end of a loop.
-pub ran : {S : Type 0} {turn : ℕ → S → S} {k lo hi : ℕ} {s t : S} → Left turn k hi t (for turn lo hi s) → hi ≤ k → Ran turn lo hi s t
-ran l h = record { is = left-end l h }
+use Rattle.sweeps.specs.Turns.{Stored, Watched, Handed, gatherTurn, castTurn, freshAt, forwardTurn, backwardTurn, lowerTurn, upperAt, upperTurn, Gathered, Fresh, Scaled, Upper, SweepOk}
 
 -- The end of a loop that watches a float.
 pub watched-ran : {turn : ℕ → List Float → List Float} {k lo hi watched : ℕ} {F G : List Float} {r : Float} → Left turn k hi G (for turn lo hi F) → r ≡ at G watched → hi ≤ k
@@ -54,6 +50,12 @@ faces-beside {w} {size} {size'} {n} {offsets} {neighbors} {coefficients} {own} {
 
 -- ---- faces
 
+-- A face whose neighbour's value is in hand.
+pub gather-near : (op : Float → Float → Float) (w : List ℕ) (neighbors coefficients : ℕ) (F : List Float) (v e j : ℕ) (value near : Float) → j ≡ idx w (neighbors + e)
+    → near ≡ at F (v + j) → op value (mul64 (at F (coefficients + e)) near) ≡ gatherTurn w neighbors coefficients op F v e value
+unfolding gatherTurn
+gather-near op w neighbors coefficients F v e j value near h n = rw (n, h)
+
 -- A face that is gathered: its neighbour j is known by an equation.
 pub gather-on : (op : Float → Float → Float) (w : List ℕ) (neighbors coefficients : ℕ) (F : List Float) (v e j : ℕ) (value : Float) → j ≡ idx w (neighbors + e)
     → op value (mul64 (at F (coefficients + e)) (at F (v + j))) ≡ gatherTurn w neighbors coefficients op F v e value
@@ -88,6 +90,11 @@ module _ {w : List ℕ} {offsets neighbors coefficients own beside row lo hi : �
   unfolding upperAt
   uppered a b g = record { is = rw (g .is, a, b) }
 
+-- A row's correction, scaled.
+pub scaled : (own c row : ℕ) (F : List Float) (start : Float) → start ≡ at F (c + row)
+    → Scaled own c row F (set F (c + row) (mul64 start (at F (own + row)))) (mul64 start (at F (own + row)))
+scaled own c row F start e = record { value = rw e; is = refl }
+
 module _ (w : List ℕ) (offsets neighbors coefficients own x beside row lo hi : ℕ) (F G : List Float) (value : Float)
     (a : lo ≡ idx w (offsets + row)) (b : hi ≡ idx w (offsets + row + 1)) where
   -- A row of the forward sweep.
@@ -112,8 +119,9 @@ unfolding backwardTurn
 backward-on w n offsets neighbors coefficients own x beside row i F value a e = rw (a .is, e)
 
 -- Row n - 1 - i of the backward substitution.
-pub upper-on : (w : List ℕ) (n offsets neighbors coefficients own x beside row i : ℕ) (F : List Float) (value : Float)
+pub upper-on : (w : List ℕ) (n offsets neighbors coefficients own x beside row i watched : ℕ) (F G : List Float) (value r : Float)
     → Upper w offsets neighbors coefficients own beside row F value → row ≡ n - 1 - i
-    → set (set F (beside + row) value) (x + row) (add64 (at F (x + row)) value) ≡ upperTurn w offsets neighbors coefficients own n x beside i F
+    → Put (x + row) (add64 (at F (x + row)) value) watched (set F (beside + row) value) G r
+    → G ≡ upperTurn w offsets neighbors coefficients own n x beside i F
 unfolding upperTurn
-upper-on w n offsets neighbors coefficients own x beside row i F value a e = rw (a .is, e)
+upper-on w n offsets neighbors coefficients own x beside row i watched F G value r a e p = p .is ∙ rw (a .is, e)

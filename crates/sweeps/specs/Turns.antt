@@ -8,10 +8,6 @@ use Rattle.float.specs.Float.{add64, sub64, mul64, zero64}
 use Rattle.store.specs.Loop.{for}
 use Rattle.store.specs.Region.{at, idx}
 
--- what a loop leaves
-pub record Ran {S : Type 0} (turn : ℕ → S → S) (lo hi : ℕ) (s t : S) : Type 0 where
-  pub is : t ≡ for turn lo hi s
-
 -- what a loop leaves in a store
 pub record Stored (turn : ℕ → List Float → List Float) (lo hi : ℕ) (F G : List Float) : Type 0 where
   pub is : G ≡ for turn lo hi F
@@ -21,10 +17,6 @@ pub record Stored (turn : ℕ → List Float → List Float) (lo hi : ℕ) (F G 
 pub record Watched (turn : ℕ → List Float → List Float) (lo hi : ℕ) (F G : List Float) (watched : ℕ) (r : Float) : Type 0 where
   pub is : G ≡ for turn lo hi F
   pub held : r ≡ at G watched
-
--- what a turn leaves
-pub record Turned {S : Type 0} (turn : ℕ → S → S) (k : ℕ) (s t : S) : Type 0 where
-  pub is : t ≡ turn k s
 
 -- what a turn leaves in a store, in which r stands at `watched`
 pub record Handed (turn : ℕ → List Float → List Float) (k : ℕ) (F G : List Float) (watched : ℕ) (r : Float) : Type 0 where

@@ -6,17 +6,17 @@ use Rattle.store.specs.Loop.{for}
 use Rattle.store.proofs.Loop.{Left, left-start, left-on}
 use Rattle.matrix.proofs.Turns.{near-of}
 use Rattle.sweeps.specs.Turns.{gatherTurn}
-use Rattle.sweeps.proofs.Turns.{gather-on, gathered}
+use Rattle.sweeps.proofs.Turns.{gather-near, gathered}
 use native.Mathlib.Omega.{arith}
 use borrow.Author.Needs.{needs}
 use Rattle.dicsweep.proofs.add_faces.Statement.{statement}
 use Rattle.dicsweep.proofs.add_faces.Tie as tie
 
 abbrev Inv-loop : tie.InvT-loop
-Inv-loop w f rows lo hi neighbors coefficients v start value₀ face₀ value face = Left (gatherTurn w neighbors coefficients add64 f v) face hi value (for (gatherTurn w neighbors coefficients add64 f v) lo hi start)
+Inv-loop w f rows lo hi neighbors coefficients v start watched held value₀ face₀ value face = Left (gatherTurn w neighbors coefficients add64 f v) face hi value (for (gatherTurn w neighbors coefficients add64 f v) lo hi start)
 
 abbrev μ-loop : tie.MeasureT-loop
-μ-loop w f rows lo hi neighbors coefficients v start value₀ face₀ value face = hi - face
+μ-loop w f rows lo hi neighbors coefficients v start watched held value₀ face₀ value face = hi - face
 
 loop-holds : tie.Need-loop-holds Inv-loop μ-loop
 loop-holds c = left-start
@@ -25,7 +25,7 @@ index-at-requires : tie.Need-index-at-requires Inv-loop μ-loop
 index-at-requires c κs = search (near-of, needs)
 
 loop-again : tie.Need-loop-again Inv-loop μ-loop
-loop-again c = search (left-on, gather-on add64, needs)
+loop-again c = search (left-on, gather-near add64, needs)
 
 returns : tie.Need-returns Inv-loop μ-loop
 returns c = search (gathered)
@@ -39,8 +39,7 @@ add-faces-spec =
     loop-holds
     index-at-requires
     (λ c. omega arith)
-    (λ c. omega arith)
-    (λ c. omega arith)
+    (λ c κs. search needs)
     (λ c. omega arith)
     (λ c. omega arith)
     (λ c. omega arith)

@@ -1,25 +1,30 @@
--- `dicsweep::lower` meets its contract. The loop's invariant: what is left to do from here gives what the whole gives.
+-- `dicsweep::lower` meets its contract. The loop's invariant: what is left to do from here gives what the whole gives, and the
+-- next row's correction is held.
 -- Assumes nothing.
 use mathlib.Core.Path.{_≡_, refl}
-use Prim.Native.Nat.{_-_}
+use Prim.Native.Nat.{_+_, _-_}
 use lib.ListN.{length}
 use Rattle.store.specs.Loop.{for}
+use Rattle.store.specs.Region.{at}
 use Rattle.store.proofs.Loop.{Left, left-start, left-on}
 use Rattle.sweeps.specs.Turns.{lowerTurn}
-use Rattle.sweeps.proofs.Turns.{sweep-resize, stored}
+use Rattle.sweeps.proofs.Turns.{first-at, sweep-resize, stored}
 use native.Mathlib.Omega.{arith}
 use borrow.Author.Needs.{needs}
 use Rattle.dicsweep.proofs.lower.Statement.{statement}
 use Rattle.dicsweep.proofs.lower.Tie as tie
 
 abbrev Inv-loop : tie.InvT-loop
-Inv-loop w f₀ rows offsets neighbors coefficients dic correction row₀ f row = (length f ≡ length f₀) × Left (lowerTurn w offsets neighbors coefficients dic correction) row rows f (for (lowerTurn w offsets neighbors coefficients dic correction) 0 rows f₀)
+Inv-loop w f₀ rows offsets neighbors coefficients dic correction start₀ row₀ f start row =
+    (length f ≡ length f₀)
+    × Left (lowerTurn w offsets neighbors coefficients dic correction) row rows f (for (lowerTurn w offsets neighbors coefficients dic correction) 0 rows f₀)
+    × (start ≡ at f (correction + row))
 
 abbrev μ-loop : tie.MeasureT-loop
-μ-loop w f₀ rows offsets neighbors coefficients dic correction row₀ f row = rows - row
+μ-loop w f₀ rows offsets neighbors coefficients dic correction start₀ row₀ f start row = rows - row
 
 loop-holds : tie.Need-loop-holds Inv-loop μ-loop
-loop-holds c = (refl, left-start)
+loop-holds c = (refl, left-start, search (first-at, needs))
 
 lower-row-requires : tie.Need-lower-row-requires Inv-loop μ-loop
 lower-row-requires c κs = search (sweep-resize, needs)
@@ -36,6 +41,7 @@ lower-spec =
     (tie.spec
     Inv-loop
     μ-loop
+    (λ c κs. search needs)
     loop-holds
     lower-row-requires
     (λ c. omega arith)

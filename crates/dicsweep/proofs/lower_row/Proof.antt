@@ -2,11 +2,15 @@
 -- Assumes nothing.
 use Rattle.sweeps.proofs.Turns.{faces-beside, lowered}
 use borrow.Author.Needs.{needs}
+use native.Mathlib.Omega.{arith}
 use Rattle.dicsweep.proofs.lower_row.Statement.{statement}
 use Rattle.dicsweep.proofs.lower_row.Tie as tie
 
+scale-requires : tie.Need-scale-requires
+scale-requires c κs = (omega arith, (omega arith, search needs))
+
 cast-faces-requires : tie.Need-cast-faces-requires
-cast-faces-requires c κs = search (faces-beside, needs)
+cast-faces-requires c κs = (search (faces-beside, needs), search needs)
 
 returns : tie.Need-returns
 returns c = search (lowered)
@@ -24,6 +28,9 @@ lower-row-spec =
     (λ c. search needs)
     (λ c. search needs)
     (λ c κs. search needs)
+    scale-requires
+    (λ c. search needs)
+    (λ c. search needs)
     (λ c κs. search needs)
     cast-faces-requires
     (λ c. search needs)

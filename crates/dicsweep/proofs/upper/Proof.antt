@@ -1,9 +1,13 @@
--- `dicsweep::upper` meets its contract. The loop's invariant: what is left to do from here gives what the whole gives.
+-- `dicsweep::upper` meets its contract. The loop's invariant: what is left to do from here gives what the whole gives, and the correction
+-- of the row before is held.
 -- Assumes nothing.
-use mathlib.Core.Path.{_≡_, refl}
-use Prim.Native.Nat.{_-_}
+use mathlib.Core.Path.{_≡_, refl, sym, ap, _∙_}
+use Prim.Native.Nat.{_+_, _-_, _<_}
 use lib.ListN.{length, length-set}
+use lib.Seq.{getD-set-same}
+use lib.Ieee.{nan}
 use Rattle.store.specs.Loop.{for}
+use Rattle.store.specs.Region.{at}
 use Rattle.store.proofs.Loop.{Left, left-start, left-on}
 use Rattle.sweeps.specs.Turns.{upperTurn}
 use Rattle.sweeps.proofs.Turns.{sweep-resize, upper-on, stored}
@@ -13,22 +17,45 @@ use Rattle.dicsweep.proofs.upper.Statement.{statement}
 use Rattle.dicsweep.proofs.upper.Tie as tie
 
 abbrev Inv-loop : tie.InvT-loop
-Inv-loop w f₀ rows offsets neighbors coefficients dic x correction i₀ f i = (length f ≡ length f₀) × Left (upperTurn w offsets neighbors coefficients dic rows x correction) i rows f (for (upperTurn w offsets neighbors coefficients dic rows x correction) 0 rows f₀)
+Inv-loop w f₀ rows offsets neighbors coefficients dic x correction held₀ i₀ f held i =
+    (length f ≡ length f₀)
+    × Left (upperTurn w offsets neighbors coefficients dic rows x correction) i rows f (for (upperTurn w offsets neighbors coefficients dic rows x correction) 0 rows f₀)
+    × (held ≡ at f (correction + (rows - i)))
 
 abbrev μ-loop : tie.MeasureT-loop
-μ-loop w f₀ rows offsets neighbors coefficients dic x correction i₀ f i = rows - i
+μ-loop w f₀ rows offsets neighbors coefficients dic x correction held₀ i₀ f held i = rows - i
 
 loop-holds : tie.Need-loop-holds Inv-loop μ-loop
-loop-holds c = (refl, left-start)
+loop-holds c =
+    let s = c .before .before .before .before .args in
+    let first : s .correction + s .rows ≡ s .correction + (s .rows - 0) = omega arith in
+    (refl, left-start, rw first at (c .float-at .ensures))
 
 upper-value-requires : tie.Need-upper-value-requires Inv-loop μ-loop
-upper-value-requires c κs = search (sweep-resize, needs)
+upper-value-requires c κs =
+    let at-loop = c .before .before in
+    let start = at-loop .before .before .before .before .before in (sweep-resize (start .pre) (at-loop .loop .inv .0), (omega arith, at-loop .loop .inv .2))
 
-slice-write-f-2 : tie.Need-slice-write-f-2 Inv-loop μ-loop
-slice-write-f-2 c = simp length-set (omega arith)
+put-requires : tie.Need-put-requires Inv-loop μ-loop
+put-requires c κs =
+    let at-loop = c .before .before .before .before .before in
+    let s = at-loop .before .before .before .before .before .args in
+    let inside : s .correction + (s .rows - 1 - at-loop .loop .i) < length (at-loop .loop .f) = omega arith in
+    (simp length-set (omega arith), sym (getD-set-same (at-loop .loop .f) (s .correction + (s .rows - 1 - at-loop .loop .i)) _ nan inside))
 
 loop-again : tie.Need-loop-again Inv-loop μ-loop
-loop-again c = search (left-on, upper-on, needs)
+loop-again c =
+    let at-put = c .before .before in
+    let at-value = at-put .before .before .before in
+    let at-loop = at-value .before .before .before in
+    let s = at-loop .before .before .before .before .before .args in
+    let i = at-loop .loop .i in
+    let next : s .correction + (s .rows - 1 - i) ≡ s .correction + (s .rows - (i + 1)) = omega arith in (
+      ap length (at-put .put .ensures .is) ∙ simp length-set (at-loop .loop .inv .0),
+      left-on (at-loop .loop .inv .1) (at-value .before .before .loop-test .taken)
+          (upper-on _ _ _ _ _ _ _ _ _ _ _ _ _ _ _ (at-value .upper-value .ensures) refl (at-put .put .ensures)),
+      rw next at (at-put .put .ensures .held),
+    )
 
 returns : tie.Need-returns Inv-loop μ-loop
 returns c = search (stored)
@@ -39,7 +66,11 @@ upper-spec =
     (tie.spec
     Inv-loop
     μ-loop
+    (λ c. omega arith)
+    (λ c κs. search needs)
     loop-holds
+    (λ c. omega arith)
+    (λ c. omega arith)
     (λ c. omega arith)
     (λ c. omega arith)
     upper-value-requires
@@ -51,7 +82,7 @@ upper-spec =
     (λ c. omega arith)
     (λ c. omega arith)
     (λ c. omega arith)
-    slice-write-f-2
+    put-requires
     (λ c. omega arith)
     (λ c. omega arith)
     loop-again

@@ -6,7 +6,7 @@ use Rattle.dicsweep.proofs.upper_value.Statement.{statement}
 use Rattle.dicsweep.proofs.upper_value.Tie as tie
 
 add-faces-requires : tie.Need-add-faces-requires
-add-faces-requires c κs = search (faces-beside, needs)
+add-faces-requires c κs = (search (faces-beside, needs), search needs)
 
 returns : tie.Need-returns
 returns c = search (uppered)

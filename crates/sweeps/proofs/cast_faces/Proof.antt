@@ -38,7 +38,7 @@ loop-again c =
     let start = at-loop .before .before .before in (
       search needs,
       left-on (at-loop .loop .inv .1) (at-index .before .loop-test .taken)
-      (cast-put _ (start .args .neighbors) (start .args .coefficients) _ _ (start .args .v) _ _ _ _ _ (at-index .index-at .ensures .0) (at-put .put .ensures)),
+          (cast-put _ (start .args .neighbors) (start .args .coefficients) _ _ (start .args .v) _ _ _ _ _ (at-index .index-at .ensures .0) (at-put .put .ensures)),
       at-put .put .ensures .held,
     )
 

@@ -1,0 +1,22 @@
+-- `dicsweep::scale` meets its contract.
+-- Assumes nothing.
+use Rattle.sweeps.proofs.Turns.{scaled}
+use borrow.Author.Needs.{needs}
+use Rattle.dicsweep.proofs.scale.Statement.{statement}
+use Rattle.dicsweep.proofs.scale.Tie as tie
+
+returns : tie.Need-returns
+returns c = scaled _ _ _ _ _ (c .before .pre .1 .1)
+
+pub scale-spec : {M : Type 1} → statement M
+scale-spec =
+    tie.close
+    (tie.spec
+    (λ c. search needs)
+    (λ c. search needs)
+    (λ c. search needs)
+    (λ c. search needs)
+    (λ c. search needs)
+    (λ c. search needs)
+    (λ c. search needs)
+    returns)
