@@ -2,7 +2,7 @@
 ghost use mathlib.Core.Path.{_≡_};
 ghost use Prim.Native.Nat.{_+_, _<_, _≤_};
 ghost use lib.ListN.{length};
-ghost use Rattle.store.specs.Region.{at, part, Wrote};
+ghost use Rattle.store.specs.Region.{part, Wrote, Held};
 ghost use Rattle.matrix.specs.Kernel.{kernelAt};
 ghost use Rattle.matrix.specs.Turns.{FacesOk};
 ghost use Rattle.sweeps.specs.Turns.{Watched};
@@ -19,8 +19,7 @@ fn is_pivot(d: f64) -> bool
     float::is_finite(d) & !(d <= 0.0)
 }
 
-// A row's pivot, taken to the neighbours of its faces from lo to hi. The answer is what then stands at `watched`, where
-// `held` stood.
+// A row's pivot, taken to the neighbours of its faces from lo to hi. The answer is what a caller that is near then holds.
 fn pivot_faces(
     w: &[u32],
     f: &mut [f64],
@@ -31,12 +30,13 @@ fn pivot_faces(
     coefficients: usize,
     d: usize,
     pivot: f64,
+    near: bool,
     watched: usize,
     held: f64,
 ) -> f64
     requires { ⌜ FacesOk (now w) (length (now f)) rows hi neighbors coefficients d d ⌝ }
-    requires { ⌜ held ≡ at (now f) watched ⌝ }
-    ensures { λ r. ⌜ Watched (pivotTurn (now (w .entry)) neighbors coefficients d pivot) lo hi (now (f .entry)) (now (f .exit)) watched r ⌝ }
+    requires { ⌜ Held near watched (now f) held ⌝ }
+    ensures { λ r. ⌜ Watched (pivotTurn (now (w .entry)) neighbors coefficients d pivot) lo hi (now (f .entry)) (now (f .exit)) near watched r ⌝ }
 {
     let mut next = held;
     let mut face = lo;
@@ -44,15 +44,22 @@ fn pivot_faces(
         let neighbor = store::index_at(w, neighbors, face, rows);
         let a = f[coefficients + face];
         let left = f[d + neighbor] - a * a / pivot;
-        next = store::put(f, d + neighbor, left, watched, next);
+        next = store::put(f, d + neighbor, left, near, watched, next);
         face += 1;
     }
     next
 }
 
-// The faces of one row. The answer is the pivot of the next: it goes from row to row in a register, so that no row waits
-// until the one before it is stored.
-fn pivot_row(w: &[u32], f: &mut [f64], s: SymmetricMatrix, d: usize, row: usize, pivot: f64) -> f64
+// The faces of one row. The answer is the pivot of the next.
+fn pivot_row(
+    w: &[u32],
+    f: &mut [f64],
+    s: SymmetricMatrix,
+    d: usize,
+    near: bool,
+    row: usize,
+    pivot: f64,
+) -> f64
     requires { ⌜ DicOk (now w) (length (now f)) s d ⌝ }
     requires { ⌜ row < s .rows ⌝ }
     ensures { λ r. ⌜ PivotRowed (now (w .entry)) s d row pivot (now (f .entry)) (now (f .exit)) r ⌝ }
@@ -61,7 +68,7 @@ fn pivot_row(w: &[u32], f: &mut [f64], s: SymmetricMatrix, d: usize, row: usize,
     let hi = store::wide(w[s.offsets + row + 1]);
     let next = d + (row + 1);
     let held = store::float_at(f, next);
-    pivot_faces(
+    let stays = pivot_faces(
         w,
         f,
         s.rows,
@@ -71,9 +78,11 @@ fn pivot_row(w: &[u32], f: &mut [f64], s: SymmetricMatrix, d: usize, row: usize,
         s.coefficients,
         d,
         pivot,
+        near,
         next,
         held,
-    )
+    );
+    store::held_at(f, next, near, stays)
 }
 
 // Question 16 of each row, whose pivot then goes to its neighbours.
@@ -83,11 +92,12 @@ fn dic_pivots(w: &[u32], f: &mut [f64], s: SymmetricMatrix, d: usize, level: u64
     ensures { λ r. ⌜ Settled d (s .rows) (pivotsOf level (kernelAt s (now (w .entry)) (now (f .entry)))) (now (f .entry)) (now (f .exit)) r ⌝ }
 {
     let rows = s.rows;
+    let near = sweeps::few_faces(w, s.offsets, rows);
     let mut pivot = store::float_at(f, d);
     let mut row = 0;
     while row < rows {
         if is_pivot(pivot) {
-            pivot = pivot_row(w, f, s, d, row, pivot);
+            pivot = pivot_row(w, f, s, d, near, row, pivot);
             row += 1;
         } else {
             return Verdict::Refused(Refusal::BadDicPivot {

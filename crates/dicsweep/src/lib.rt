@@ -3,7 +3,7 @@ ghost use mathlib.Core.Path.{_≡_};
 ghost use Prim.Native.Nat.{_+_, _<_};
 ghost use lib.ListN.{length};
 ghost use Rattle.float.specs.Float.{add64};
-ghost use Rattle.store.specs.Region.{at, part};
+ghost use Rattle.store.specs.Region.{at, part, Held};
 ghost use Rattle.matrix.specs.Kernel.{kernelAt};
 ghost use Rattle.matrix.specs.Turns.{FacesOk};
 ghost use Rattle.sweeps.specs.Sweep.{dicSweepOf};
@@ -11,7 +11,7 @@ ghost use Rattle.sweeps.specs.Contract.{SmoothOk, Both};
 ghost use Rattle.sweeps.specs.Turns.{Stored, Handed, lowerTurn, upperTurn, Gathered, Scaled, Upper, SweepOk};
 use matrix::SymmetricMatrix;
 
-// a * v[neighbor] of each face from lo to hi, added up from start; `held` stands at `watched`.
+// a * v[neighbor] of each face from lo to hi, added up from start; a caller that is near holds what stands at `watched`.
 fn add_faces(
     w: &[u32],
     f: &[f64],
@@ -22,19 +22,20 @@ fn add_faces(
     coefficients: usize,
     v: usize,
     start: f64,
+    near: bool,
     watched: usize,
     held: f64,
 ) -> f64
     requires { ⌜ FacesOk (now w) (length (now f)) rows hi neighbors coefficients v v ⌝ }
-    requires { ⌜ held ≡ at (now f) watched ⌝ }
+    requires { ⌜ Held near watched (now f) held ⌝ }
     ensures { λ r. ⌜ Gathered add64 (now (w .entry)) neighbors coefficients v lo hi start (now (f .entry)) r ⌝ }
 {
     let mut value = start;
     let mut face = lo;
     while face < hi {
         let neighbor = store::index_at(w, neighbors, face, rows);
-        let near = store::float_near(f, v + neighbor, watched, held);
-        value = value + f[coefficients + face] * near;
+        let other = store::float_near(f, v + neighbor, near, watched, held);
+        value = value + f[coefficients + face] * other;
         face += 1;
     }
     value
@@ -52,8 +53,7 @@ fn scale(f: &mut [f64], dic: usize, correction: usize, row: usize, start: f64) -
     value
 }
 
-// A row of the forward substitution. The answer is the correction of the next row so far: it goes from row to row in a
-// register, so that no row waits until the one before it is stored.
+// A row of the forward substitution. The answer is the correction of the next row so far.
 fn lower_row(
     w: &[u32],
     f: &mut [f64],
@@ -63,6 +63,7 @@ fn lower_row(
     coefficients: usize,
     dic: usize,
     correction: usize,
+    near: bool,
     row: usize,
     start: f64,
 ) -> f64
@@ -76,7 +77,7 @@ fn lower_row(
     let value = scale(f, dic, correction, row, start);
     let next = correction + (row + 1);
     let held = store::float_at(f, next);
-    sweeps::cast_faces(
+    let stays = sweeps::cast_faces(
         w,
         f,
         rows,
@@ -86,9 +87,11 @@ fn lower_row(
         coefficients,
         correction,
         value,
+        near,
         next,
         held,
-    )
+    );
+    store::held_at(f, next, near, stays)
 }
 
 // The forward substitution.
@@ -105,6 +108,7 @@ fn lower(
     requires { ⌜ SweepOk (now w) (length (now f)) rows offsets neighbors coefficients dic correction correction ⌝ }
     ensures { λ _. ⌜ Stored (lowerTurn (now (w .entry)) offsets neighbors coefficients dic correction) 0 rows (now (f .entry)) (now (f .exit)) ⌝ }
 {
+    let near = sweeps::few_faces(w, offsets, rows);
     let mut start = store::float_at(f, correction);
     let mut row = 0;
     while row < rows {
@@ -117,6 +121,7 @@ fn lower(
             coefficients,
             dic,
             correction,
+            near,
             row,
             start,
         );
@@ -124,7 +129,7 @@ fn lower(
     }
 }
 
-// The new correction of a row on the way back; `held` stands at `watched`.
+// The new correction of a row on the way back; a caller that is near holds what stands at `watched`.
 fn upper_value(
     w: &[u32],
     f: &[f64],
@@ -136,12 +141,13 @@ fn upper_value(
     x: usize,
     correction: usize,
     row: usize,
+    near: bool,
     watched: usize,
     held: f64,
 ) -> f64
     requires { ⌜ SweepOk (now w) (length (now f)) rows offsets neighbors coefficients dic x correction ⌝ }
     requires { ⌜ row < rows ⌝ }
-    requires { ⌜ held ≡ at (now f) watched ⌝ }
+    requires { ⌜ Held near watched (now f) held ⌝ }
     ensures { λ r. ⌜ Upper (now (w .entry)) offsets neighbors coefficients dic correction row (now (f .entry)) r ⌝ }
 {
     let lo = store::wide(w[offsets + row]);
@@ -156,14 +162,14 @@ fn upper_value(
         coefficients,
         correction,
         0.0,
+        near,
         watched,
         held,
     );
     f[correction + row] - f[dic + row] * upper
 }
 
-// The backward substitution, row by row added to x. The correction of the row before is held in a register, so that no row
-// waits until it is stored.
+// The backward substitution, row by row added to x.
 fn upper(
     w: &[u32],
     f: &mut [f64],
@@ -178,6 +184,7 @@ fn upper(
     requires { ⌜ SweepOk (now w) (length (now f)) rows offsets neighbors coefficients dic x correction ⌝ }
     ensures { λ _. ⌜ Stored (upperTurn (now (w .entry)) offsets neighbors coefficients dic rows x correction) 0 rows (now (f .entry)) (now (f .exit)) ⌝ }
 {
+    let near = sweeps::few_faces(w, offsets, rows);
     let mut held = store::float_at(f, correction + rows);
     let mut i = 0;
     while i < rows {
@@ -193,12 +200,13 @@ fn upper(
             x,
             correction,
             row,
+            near,
             correction + (rows - i),
             held,
         );
         let sum = f[x + row] + value;
         f[correction + row] = value;
-        held = store::put(f, x + row, sum, correction + row, value);
+        held = store::put(f, x + row, sum, near, correction + row, value);
         i += 1;
     }
 }

@@ -1,6 +1,7 @@
 -- The inner functions' turns as the code has them, and what one requires of the next.
 -- Assumes nothing.
 use mathlib.Core.Path.{_≡_, refl, ap, _∙_}
+use mathlib.Core.Bool.{Bool}
 use mathlib.Core.List.{List}
 use Prim.Native.Nat.{ℕ, _+_, _-_, _≤_, _<_}
 use native.Mathlib.Omega.{arith}
@@ -8,14 +9,14 @@ use lib.ListN.{length, set}
 use lib.Ieee.{Float}
 use Rattle.float.specs.Float.{add64, sub64, mul64, zero64}
 use Rattle.store.specs.Loop.{for}
-use Rattle.store.specs.Region.{at, idx, Put}
+use Rattle.store.specs.Region.{at, idx, Held, Put}
 use Rattle.store.proofs.Loop.{Left, left-end}
 use Rattle.matrix.specs.Turns.{FacesOk}
 use Rattle.sweeps.specs.Turns.{Stored, Watched, Handed, gatherTurn, castTurn, freshAt, forwardTurn, backwardTurn, lowerTurn, upperAt, upperTurn, Gathered, Fresh, Scaled, Upper, SweepOk}
 
 -- The end of a loop that watches a float.
-pub watched-ran : {turn : ℕ → List Float → List Float} {k lo hi watched : ℕ} {F G : List Float} {r : Float} → Left turn k hi G (for turn lo hi F) → r ≡ at G watched → hi ≤ k
-    → Watched turn lo hi F G watched r
+pub watched-ran : {turn : ℕ → List Float → List Float} {k lo hi watched : ℕ} {F G : List Float} {near : Bool} {r : Float} → Left turn k hi G (for turn lo hi F)
+    → Held near watched G r → hi ≤ k → Watched turn lo hi F G near watched r
 watched-ran l e h = record { is = left-end l h; held = e }
 
 -- The first float of a vector.
@@ -64,10 +65,10 @@ gather-on op w neighbors coefficients F v e j value h = rw h
 
 module _ (w : List ℕ) (neighbors coefficients : ℕ) where
   -- A face that is cast.
-  pub cast-put : (F G : List Float) (v e j watched : ℕ) (value r : Float) → j ≡ idx w (neighbors + e)
-      → Put (v + j) (sub64 (at F (v + j)) (mul64 (at F (coefficients + e)) value)) watched F G r → G ≡ castTurn w neighbors coefficients v value e F
+  pub cast-put : (F G : List Float) (v e j watched : ℕ) (near : Bool) (value r : Float) → j ≡ idx w (neighbors + e)
+      → Put (v + j) (sub64 (at F (v + j)) (mul64 (at F (coefficients + e)) value)) near watched F G r → G ≡ castTurn w neighbors coefficients v value e F
   unfolding castTurn
-  cast-put F G v e j watched value r h c = c .is ∙ rw h
+  cast-put F G v e j watched near value r h c = c .is ∙ rw h
 
 -- ---- rows
 
@@ -98,18 +99,18 @@ scaled own c row F start e = record { value = rw e; is = refl }
 module _ (w : List ℕ) (offsets neighbors coefficients own x beside row lo hi : ℕ) (F G : List Float) (value : Float)
     (a : lo ≡ idx w (offsets + row)) (b : hi ≡ idx w (offsets + row + 1)) where
   -- A row of the forward sweep.
-  pub forwarded : {H : List Float} {watched : ℕ} {cast r : Float} → Fresh w offsets neighbors coefficients own x beside row F value
-      → Watched (castTurn w neighbors coefficients beside value) lo hi F G watched cast → Put (x + row) value watched G H r
-      → Handed (forwardTurn w offsets neighbors coefficients own x beside) row F H watched r
+  pub forwarded : {H : List Float} {watched : ℕ} {near : Bool} {cast stays r : Float} → Fresh w offsets neighbors coefficients own x beside row F value
+      → Watched (castTurn w neighbors coefficients beside value) lo hi F G near watched cast → Put (x + row) value near watched G H stays
+      → r ≡ at H watched → Handed (forwardTurn w offsets neighbors coefficients own x beside) row F H watched r
   unfolding forwardTurn
-  forwarded e c p = record { is = p .is ∙ ap (λ (H : List Float). set H (x + row) value) (c .is) ∙ rw (a, b, ← e .is); held = p .held }
+  forwarded e c p held = record { is = p .is ∙ ap (λ (H : List Float). set H (x + row) value) (c .is) ∙ rw (a, b, ← e .is); held = held }
 
   -- A row of the forward substitution.
-  pub lowered : {H : List Float} {watched : ℕ} {r : Float} → Scaled own beside row F G value
-      → Watched (castTurn w neighbors coefficients beside value) lo hi G H watched r
-      → Handed (lowerTurn w offsets neighbors coefficients own beside) row F H watched r
+  pub lowered : {H : List Float} {watched : ℕ} {near : Bool} {cast r : Float} → Scaled own beside row F G value
+      → Watched (castTurn w neighbors coefficients beside value) lo hi G H near watched cast
+      → r ≡ at H watched → Handed (lowerTurn w offsets neighbors coefficients own beside) row F H watched r
   unfolding lowerTurn
-  lowered {H} e c = record { is = c .is ∙ rw (a, b, e .is, ← e .value); held = c .held }
+  lowered {H} e c held = record { is = c .is ∙ rw (a, b, e .is, ← e .value); held = held }
 
 -- Row n - 1 - i of the backward sweep.
 pub backward-on : (w : List ℕ) (n offsets neighbors coefficients own x beside row i : ℕ) (F : List Float) (value : Float)
@@ -119,9 +120,9 @@ unfolding backwardTurn
 backward-on w n offsets neighbors coefficients own x beside row i F value a e = rw (a .is, e)
 
 -- Row n - 1 - i of the backward substitution.
-pub upper-on : (w : List ℕ) (n offsets neighbors coefficients own x beside row i watched : ℕ) (F G : List Float) (value r : Float)
+pub upper-on : (w : List ℕ) (n offsets neighbors coefficients own x beside row i watched : ℕ) (near : Bool) (F G : List Float) (value r : Float)
     → Upper w offsets neighbors coefficients own beside row F value → row ≡ n - 1 - i
-    → Put (x + row) (add64 (at F (x + row)) value) watched (set F (beside + row) value) G r
+    → Put (x + row) (add64 (at F (x + row)) value) near watched (set F (beside + row) value) G r
     → G ≡ upperTurn w offsets neighbors coefficients own n x beside i F
 unfolding upperTurn
-upper-on w n offsets neighbors coefficients own x beside row i watched F G value r a e p = p .is ∙ rw (a .is, e)
+upper-on w n offsets neighbors coefficients own x beside row i watched near F G value r a e p = p .is ∙ rw (a .is, e)

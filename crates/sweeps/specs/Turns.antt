@@ -1,22 +1,23 @@
 -- The loops of the code as functions of the store, and what the inner functions require and ensure. Definitions only.
 use mathlib.Core.List.{List}
 use mathlib.Core.Path.{_≡_}
+use mathlib.Core.Bool.{Bool}
 use Prim.Native.Nat.{ℕ, _+_, _-_, _≤_, _<_}
 use lib.ListN.{length, set}
 use lib.Ieee.{Float}
 use Rattle.float.specs.Float.{add64, sub64, mul64, zero64}
 use Rattle.store.specs.Loop.{for}
-use Rattle.store.specs.Region.{at, idx}
+use Rattle.store.specs.Region.{at, idx, Held}
 
 -- what a loop leaves in a store
 pub record Stored (turn : ℕ → List Float → List Float) (lo hi : ℕ) (F G : List Float) : Type 0 where
   pub is : G ≡ for turn lo hi F
   pub size : length G ≡ length F
 
--- what a loop leaves in a store, in which r stands at `watched`
-pub record Watched (turn : ℕ → List Float → List Float) (lo hi : ℕ) (F G : List Float) (watched : ℕ) (r : Float) : Type 0 where
+-- what a loop leaves in a store, and what a caller that is near then holds
+pub record Watched (turn : ℕ → List Float → List Float) (lo hi : ℕ) (F G : List Float) (near : Bool) (watched : ℕ) (r : Float) : Type 0 where
   pub is : G ≡ for turn lo hi F
-  pub held : r ≡ at G watched
+  pub held : Held near watched G r
 
 -- what a turn leaves in a store, in which r stands at `watched`
 pub record Handed (turn : ℕ → List Float → List Float) (k : ℕ) (F G : List Float) (watched : ℕ) (r : Float) : Type 0 where

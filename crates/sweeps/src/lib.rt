@@ -1,9 +1,10 @@
 // smoother.rs: one Gauss-Seidel sweep over regions of the store.
 ghost use mathlib.Core.Path.{_≡_};
-ghost use Prim.Native.Nat.{_+_, _<_};
+ghost use Prim.Native.Nat.{_+_, _/_, _<_};
+ghost use lib.Dec.{leb};
 ghost use lib.ListN.{length};
 ghost use Rattle.float.specs.Float.{sub64};
-ghost use Rattle.store.specs.Region.{at, part};
+ghost use Rattle.store.specs.Region.{at, idx, part, Held};
 ghost use Rattle.matrix.specs.Kernel.{kernelAt};
 ghost use Rattle.matrix.specs.Turns.{FacesOk};
 ghost use Rattle.sweeps.specs.Sweep.{gaussSeidelOf};
@@ -36,7 +37,17 @@ fn take_faces(
     value
 }
 
-// v[neighbor] -= a * value, for each face from lo to hi. The answer is what then stands at `watched`, where `held` stood.
+// Whether a row has at most two faces on the average, as on a grid in the plane whose rows go line by line. The next row is
+// then often a neighbour: what a row leaves for it is worth holding in a register, so that it does not wait for the store.
+// With more faces, rows wait for little, and a wrong guess at which face it is costs more.
+pub fn few_faces(w: &[u32], offsets: usize, rows: usize) -> bool
+    requires { ⌜ offsets + rows < length (now w) ⌝ }
+    ensures { λ r. ⌜ r ≡ leb (idx (now (w .entry)) (offsets + rows) / 2) rows ⌝ }
+{
+    store::wide(w[offsets + rows]) / 2 <= rows
+}
+
+// v[neighbor] -= a * value, for each face from lo to hi. The answer is what a caller that is near then holds.
 pub fn cast_faces(
     w: &[u32],
     f: &mut [f64],
@@ -47,19 +58,20 @@ pub fn cast_faces(
     coefficients: usize,
     v: usize,
     value: f64,
+    near: bool,
     watched: usize,
     held: f64,
 ) -> f64
     requires { ⌜ FacesOk (now w) (length (now f)) rows hi neighbors coefficients v v ⌝ }
-    requires { ⌜ held ≡ at (now f) watched ⌝ }
-    ensures { λ r. ⌜ Watched (castTurn (now (w .entry)) neighbors coefficients v value) lo hi (now (f .entry)) (now (f .exit)) watched r ⌝ }
+    requires { ⌜ Held near watched (now f) held ⌝ }
+    ensures { λ r. ⌜ Watched (castTurn (now (w .entry)) neighbors coefficients v value) lo hi (now (f .entry)) (now (f .exit)) near watched r ⌝ }
 {
     let mut next = held;
     let mut face = lo;
     while face < hi {
         let neighbor = store::index_at(w, neighbors, face, rows);
         let left = f[v + neighbor] - f[coefficients + face] * value;
-        next = store::put(f, v + neighbor, left, watched, next);
+        next = store::put(f, v + neighbor, left, near, watched, next);
         face += 1;
     }
     next
@@ -90,8 +102,7 @@ fn fresh(
     value * f[inverse + row]
 }
 
-// A row of the forward sweep. The answer is what stands in work for the next row: it goes from row to row in a register, so
-// that no row waits until the one before it is stored.
+// A row of the forward sweep. The answer is what stands in work for the next row.
 fn forward_row(
     w: &[u32],
     f: &mut [f64],
@@ -102,6 +113,7 @@ fn forward_row(
     inverse: usize,
     x: usize,
     work: usize,
+    near: bool,
     row: usize,
     start: f64,
 ) -> f64
@@ -137,10 +149,12 @@ fn forward_row(
         coefficients,
         work,
         value,
+        near,
         next,
         held,
     );
-    store::put(f, x + row, value, next, cast)
+    let stays = store::put(f, x + row, value, near, next, cast);
+    store::held_at(f, next, near, stays)
 }
 
 // The rows upward.
@@ -158,6 +172,7 @@ fn forward(
     requires { ⌜ SweepOk (now w) (length (now f)) rows offsets neighbors coefficients inverse x work ⌝ }
     ensures { λ _. ⌜ Stored (forwardTurn (now (w .entry)) offsets neighbors coefficients inverse x work) 0 rows (now (f .entry)) (now (f .exit)) ⌝ }
 {
+    let near = few_faces(w, offsets, rows);
     let mut start = store::float_at(f, work);
     let mut row = 0;
     while row < rows {
@@ -171,6 +186,7 @@ fn forward(
             inverse,
             x,
             work,
+            near,
             row,
             start,
         );

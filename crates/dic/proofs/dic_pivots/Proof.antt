@@ -13,10 +13,10 @@ use Rattle.dic.proofs.dic_pivots.Statement.{statement}
 use Rattle.dic.proofs.dic_pivots.Tie as tie
 
 abbrev Inv-loop : tie.InvT-loop
-Inv-loop w f₀ s d level rows pivot₀ row₀ f pivot row = (length f ≡ length f₀) × Pivoting level w s d row f₀ f × (pivot ≡ at f (d + row))
+Inv-loop w f₀ s d level rows near pivot₀ row₀ f pivot row = (length f ≡ length f₀) × Pivoting level w s d row f₀ f × (pivot ≡ at f (d + row))
 
 abbrev μ-loop : tie.MeasureT-loop
-μ-loop w f₀ s d level rows pivot₀ row₀ f pivot row = s .rows - row
+μ-loop w f₀ s d level rows near pivot₀ row₀ f pivot row = s .rows - row
 
 loop-holds : tie.Need-loop-holds Inv-loop μ-loop
 loop-holds c = (refl, search (pivots-start), search (first-at, needs))
@@ -29,7 +29,7 @@ loop-again c =
     let at-pivot = c .before .before in
     let at-test = at-pivot .before .before .before in
     let at-loop = at-test .before .before in
-    let start = at-loop .before .before .before .before .before in (
+    let start = at-loop .before .before .before .before .before .before in (
       search needs,
       pivots-on _ (start .pre .0) (at-loop .loop .inv .1) (at-test .before .loop-test .taken) (at-pivot .pivot-row .ensures) (at-loop .loop .inv .2)
           (at-test .is-pivot .ensures) (at-pivot .before .before .if1 .taken),
@@ -48,6 +48,7 @@ dic-pivots-spec =
     (tie.spec
     Inv-loop
     μ-loop
+    (λ c κs. search needs)
     (λ c κs. search needs)
     loop-holds
     (λ c κs. search needs)

@@ -4,7 +4,7 @@ use mathlib.Core.Path.{_≡_, refl}
 use Prim.Native.Nat.{_-_}
 use lib.ListN.{length}
 use Rattle.store.specs.Loop.{for}
-use Rattle.store.specs.Region.{at}
+use Rattle.store.specs.Region.{Held}
 use Rattle.store.proofs.Loop.{Left, left-start, left-on}
 use Rattle.matrix.proofs.Turns.{near-of}
 use Rattle.dic.specs.Turns.{pivotTurn}
@@ -16,13 +16,13 @@ use Rattle.dic.proofs.pivot_faces.Statement.{statement}
 use Rattle.dic.proofs.pivot_faces.Tie as tie
 
 abbrev Inv-loop : tie.InvT-loop
-Inv-loop w f₀ rows lo hi neighbors coefficients d pivot watched held next₀ face₀ f next face =
+Inv-loop w f₀ rows lo hi neighbors coefficients d pivot near watched held next₀ face₀ f next face =
     (length f ≡ length f₀)
     × Left (pivotTurn w neighbors coefficients d pivot) face hi f (for (pivotTurn w neighbors coefficients d pivot) lo hi f₀)
-    × (next ≡ at f watched)
+    × Held near watched f next
 
 abbrev μ-loop : tie.MeasureT-loop
-μ-loop w f₀ rows lo hi neighbors coefficients d pivot watched held next₀ face₀ f next face = hi - face
+μ-loop w f₀ rows lo hi neighbors coefficients d pivot near watched held next₀ face₀ f next face = hi - face
 
 loop-holds : tie.Need-loop-holds Inv-loop μ-loop
 loop-holds c = (refl, left-start, search needs)

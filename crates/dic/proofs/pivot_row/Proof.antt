@@ -1,5 +1,6 @@
 -- `dic::pivot_row` meets its contract.
 -- Assumes nothing.
+use Rattle.store.proofs.Single.{held-read}
 use Rattle.dic.proofs.Turns.{faces-pivot, pivot-rowed}
 use borrow.Author.Needs.{needs}
 use native.Mathlib.Omega.{arith}
@@ -7,7 +8,10 @@ use Rattle.dic.proofs.pivot_row.Statement.{statement}
 use Rattle.dic.proofs.pivot_row.Tie as tie
 
 pivot-faces-requires : tie.Need-pivot-faces-requires
-pivot-faces-requires c κs = search (faces-pivot, needs)
+pivot-faces-requires c κs = (search (faces-pivot, needs), search (held-read))
+
+held-at-requires : tie.Need-held-at-requires
+held-at-requires c κs = c .before .before .before .pivot-faces .ensures .held
 
 returns : tie.Need-returns
 returns c = search (pivot-rowed)
@@ -29,5 +33,6 @@ pivot-row-spec =
     (λ c. search needs)
     (λ c κs. search needs)
     pivot-faces-requires
+    held-at-requires
     (λ c. search needs)
     returns)

@@ -13,10 +13,10 @@ use Rattle.dicsweep.proofs.add_faces.Statement.{statement}
 use Rattle.dicsweep.proofs.add_faces.Tie as tie
 
 abbrev Inv-loop : tie.InvT-loop
-Inv-loop w f rows lo hi neighbors coefficients v start watched held value₀ face₀ value face = Left (gatherTurn w neighbors coefficients add64 f v) face hi value (for (gatherTurn w neighbors coefficients add64 f v) lo hi start)
+Inv-loop w f rows lo hi neighbors coefficients v start near watched held value₀ face₀ value face = Left (gatherTurn w neighbors coefficients add64 f v) face hi value (for (gatherTurn w neighbors coefficients add64 f v) lo hi start)
 
 abbrev μ-loop : tie.MeasureT-loop
-μ-loop w f rows lo hi neighbors coefficients v start watched held value₀ face₀ value face = hi - face
+μ-loop w f rows lo hi neighbors coefficients v start near watched held value₀ face₀ value face = hi - face
 
 loop-holds : tie.Need-loop-holds Inv-loop μ-loop
 loop-holds c = left-start

@@ -15,13 +15,13 @@ use Rattle.dicsweep.proofs.lower.Statement.{statement}
 use Rattle.dicsweep.proofs.lower.Tie as tie
 
 abbrev Inv-loop : tie.InvT-loop
-Inv-loop w f₀ rows offsets neighbors coefficients dic correction start₀ row₀ f start row =
+Inv-loop w f₀ rows offsets neighbors coefficients dic correction near start₀ row₀ f start row =
     (length f ≡ length f₀)
     × Left (lowerTurn w offsets neighbors coefficients dic correction) row rows f (for (lowerTurn w offsets neighbors coefficients dic correction) 0 rows f₀)
     × (start ≡ at f (correction + row))
 
 abbrev μ-loop : tie.MeasureT-loop
-μ-loop w f₀ rows offsets neighbors coefficients dic correction start₀ row₀ f start row = rows - row
+μ-loop w f₀ rows offsets neighbors coefficients dic correction near start₀ row₀ f start row = rows - row
 
 loop-holds : tie.Need-loop-holds Inv-loop μ-loop
 loop-holds c = (refl, left-start, search (first-at, needs))
@@ -41,6 +41,7 @@ lower-spec =
     (tie.spec
     Inv-loop
     μ-loop
+    (λ c κs. search needs)
     (λ c κs. search needs)
     loop-holds
     lower-row-requires

@@ -1,5 +1,6 @@
 -- `dicsweep::lower_row` meets its contract.
 -- Assumes nothing.
+use Rattle.store.proofs.Single.{held-read}
 use Rattle.sweeps.proofs.Turns.{faces-beside, lowered}
 use borrow.Author.Needs.{needs}
 use native.Mathlib.Omega.{arith}
@@ -10,7 +11,10 @@ scale-requires : tie.Need-scale-requires
 scale-requires c κs = (omega arith, (omega arith, search needs))
 
 cast-faces-requires : tie.Need-cast-faces-requires
-cast-faces-requires c κs = (search (faces-beside, needs), search needs)
+cast-faces-requires c κs = (search (faces-beside, needs), search (held-read))
+
+held-at-requires : tie.Need-held-at-requires
+held-at-requires c κs = c .before .before .before .cast-faces .ensures .held
 
 returns : tie.Need-returns
 returns c = search (lowered)
@@ -33,5 +37,6 @@ lower-row-spec =
     (λ c. search needs)
     (λ c κs. search needs)
     cast-faces-requires
+    held-at-requires
     (λ c. search needs)
     returns)

@@ -7,7 +7,7 @@ use lib.ListN.{length, length-set}
 use lib.Seq.{getD-set-same}
 use lib.Ieee.{nan}
 use Rattle.store.specs.Loop.{for}
-use Rattle.store.specs.Region.{at}
+use Rattle.store.specs.Region.{Held}
 use Rattle.store.proofs.Loop.{Left, left-start, left-on}
 use Rattle.sweeps.specs.Turns.{upperTurn}
 use Rattle.sweeps.proofs.Turns.{sweep-resize, upper-on, stored}
@@ -17,43 +17,43 @@ use Rattle.dicsweep.proofs.upper.Statement.{statement}
 use Rattle.dicsweep.proofs.upper.Tie as tie
 
 abbrev Inv-loop : tie.InvT-loop
-Inv-loop w f₀ rows offsets neighbors coefficients dic x correction held₀ i₀ f held i =
+Inv-loop w f₀ rows offsets neighbors coefficients dic x correction near held₀ i₀ f held i =
     (length f ≡ length f₀)
     × Left (upperTurn w offsets neighbors coefficients dic rows x correction) i rows f (for (upperTurn w offsets neighbors coefficients dic rows x correction) 0 rows f₀)
-    × (held ≡ at f (correction + (rows - i)))
+    × Held near (correction + (rows - i)) f held
 
 abbrev μ-loop : tie.MeasureT-loop
-μ-loop w f₀ rows offsets neighbors coefficients dic x correction held₀ i₀ f held i = rows - i
+μ-loop w f₀ rows offsets neighbors coefficients dic x correction near held₀ i₀ f held i = rows - i
 
 loop-holds : tie.Need-loop-holds Inv-loop μ-loop
 loop-holds c =
-    let s = c .before .before .before .before .args in
+    let s = c .before .before .before .before .before .args in
     let first : s .correction + s .rows ≡ s .correction + (s .rows - 0) = omega arith in
-    (refl, left-start, rw first at (c .float-at .ensures))
+    (refl, left-start, record { is = λ _. rw first at (c .float-at .ensures) })
 
 upper-value-requires : tie.Need-upper-value-requires Inv-loop μ-loop
 upper-value-requires c κs =
     let at-loop = c .before .before in
-    let start = at-loop .before .before .before .before .before in (sweep-resize (start .pre) (at-loop .loop .inv .0), (omega arith, at-loop .loop .inv .2))
+    let start = at-loop .before .before .before .before .before .before in (sweep-resize (start .pre) (at-loop .loop .inv .0), (omega arith, at-loop .loop .inv .2))
 
 put-requires : tie.Need-put-requires Inv-loop μ-loop
 put-requires c κs =
     let at-loop = c .before .before .before .before .before in
-    let s = at-loop .before .before .before .before .before .args in
+    let s = at-loop .before .before .before .before .before .before .args in
     let inside : s .correction + (s .rows - 1 - at-loop .loop .i) < length (at-loop .loop .f) = omega arith in
-    (simp length-set (omega arith), sym (getD-set-same (at-loop .loop .f) (s .correction + (s .rows - 1 - at-loop .loop .i)) _ nan inside))
+    (simp length-set (omega arith), record { is = λ _. sym (getD-set-same (at-loop .loop .f) (s .correction + (s .rows - 1 - at-loop .loop .i)) _ nan inside) })
 
 loop-again : tie.Need-loop-again Inv-loop μ-loop
 loop-again c =
     let at-put = c .before .before in
     let at-value = at-put .before .before .before in
     let at-loop = at-value .before .before .before in
-    let s = at-loop .before .before .before .before .before .args in
+    let s = at-loop .before .before .before .before .before .before .args in
     let i = at-loop .loop .i in
     let next : s .correction + (s .rows - 1 - i) ≡ s .correction + (s .rows - (i + 1)) = omega arith in (
       ap length (at-put .put .ensures .is) ∙ simp length-set (at-loop .loop .inv .0),
       left-on (at-loop .loop .inv .1) (at-value .before .before .loop-test .taken)
-          (upper-on _ _ _ _ _ _ _ _ _ _ _ _ _ _ _ (at-value .upper-value .ensures) refl (at-put .put .ensures)),
+          (upper-on _ _ _ _ _ _ _ _ _ _ _ _ _ _ _ _ (at-value .upper-value .ensures) refl (at-put .put .ensures)),
       rw next at (at-put .put .ensures .held),
     )
 
@@ -66,6 +66,7 @@ upper-spec =
     (tie.spec
     Inv-loop
     μ-loop
+    (λ c κs. search needs)
     (λ c. omega arith)
     (λ c κs. search needs)
     loop-holds

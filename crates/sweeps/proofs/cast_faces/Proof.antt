@@ -5,7 +5,7 @@ use mathlib.Core.Path.{_≡_, refl}
 use Prim.Native.Nat.{_-_}
 use lib.ListN.{length}
 use Rattle.store.specs.Loop.{for}
-use Rattle.store.specs.Region.{at}
+use Rattle.store.specs.Region.{Held}
 use Rattle.store.proofs.Loop.{Left, left-start, left-on}
 use Rattle.matrix.proofs.Turns.{near-of}
 use Rattle.sweeps.specs.Turns.{castTurn}
@@ -16,13 +16,13 @@ use Rattle.sweeps.proofs.cast_faces.Statement.{statement}
 use Rattle.sweeps.proofs.cast_faces.Tie as tie
 
 abbrev Inv-loop : tie.InvT-loop
-Inv-loop w f₀ rows lo hi neighbors coefficients v value watched held next₀ face₀ f next face =
+Inv-loop w f₀ rows lo hi neighbors coefficients v value near watched held next₀ face₀ f next face =
     (length f ≡ length f₀)
     × Left (castTurn w neighbors coefficients v value) face hi f (for (castTurn w neighbors coefficients v value) lo hi f₀)
-    × (next ≡ at f watched)
+    × Held near watched f next
 
 abbrev μ-loop : tie.MeasureT-loop
-μ-loop w f₀ rows lo hi neighbors coefficients v value watched held next₀ face₀ f next face = hi - face
+μ-loop w f₀ rows lo hi neighbors coefficients v value near watched held next₀ face₀ f next face = hi - face
 
 loop-holds : tie.Need-loop-holds Inv-loop μ-loop
 loop-holds c = (refl, left-start, search needs)
@@ -38,7 +38,7 @@ loop-again c =
     let start = at-loop .before .before .before in (
       search needs,
       left-on (at-loop .loop .inv .1) (at-index .before .loop-test .taken)
-          (cast-put _ (start .args .neighbors) (start .args .coefficients) _ _ (start .args .v) _ _ _ _ _ (at-index .index-at .ensures .0) (at-put .put .ensures)),
+          (cast-put _ (start .args .neighbors) (start .args .coefficients) _ _ (start .args .v) _ _ _ _ _ _ (at-index .index-at .ensures .0) (at-put .put .ensures)),
       at-put .put .ensures .held,
     )
 

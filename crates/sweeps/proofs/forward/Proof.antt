@@ -15,13 +15,13 @@ use Rattle.sweeps.proofs.forward.Statement.{statement}
 use Rattle.sweeps.proofs.forward.Tie as tie
 
 abbrev Inv-loop : tie.InvT-loop
-Inv-loop w f₀ rows offsets neighbors coefficients inverse x work start₀ row₀ f start row =
+Inv-loop w f₀ rows offsets neighbors coefficients inverse x work near start₀ row₀ f start row =
     (length f ≡ length f₀)
     × Left (forwardTurn w offsets neighbors coefficients inverse x work) row rows f (for (forwardTurn w offsets neighbors coefficients inverse x work) 0 rows f₀)
     × (start ≡ at f (work + row))
 
 abbrev μ-loop : tie.MeasureT-loop
-μ-loop w f₀ rows offsets neighbors coefficients inverse x work start₀ row₀ f start row = rows - row
+μ-loop w f₀ rows offsets neighbors coefficients inverse x work near start₀ row₀ f start row = rows - row
 
 loop-holds : tie.Need-loop-holds Inv-loop μ-loop
 loop-holds c = (refl, left-start, search (first-at, needs))
@@ -41,6 +41,7 @@ forward-spec =
     (tie.spec
     Inv-loop
     μ-loop
+    (λ c κs. search needs)
     (λ c κs. search needs)
     loop-holds
     forward-row-requires

@@ -1,5 +1,6 @@
 -- `sweeps::forward_row` meets its contract.
 -- Assumes nothing.
+use Rattle.store.proofs.Single.{held-read}
 use Rattle.sweeps.proofs.Turns.{faces-beside, forwarded}
 use borrow.Author.Needs.{needs}
 use native.Mathlib.Omega.{arith}
@@ -7,10 +8,13 @@ use Rattle.sweeps.proofs.forward_row.Statement.{statement}
 use Rattle.sweeps.proofs.forward_row.Tie as tie
 
 cast-faces-requires : tie.Need-cast-faces-requires
-cast-faces-requires c κs = (search (faces-beside, needs), search needs)
+cast-faces-requires c κs = (search (faces-beside, needs), search (held-read))
 
 put-requires : tie.Need-put-requires
 put-requires c κs = (omega arith, c .before .before .before .cast-faces .ensures .held)
+
+held-at-requires : tie.Need-held-at-requires
+held-at-requires c κs = c .before .before .before .put .ensures .held
 
 returns : tie.Need-returns
 returns c = search (forwarded)
@@ -35,5 +39,6 @@ forward-row-spec =
     cast-faces-requires
     (λ c. search needs)
     put-requires
+    held-at-requires
     (λ c. search needs)
     returns)
