@@ -1,11 +1,5 @@
-pub mod Places
-pub mod Chains
 pub mod Questions
-pub mod Standing
-pub mod Levels
-pub mod Numbers
 pub mod Summing
-pub mod Renewing
 pub mod Moving
 pub mod Updating
 pub mod First

@@ -4,6 +4,7 @@ use mathlib.Core.Path.{_≡_, refl, sym, ap, _∙_}
 use mathlib.Core.Bool.{Bool, true, false, _&&_}
 use mathlib.Core.List.{List}
 use Prim.Native.Nat.{ℕ, _+_, _≤_, _<_}
+use native.Mathlib.Numerals.{add-one}
 use native.Mathlib.Omega.{arith}
 use lib.Dec.{eqb}
 use lib.ListN.{length}
@@ -12,7 +13,7 @@ use borrow.Author.Tests.{eqb-true, eq-eqb, ne-eqb}
 use Rattle.store.specs.Region.{idx, part}
 use Rattle.store.specs.Vector.{each}
 use Rattle.store.proofs.Region.{getD-part, length-part}
-use Rattle.store.proofs.Each.{Passed, both-l, both-r, each-same, passed-on, passed-no}
+use Rattle.store.proofs.Each.{both-l, both-r, each-same}
 use Rattle.refusal.specs.declared.Refusal.{Refusal}
 use Rattle.refusal.specs.declared.Verdict.{Verdict}
 use Rattle.refusal.specs.Outcome.{passed, ask, verdictOf}
@@ -21,21 +22,36 @@ use Rattle.values.specs.Mirrors.{mirrorsEqual, MirrorsOk}
 use Rattle.layout.specs.declared.Place.{Place}
 use Rattle.layout.specs.Layout.{entriesAt, locate}
 use Rattle.sound.specs.Sound.{shapeIn}
-use Rattle.refresh.specs.Update.{sameList, samePattern}
-use Rattle.refresh.specs.Steps.{askedOf, bareAt, PatternOk, AskOk}
+use Rattle.renewing.specs.Update.{sameList, samePattern}
+use Rattle.renewing.specs.Steps.{bareAt}
+use Rattle.refresh.specs.Steps.{askedOf, PatternOk, AskOk}
 
 module _ (w : List ℕ) (from : ℕ) (v : List ℕ) where
   -- the test of index k
   abbrev pub wordSame : ℕ → Bool
   wordSame k = eqb (idx v k) (idx w (from + k))
 
-  -- Two words that are the same pass.
-  pub word-on : {n k : ℕ} → Passed wordSame n k → k < n → idx v k ≡ idx w (from + k) → Passed wordSame n (k + 1)
-  word-on {n} {k} p h e = passed-on p h refl (eq-eqb (idx v k) (idx w (from + k)) e)
+  -- The invariant of the loop: the answer so far is that of the words passed.
+  pub record Gathered (k : ℕ) (ok : Bool) : Type 0 where
+    pub is : ok ≡ each wordSame k
+    pub within : k ≤ length v
 
-  -- Two that differ end the loop.
-  pub word-no : (n k : ℕ) → k < n → (idx v k ≡ idx w (from + k) → ⊥) → false ≡ each wordSame n
-  word-no n k h e = passed-no wordSame n k false h (sym (ne-eqb (idx v k) (idx w (from + k)) e)) refl
+  -- At the start there is none.
+  pub gathered-start : Gathered 0 true
+  unfolding each
+  gathered-start = record { is = refl; within = omega arith }
+
+  -- A turn takes one word more.
+  pub gathered-on : {k : ℕ} {ok : Bool} → Gathered k ok → k < length v → Gathered (k + 1) (ok && eqb (idx v k) (idx w (from + k)))
+  unfolding each
+  gathered-on {k} g h = record { is = rw (add-one k, g .is); within = omega arith }
+
+  -- At the end they are all.
+  pub gathered-end : {k : ℕ} {ok : Bool} → Gathered k ok → length v ≤ k → ok ≡ each wordSame (length v)
+  gathered-end {k} g h =
+      let b : k ≤ length v = g .within in
+      let z : k ≡ length v = omega arith in
+      g .is ∙ ap (each wordSame) z
 
   module _ {n : ℕ} (fits : from + n ≤ length w) where
     -- Lists of different lengths are not the same.
@@ -85,7 +101,7 @@ module _ {w : List ℕ} (offsets columns : List ℕ) (values : List Float) {p : 
   pub mirrors-ready : t ≡ true → MirrorsOk w (length values) (p .faces) (p .uppers) (p .lowers)
   mirrors-ready told =
       let many : length values ≡ entriesAt w 0 = many-values offsets columns values ok (sym same-is ∙ told) in
-      let inside = ok .place .inside in
+      let inside = ok .inside in
       rw (is, many) (record { uppers = omega arith; lowers = omega arith; up = ok .uppers; low = ok .lowers })
 
   -- Question 31 refuses.
@@ -98,7 +114,7 @@ module _ {w : List ℕ} (offsets columns : List ℕ) (values : List Float) {p : 
     mirrors-are : mirrorsEqual (length (shapeIn w 0 .uppers)) (shapeIn w 0 .uppers) (shapeIn w 0 .lowers) values ≡ m
     mirrors-are =
         let q = locate w 0 0 in
-        let inside = ok .place .inside in
+        let inside = ok .inside in
         let l : length (part (q .uppers) (q .faces) w) ≡ q .faces = length-part (q .uppers) (q .faces) w (omega arith) in
         ap (λ (n : ℕ). mirrorsEqual n (part (q .uppers) (q .faces) w) (part (q .lowers) (q .faces) w) values) l ∙ sym (rw is at f)
 

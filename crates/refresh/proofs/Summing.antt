@@ -13,7 +13,6 @@ use Rattle.store.specs.Vector.{filled}
 use Rattle.store.proofs.Loop.{Left, left-end}
 use Rattle.store.proofs.Region.{wrote}
 use Rattle.store.proofs.Vector.{tab-getD, for-each}
-use Rattle.options.specs.declared.MultigridOptions.{MultigridOptions}
 use Rattle.options.specs.declared.MultigridResidualNorm.{MultigridResidualNorm}
 use Rattle.matrix.specs.declared.SymmetricMatrix.{SymmetricMatrix}
 use Rattle.matrix.specs.Kernel.{kernelAt, rowSumsOf, KernelOk}
@@ -50,18 +49,18 @@ pub sum-ready : {w : List ℕ} {size : ℕ} {p : Place} {end : ℕ} {k : Symmetr
 sum-ready ok is = rw is (ok .kernel, ok .room)
 
 -- Under a norm that needs no row sums zeros are written;
-pub summed-none : {w : List ℕ} {F G : List Float} {o : MultigridOptions} {p : Place} {end : ℕ}
-    → o .«residual_norm» ≡ MultigridResidualNorm.AbsoluteL2
-    → Wrote end (p .rows) (filled (p .rows) zero64) F G → Summed w F G o p end
-summed-none {w} {F} {G} {o} {p} {end} e s = record {
-  wrote = subst (λ (v : List Float). Wrote end (p .rows) v F G) (sym (cond-no (needsSums (o .«residual_norm»)) _ _ (ap needsSums e))) s;
+pub summed-none : {w : List ℕ} {F G : List Float} {norm : MultigridResidualNorm} {p : Place} {end : ℕ}
+    → norm ≡ MultigridResidualNorm.AbsoluteL2
+    → Wrote end (p .rows) (filled (p .rows) zero64) F G → Summed w F G norm p end
+summed-none {w} {F} {G} {norm} {p} {end} e s = record {
+  wrote = subst (λ (v : List Float). Wrote end (p .rows) v F G) (sym (cond-no (needsSums norm) _ _ (ap needsSums e))) s;
 }
 
 -- under the other the row sums.
-pub summed-all : {w : List ℕ} {F G : List Float} {o : MultigridOptions} {p : Place} {end : ℕ} {k : SymmetricMatrix}
-    → o .«residual_norm» ≡ MultigridResidualNorm.NormalizedL1 → k ≡ kernelIn p
-    → Wrote end (k .rows) (rowSumsOf (kernelAt k w F)) F G → Summed w F G o p end
-summed-all {w} {F} {G} {o} {p} {end} n e s =
+pub summed-all : {w : List ℕ} {F G : List Float} {norm : MultigridResidualNorm} {p : Place} {end : ℕ} {k : SymmetricMatrix}
+    → norm ≡ MultigridResidualNorm.NormalizedL1 → k ≡ kernelIn p
+    → Wrote end (k .rows) (rowSumsOf (kernelAt k w F)) F G → Summed w F G norm p end
+summed-all {w} {F} {G} {norm} {p} {end} n e s =
     let a : Wrote end (p .rows) (rowSumsOf (kernelAt (kernelIn p) w F)) F G =
     subst (λ (k : SymmetricMatrix). Wrote end (k .rows) (rowSumsOf (kernelAt k w F)) F G) e s in
-    record { wrote = subst (λ (v : List Float). Wrote end (p .rows) v F G) (sym (cond-yes (needsSums (o .«residual_norm»)) _ _ (ap needsSums n))) a }
+    record { wrote = subst (λ (v : List Float). Wrote end (p .rows) v F G) (sym (cond-yes (needsSums norm) _ _ (ap needsSums n))) a }

@@ -3,39 +3,43 @@
 use mathlib.Core.Path.{_≡_, refl, sym, ap, _∙_, subst}
 use mathlib.Core.Bool.{Bool, true, false, cond}
 use mathlib.Core.List.{List, _∷_}
-use Prim.Native.Nat.{ℕ, _+_, _-_, _*_, _≤_, _<_}
+use Prim.Native.Nat.{ℕ, _+_, _-_, _*_, _/_, _≤_}
 use native.Mathlib.Omega.{arith}
 use lib.ListN.{length}
 use lib.Ieee.{Float}
 use Rattle.float.specs.Float.{zero64}
-use Rattle.store.specs.Region.{idx, part, Wrote, Kept}
+use Rattle.store.specs.Region.{part, Wrote, Kept, CopyOk}
 use Rattle.store.specs.Vector.{filled}
 use Rattle.store.proofs.Region.{wrote-at, kept-wrote, kept-on, kept-less, kept-self}
 use Rattle.options.specs.declared.Handle.{Handle}
 use Rattle.options.specs.declared.MultigridOptions.{MultigridOptions}
+use Rattle.options.specs.declared.MultigridResidualNorm.{MultigridResidualNorm}
+use Rattle.options.specs.declared.MultigridSmoother.{MultigridSmoother}
 use Rattle.refusal.specs.declared.Refusal.{Refusal}
 use Rattle.refusal.specs.declared.Verdict.{Verdict}
 use Rattle.refusal.specs.Outcome.{Outcome, accepted, refused, passed, ask, verdictOf, _>>=_}
-use Rattle.refusal.proofs.Outcome.{then-accepted, then-refused, passes, refuses}
+use Rattle.refusal.proofs.Outcome.{then-accepted, then-refused, passes}
 use Rattle.values.specs.Mirrors.{mirrorsEqual}
-use Rattle.matrix.specs.Kernel.{kernelAt, rowSumsOf}
+use Rattle.matrix.specs.Kernel.{kernelAt, rowSumsOf, KernelOk}
 use Rattle.hierarchy.specs.Level.{Shape, Level, Hierarchy}
-use Rattle.hierarchy.specs.Refresh.{needsSums, withSums}
+use Rattle.hierarchy.specs.Refresh.{needsDic, needsSums, withSums}
 use Rattle.hierarchy.proofs.Accepted.{ask-split, then-split, accepted-one}
 use Rattle.layout.specs.declared.Place.{Place}
 use Rattle.layout.specs.Layout.{rowsAt, entriesAt, locate, levelAt, wordsEnd, floatsEnd, levelsAt, imageEnd, viewOf}
 use Rattle.layout.specs.Parts.{kernelIn}
 use Rattle.layout.proofs.Views.{floats-to}
-use Rattle.sound.specs.Sound.{shapeIn}
+use Rattle.sound.specs.Sound.{shapeIn, scratchStart}
+use Rattle.sound.specs.Contract.{PlaceOk, LevelsOk}
+use Rattle.renewing.specs.Update.{samePattern, renewOf, updateOf}
+use Rattle.renewing.specs.Steps.{Chain, Under, isRefused, shapesAt, RenewOk, Renewed}
+use Rattle.renewing.proofs.Chains.{Opened, opened}
+use Rattle.renewing.proofs.Levels.{kernel-ready}
+use Rattle.renewing.proofs.Outcomes.{never, verdict-then, went-on, told-accepted, told-refused}
+use Rattle.renewing.proofs.Renewing.{bare-ok, shapes-some, levels-some, floats-end}
 use Rattle.refresh.specs.declared.Updated.{Updated}
-use Rattle.refresh.specs.Update.{samePattern, renewOf, updateOf}
 use Rattle.refresh.specs.Contract.{updatedAt, answerOf, hierarchyOf, imageOf, UpdateDone}
-use Rattle.refresh.specs.Steps.{PlaceOk, Chain, askedOf, AskOk, shapesAt, RenewOk, Renewed, SumOk, Summed, ShadowOk, shadowOf, ShadowDone, UpdateOk}
-use Rattle.refresh.proofs.Chains.{Opened, opened}
+use Rattle.refresh.specs.Steps.{With, askedOf, AskOk, SumOk, Summed, ShadowOk, shadowOf, ShadowDone, AttemptOk, attemptOf, Attempted, toldOf, UpdateOk}
 use Rattle.refresh.proofs.Questions.{many-values}
-use Rattle.refresh.proofs.Levels.{kernel-ready}
-use Rattle.refresh.proofs.Numbers.{accepts, never, verdict-then}
-use Rattle.refresh.proofs.Renewing.{bare-ok, shapes-some, levels-some, floats-end}
 use Rattle.refresh.proofs.Moving.{shapes-are, image-shift, kept-moved, copied-moved, levels-stay, view-moved}
 
 -- ---- the shadow
@@ -53,13 +57,13 @@ sums-are : (o : MultigridOptions) (w : List ℕ) (G : List Float) (a b : ℕ) (r
 unfolding withSums levelAt kernelAt
 sums-are o w G a b rest = refl
 
-module _ {levels : ℕ} {w : List ℕ} (F values : List Float) {end image : ℕ} (ok : ShadowOk levels w (length F) (length values) end image) where
+module _ {levels : ℕ} {w : List ℕ} {size count image : ℕ} (ok : ShadowOk levels w size count image) where
   -- The finest level of the shadow is sound.
-  first : Opened w (length F) levels 0 0 image
+  first : Opened w size levels 0 0 image
   first = opened (ok .chain) (ok .some)
 
   -- There is room for the values.
-  pub load-ready : image + length values ≤ length F
+  pub load-ready : image + count ≤ size
   load-ready =
       let o = first .ends in
       let e = floats-end w 0 image in
@@ -70,94 +74,105 @@ module _ {levels : ℕ} {w : List ℕ} (F values : List Float) {end image : ℕ}
   pub shadow-place : PlaceOk w 0 image
   shadow-place = first .place
 
-  -- The levels of the shadow end at `image + end`.
-  ends-far : (imageEnd levels w 0 image ≡ image + end) × (floatsEnd w 0 image ≤ image + end)
-  ends-far =
-      let is = first .is in
-      let up = floats-to (levels - 1) w (wordsEnd w 0) (floatsEnd w 0 image) in
-      let far = shadow-end levels w image in
-      let e = ok .ends in
-      (omega arith, omega arith)
+  -- What the levels require.
+  pub renew-ready : {now : ℕ} → now ≡ size → RenewOk w now levels 0 0 image
+  renew-ready e = subst (λ (n : ℕ). RenewOk w n levels 0 0 image) (sym e) (record { chain = ok .chain; some = ok .some })
 
-  -- The row sums do not wrap.
-  pub sums-fit : image + end ≤ 18446744073709551615
-  sums-fit = let far = ends-far .0 in let r = ok .chain .room in let f = ok .chain .fits in omega arith
+  -- Where the row sums start is an index.
+  pub sums-fit : 2 * image ≤ 18446744073709551615
+  sums-fit = let r = ok .room in let f = ok .chain .fits in omega arith
 
-  module _ {E : List Float} (loaded : Wrote image (length values) values F E) where
-    -- What the levels require.
-    pub renew-ready : RenewOk w (length E) levels 0 0 image
-    renew-ready = subst (λ (n : ℕ). RenewOk w n levels 0 0 image) (sym (loaded .size)) (record { chain = ok .chain; some = ok .some })
+  module _ {p : Place} (is : p ≡ locate w 0 image) where
+    -- The row sums of the finest level are a part of the image.
+    pub sums-part : p .rows ≤ 2 * image
+    sums-part = let im = ok .is in rw is (omega arith)
 
-    -- The values stand where the finest level has them.
-    loaded-is : part image (entriesAt w 0) E ≡ values
-    loaded-is =
-        let room = load-ready in
-        ap (λ (n : ℕ). part image n E) (sym (ok .many)) ∙ wrote-at loaded room
+    -- The levels of the shadow end where its row sums start.
+    ends-far : (imageEnd levels w 0 image ≡ 2 * image - p .rows) × (floatsEnd w 0 image ≤ 2 * image - p .rows)
+    ends-far =
+        let is0 = first .is in
+        let up = floats-to (levels - 1) w (wordsEnd w 0) (floatsEnd w 0 image) in
+        let far = shadow-end levels w image in
+        let im = ok .is in
+        rw is (omega arith, omega arith)
 
-    module _ (o : MultigridOptions) {G : List Float} {v : Verdict} (done : Renewed o levels 0 w E G 0 image v) where
-      -- the levels, from the new values
-      abbrev renewed : Outcome (List Level)
-      renewed = renewOf o 0 (shapesAt levels w 0) values
+    -- What the row sums require.
+    pub sums-ready : {now : ℕ} → now ≡ size → SumOk w now p (2 * image - p .rows)
+    sums-ready {now} same =
+        let far = ends-far .1 in
+        let e = floats-end w 0 image in
+        let room = ok .room in
+        let inside = sums-part in
+        let kernel : KernelOk w (2 * image - p .rows) (kernelIn (locate w 0 image)) =
+        kernel-ready (bare-ok (record { chain = ok .chain; some = ok .some })) (2 * image - p .rows) (omega arith) in
+        record {
+          kernel = subst (λ (q : Place). KernelOk w (2 * image - p .rows) (kernelIn q)) (sym is) kernel;
+          room = omega arith;
+        }
 
-      -- The answer is that of the definition.
-      renewed-is : v ≡ verdictOf renewed
-      renewed-is = done .answer ∙ ap (λ (u : List Float). verdictOf (renewOf o 0 (shapesAt levels w 0) u)) loaded-is
+-- The levels of the shadow, renewed from the values that were loaded.
+module _ {levels : ℕ} {w : List ℕ} (F : List Float) {values : List Float} {image : ℕ} (ok : ShadowOk levels w (length F) (length values) image)
+    {E : List Float} (loaded : Wrote image (length values) values F E) (o : MultigridOptions) {kind : MultigridSmoother} (by : o .smoother ≡ kind)
+    {dic : Bool} (needed : dic ≡ needsDic kind) {G : List Float} {v : Verdict} (all : Under dic (λ o. Renewed o levels 0 w E G 0 image v)) where
+  -- under these options
+  done : Renewed o levels 0 w E G 0 image v
+  done = all o (ap needsDic by ∙ sym needed)
 
-      -- A level refuses.
-      pub shadow-no : {q : Refusal} → v ≡ Verdict.Refused q → ShadowDone o levels w F G values image (Verdict.Refused q)
-      shadow-no {q} told =
-          let refusal : shadowOf o levels w values ≡ refused q =
-          then-refused renewed (λ ls. accepted (withSums o ls)) (refuses renewed renewed-is told) in
-          record {
-            answer = sym (ap verdictOf refusal);
-            view = λ h e. never refusal e;
-            kept = kept-on (kept-wrote loaded (omega arith)) (done .kept);
-          }
+  -- the levels, from the new values
+  abbrev renewed : Outcome (List Level)
+  renewed = renewOf o 0 (shapesAt levels w 0) values
 
-      -- The store is as large.
-      size-is : length G ≡ length F
-      size-is = done .kept .size ∙ loaded .size
+  -- The values stand where the finest level has them,
+  loaded-is : part image (entriesAt w 0) E ≡ values
+  loaded-is =
+      let room = load-ready ok in
+      ap (λ (n : ℕ). part image n E) (sym (ok .many)) ∙ wrote-at loaded room
 
-      module _ {p : Place} (is : p ≡ locate w 0 image) where
-        -- What the row sums require.
-        pub sums-ready : SumOk w (length G) p (image + end)
-        sums-ready =
-            let size = size-is in
-            let far = ends-far .1 in
-            let e = floats-end w 0 image in
-            let room = ok .room in
-            let im = ok .is in
-            let en = ok .ends in
-            rw is (record {
-              kernel = kernel-ready (bare-ok (record { chain = ok .chain; some = ok .some })) (image + end) (omega arith);
-              room = omega arith;
-            })
+  -- so the answer is that of the definition.
+  renewed-is : v ≡ verdictOf renewed
+  renewed-is = done .answer ∙ ap (λ (u : List Float). verdictOf (renewOf o 0 (shapesAt levels w 0) u)) loaded-is
 
-        -- All levels and the row sums are there.
-        pub shadow-yes : v ≡ Verdict.Passed → {H : List Float} → Summed w G H o p (image + end)
-            → ShadowDone o levels w F H values image Verdict.Passed
-        unfolding viewOf
-        shadow-yes told {H} summed =
-            let s : Summed w G H o (locate w 0 image) (image + end) = subst (λ (q : Place). Summed w G H o q (image + end)) is summed in
-            let far = ends-far .0 in
-            let size = size-is in
-            let room = ok .room in
-            let im = ok .is in
-            let en = ok .ends in
-            let frame : Kept (image + end) G H = kept-wrote (s .wrote) (omega arith) in
-            record {
-              answer = sym told ∙ renewed-is ∙ sym (verdict-then renewed (withSums o));
-              view = λ h e.
-                  let t = then-split renewed (λ ls. accepted (withSums o ls)) e in
-                  let here : levelsAt levels w G 0 image ≡ t .0 =
-                  done .levels (t .0) (ap (λ (u : List Float). renewOf o 0 (shapesAt levels w 0) u) loaded-is ∙ t .1) in
-                  let opens = levels-some levels w G 0 image (ok .some) in
-                  let stay : levelsAt levels w H 0 image ≡ levelsAt levels w G 0 image = levels-stay frame levels w 0 image (omega arith) in
-                  let sums = ap (λ (n : ℕ). part n (rowsAt w 0) H) far ∙ wrote-at (s .wrote) (omega arith) in
-                  let made = sums-are o w G 0 image (levelsAt (levels - 1) w G (wordsEnd w 0) (floatsEnd w 0 image)) in
-                  rw (stay, sums, opens) (sym made) ∙ ap (withSums o) (sym opens ∙ here) ∙ accepted-one (t .2);
-              kept = kept-on (kept-wrote loaded (omega arith)) (kept-on (done .kept) (kept-less frame (omega arith)));
-            }
+  -- A level refuses.
+  pub shadow-no : isRefused v ≡ true → ShadowDone o levels w F G values image v
+  shadow-no told =
+      let no = told-refused renewed renewed-is told in
+      let refusal : shadowOf o levels w values ≡ refused (no .0) = then-refused renewed (λ ls. accepted (withSums o ls)) (no .1) in
+      record {
+        answer = no .2 ∙ sym (ap verdictOf refusal);
+        view = λ h e. never refusal e;
+        kept = kept-on (kept-wrote loaded (omega arith)) (done .kept);
+      }
+
+  -- All levels and the row sums are there.
+  pub shadow-yes : {norm : MultigridResidualNorm} → o .«residual_norm» ≡ norm → {p : Place} → p ≡ locate w 0 image → {H : List Float}
+      → Summed w G H norm p (2 * image - p .rows) → ShadowDone o levels w F H values image v
+  unfolding viewOf
+  shadow-yes {norm} under {p} is {H} summed =
+      let end = 2 * image - p .rows in
+      let s : Summed w G H (o .«residual_norm») (locate w 0 image) end =
+      subst (λ (n : MultigridResidualNorm). Summed w G H n (locate w 0 image) end) (sym under)
+      (subst (λ (q : Place). Summed w G H norm q end) is summed) in
+      let far = ends-far ok is .0 in
+      let size = done .kept .size in
+      let load = loaded .size in
+      let room = ok .room in
+      let inside = sums-part ok is in
+      let low : image ≤ end = (let im = ok .is in let e : p .rows ≡ rowsAt w 0 = ap (λ (q : Place). q .rows) is in omega arith) in
+      let rows : rowsAt w 0 ≡ p .rows = sym (ap (λ (q : Place). q .rows) is) in
+      let frame : Kept end G H = kept-wrote (s .wrote) (omega arith) in
+      record {
+        answer = renewed-is ∙ sym (verdict-then renewed (withSums o));
+        view = λ h e.
+            let t = then-split renewed (λ ls. accepted (withSums o ls)) e in
+            let here : levelsAt levels w G 0 image ≡ t .0 =
+            done .levels (t .0) (ap (λ (u : List Float). renewOf o 0 (shapesAt levels w 0) u) loaded-is ∙ t .1) in
+            let opens = levels-some levels w G 0 image (ok .some) in
+            let stay : levelsAt levels w H 0 image ≡ levelsAt levels w G 0 image = levels-stay frame levels w 0 image (omega arith) in
+            let sums = ap (λ (n : ℕ). part n (rowsAt w 0) H) far ∙ wrote-at (s .wrote) (omega arith) in
+            let made = sums-are o w G 0 image (levelsAt (levels - 1) w G (wordsEnd w 0) (floatsEnd w 0 image)) in
+            rw (stay, sums, opens) (sym made) ∙ ap (withSums o) (sym opens ∙ here) ∙ accepted-one (t .2);
+        kept = kept-on (kept-wrote loaded (omega arith)) (kept-on (done .kept) (kept-less frame (omega arith)));
+      }
 
 -- ---- the update
 
@@ -167,141 +182,158 @@ asks-then true true p q rest = refl
 asks-then true false p q rest = refl
 asks-then false b p q rest = refl
 
-module _ {h : Handle} {w : List ℕ} (F : List Float) (ok : UpdateOk h w (length F)) where
-  -- The levels lie in the store.
-  below : imageEnd (h .levels) w 0 0 ≤ length F
-  below = let room = ok .room in omega arith
+module _ {levels : ℕ} {w : List ℕ} {size : ℕ} (ok : AttemptOk levels w size) where
+  -- The finest level is sound.
+  finest : Opened w size levels 0 0 0
+  finest =
+      let few = ok .few in
+      let room = ok .room in
+      opened (record { walk = ok .walk; room = omega arith; few = omega arith; fits = ok .fits }) (ok .some)
 
-  -- What holds in a store whose size is a number of the machine.
-  module _ (fits : length F ≤ 18446744073709551615) where
-    -- The levels of the image.
-    image-chain : Chain w (length F) (h .levels) 0 0 0
-    image-chain = let few = ok .few in record { walk = ok .walk; room = below; few = omega arith; start = omega arith; fits = fits }
+  -- What the questions require.
+  pub ask-ready : AskOk w
+  ask-ready =
+      let o = finest in
+      let heads = o .here .heads in
+      record {
+        place = o .place;
+        inside = heads;
+        pattern = record { offsets = omega arith; columns = omega arith };
+        uppers = o .here .uppers;
+        lowers = o .here .lowers;
+      }
 
-    -- What their end requires.
-    pub end-chain : Chain w 18446744073709551615 (h .levels) 0 0 0
-    end-chain = let few = ok .few in let b = below in record { walk = ok .walk; room = omega arith; few = omega arith; start = omega arith; fits = omega arith }
+  -- What the start of the scratch requires.
+  pub start-ready : LevelsOk w levels
+  start-ready = record { sound = ok .walk; some = ok .some; few = ok .few }
 
-    -- The finest level is sound.
-    finest : Opened w (length F) (h .levels) 0 0 0
-    finest = opened image-chain (ok .some)
+  module _ {start : ℕ} (at : start ≡ scratchStart levels w) where
+    -- Half of what lies below it is the image.
+    image-is : start / 2 ≡ imageOf levels w
+    image-is = omega arith
 
-    -- What the questions require.
-    pub ask-ready : AskOk w
-    ask-ready =
-        let o = finest in
-        let heads = o .here .heads in
-        record {
-          place = o .place;
-          pattern = record { offsets = omega arith; columns = omega arith };
-          uppers = o .here .uppers;
-          lowers = o .here .lowers;
-        }
+    -- There is room for the image and its shadow.
+    pub copy-room : {now : ℕ} → now ≡ size → CopyOk now (start / 2) (start / 2) 0
+    copy-room e =
+        let is = image-is in
+        let room = ok .room in
+        record { source = omega arith; target = omega arith; clear = omega arith }
 
-    -- The first word is there.
-    pub head-in : 0 < length w
-    head-in = let heads = finest .here .heads in omega arith
+    module _ (offsets columns : List ℕ) (values : List Float) {v : Verdict} (told : v ≡ verdictOf (askedOf (shapeIn w 0) offsets columns values))
+        (pass : isRefused v ≡ false) where
+      -- There are as many values as entries.
+      many : length values ≡ entriesAt w 0
+      many =
+          let s = shapeIn w 0 in
+          many-values offsets columns values ask-ready
+          (ask-split (samePattern s offsets columns values) Refusal.OtherPattern
+          (ask (mirrorsEqual (length (s .uppers)) (s .uppers) (s .lowers) values) Refusal.UnequalMirrors passed)
+          (passes (askedOf s offsets columns values) told (went-on v pass)) .0)
 
-  module _ (offsets columns : List ℕ) (values : List Float) where
-    -- the update's outcome
-    abbrev out : Outcome Hierarchy
-    out = updatedAt h w F offsets columns values
+      -- What the shadow requires.
+      pub shadow-ready : ShadowOk levels w size (length values) (start / 2)
+      shadow-ready =
+          let few = ok .few in
+          let room = ok .room in
+          let is = image-is in
+          let far = shadow-end levels w (start / 2) in
+          record {
+            chain = record { walk = ok .walk; room = omega arith; few = omega arith; fits = ok .fits };
+            some = ok .some;
+            is = is;
+            room = omega arith;
+            many = many;
+          }
 
-    -- the questions' outcome
-    abbrev asked : Outcome Unit
-    asked = askedOf (shapeIn w 0) offsets columns values
+module _ {levels : ℕ} {w : List ℕ} (F : List Float) (ok : AttemptOk levels w (length F)) (o : MultigridOptions) (offsets columns : List ℕ)
+    (values : List Float) where
+  -- the update's outcome
+  abbrev out : Outcome Hierarchy
+  out = attemptOf o levels w F offsets columns values
 
-    -- The update asks, and then renews the levels.
-    out-is : out ≡ _>>=_ asked (λ _. shadowOf (h .options) (h .levels) w values)
-    unfolding viewOf updateOf
-    out-is =
-        let o = h .options in
-        let n = h .levels in
-        let s = shapeIn w 0 in
-        let some = shapes-some n w 0 (ok .some) in
-        ap (λ (l : List Shape). updateOf o l offsets columns values) (shapes-are n w F 0 0 ∙ some)
-        ∙ asks-then (samePattern s offsets columns values) (mirrorsEqual (length (s .uppers)) (s .uppers) (s .lowers) values)
-        Refusal.OtherPattern Refusal.UnequalMirrors (_>>=_ (renewOf o 0 (s ∷ shapesAt (n - 1) w (wordsEnd w 0)) values) (λ ls. accepted (withSums o ls)))
-        ∙ ap (λ (l : List Shape). _>>=_ asked (λ _. _>>=_ (renewOf o 0 l values) (λ ls. accepted (withSums o ls)))) (sym some)
+  -- the questions' outcome
+  abbrev asked : Outcome Unit
+  asked = askedOf (shapeIn w 0) offsets columns values
 
-    -- What a refusal leaves.
-    refused-done : {G : List Float} {q : Refusal} → out ≡ refused q → Kept (imageOf (h .levels) w) F G → UpdateDone h w F G out (Updated.Refused q)
-    refused-done {G} {q} e k =
-        let z : viewOf (h .levels) w G 0 ≡ viewOf (h .levels) w F 0 = view-moved (kept-moved k) (h .levels) w (omega arith) in
-        record {
-          answer = sym (ap answerOf e);
-          view = z ∙ sym (ap (hierarchyOf (viewOf (h .levels) w F 0)) e);
-          kept = λ _ _. k;
-          size = k .size;
-        }
+  -- The update asks, and then renews the levels.
+  out-is : out ≡ _>>=_ asked (λ _. shadowOf o levels w values)
+  unfolding viewOf updateOf
+  out-is =
+      let s = shapeIn w 0 in
+      let some = shapes-some levels w 0 (ok .some) in
+      ap (λ (l : List Shape). updateOf o l offsets columns values) (shapes-are levels w F 0 0 ∙ some)
+      ∙ asks-then (samePattern s offsets columns values) (mirrorsEqual (length (s .uppers)) (s .uppers) (s .lowers) values)
+      Refusal.OtherPattern Refusal.UnequalMirrors (_>>=_ (renewOf o 0 (s ∷ shapesAt (levels - 1) w (wordsEnd w 0)) values) (λ ls. accepted (withSums o ls)))
+      ∙ ap (λ (l : List Shape). _>>=_ asked (λ _. _>>=_ (renewOf o 0 l values) (λ ls. accepted (withSums o ls)))) (sym some)
 
-    module _ {v : Verdict} (told : v ≡ verdictOf asked) where
-      -- Question 31 or 10 refuses.
-      pub update-asked-no : {q : Refusal} → v ≡ Verdict.Refused q → UpdateDone h w F F out (Updated.Refused q)
-      update-asked-no {q} e = refused-done (out-is ∙ then-refused asked (λ _. shadowOf (h .options) (h .levels) w values) (refuses asked told e)) kept-self
+  -- What a refusal leaves.
+  refused-done : {G : List Float} {q : Refusal} {r : Verdict} → out ≡ refused q → r ≡ Verdict.Refused q → Kept (imageOf levels w) F G
+      → Attempted levels w F G out r
+  refused-done {G} {q} {r} e f k =
+      let z : viewOf levels w G 0 ≡ viewOf levels w F 0 = view-moved (kept-moved k) levels w (omega arith) in
+      record {
+        answer = f ∙ sym (ap verdictOf e);
+        view = z ∙ sym (ap (hierarchyOf (viewOf levels w F 0)) e);
+        kept = λ _ _. k;
+        size = k .size;
+      }
 
-      module _ (pass : v ≡ Verdict.Passed) where
-        -- Once 31 and 10 have passed, the levels are renewed.
-        through : out ≡ shadowOf (h .options) (h .levels) w values
-        through = out-is ∙ then-accepted asked (λ _. shadowOf (h .options) (h .levels) w values) (passes asked told pass)
+  module _ {v : Verdict} (told : v ≡ verdictOf asked) where
+    -- Question 31 or 10 refuses.
+    pub attempt-asked-no : isRefused v ≡ true → Attempted levels w F F out v
+    attempt-asked-no stop =
+        let no = told-refused asked told stop in
+        refused-done (out-is ∙ then-refused asked (λ _. shadowOf o levels w values) (no .1)) (no .2) kept-self
 
-        -- There are as many values as entries.
-        many : length F ≤ 18446744073709551615 → length values ≡ entriesAt w 0
-        many fits =
-            let s = shapeIn w 0 in
-            many-values offsets columns values (ask-ready fits)
-            (ask-split (samePattern s offsets columns values) Refusal.OtherPattern
-            (ask (mirrorsEqual (length (s .uppers)) (s .uppers) (s .lowers) values) Refusal.UnequalMirrors passed) (passes asked told pass) .0)
+    module _ (pass : isRefused v ≡ false) {start : ℕ} (at : start ≡ scratchStart levels w) {G : List Float} {r : Verdict}
+        (done : ShadowDone o levels w F G values (start / 2) r) where
+      -- Once 31 and 10 have passed, the levels are renewed.
+      through : out ≡ shadowOf o levels w values
+      through = out-is ∙ then-accepted asked (λ _. shadowOf o levels w values) (passes asked told (went-on v pass))
 
-        module _ {end rows : ℕ} (ends : end ≡ imageEnd (h .levels) w 0 0) (first : rows ≡ idx w 0) where
-          -- The image ends in the store.
-          pub image-fits : length F ≤ 18446744073709551615 → end + rows ≤ 18446744073709551615
-          image-fits fits = let room = ok .room in omega arith
+      -- A level refuses: nothing below the shadow was written.
+      pub attempt-no : isRefused r ≡ true → Attempted levels w F G out r
+      attempt-no stop =
+          let no = told-refused (shadowOf o levels w values) (done .answer) stop in
+          refused-done (through ∙ no .1) (no .2) (subst (λ (n : ℕ). Kept n F G) (image-is ok at) (done .kept))
 
-          -- The image ends with the row sums.
-          image-is : end + rows ≡ imageOf (h .levels) w
-          image-is = rw (ends, first)
+      -- The shadow is the image.
+      pub attempt-yes : isRefused r ≡ false → {H : List Float} → Wrote 0 (start / 2) (part (start / 2) (start / 2) G) G H
+          → Attempted levels w F H out r
+      attempt-yes go {H} copied =
+          let is = image-is ok at in
+          let room = ok .room in
+          let size = done .kept .size in
+          let a = told-accepted (shadowOf o levels w values) (done .answer) go in
+          let is-out : out ≡ accepted (a .0) = through ∙ a .1 in
+          let moved = copied-moved copied (omega arith) (omega arith) in
+          record {
+            answer = went-on r go ∙ sym (ap verdictOf is-out);
+            view = view-moved moved levels w (omega arith) ∙ done .view (a .0) (a .1) ∙ sym (ap (hierarchyOf (viewOf levels w F 0)) is-out);
+            kept = λ q f. never f is-out;
+            size = copied .size ∙ size;
+          }
 
-          -- What the shadow requires.
-          pub shadow-ready : length F ≤ 18446744073709551615 → ShadowOk (h .levels) w (length F) (length values) end (end + rows)
-          shadow-ready fits =
-              let few = ok .few in
-              let room = ok .room in
-              let is = image-is in
-              let far = shadow-end (h .levels) w (end + rows) in
-              record {
-                chain = record { walk = ok .walk; room = omega arith; few = omega arith; start = omega arith; fits = fits };
-                some = ok .some;
-                ends = ends;
-                is = is;
-                room = omega arith;
-                many = many fits;
-              }
+-- ---- the answer of an update
 
-          module _ {G : List Float} {r : Verdict} (done : ShadowDone (h .options) (h .levels) w F G values (end + rows) r) where
-            -- A level refuses: nothing below the shadow was written.
-            pub update-no : {q : Refusal} → r ≡ Verdict.Refused q → UpdateDone h w F G out (Updated.Refused q)
-            update-no {q} e =
-                refused-done (through ∙ refuses (shadowOf (h .options) (h .levels) w values) (done .answer) e)
-                (subst (λ (n : ℕ). Kept n F G) image-is (done .kept))
+-- What the attempt requires.
+pub attempt-ready : {h : Handle} {w : List ℕ} {size : ℕ} → UpdateOk h w size → size ≤ 18446744073709551615 → AttemptOk (h .levels) w size
+attempt-ready ok fits = record { some = ok .some; few = ok .few; walk = ok .walk; room = ok .room; fits = fits }
 
-            -- There is room for the image and its shadow.
-            pub copy-room : 2 * (end + rows) ≤ length G
-            copy-room = let is = image-is in let room = ok .room in let size = done .kept .size in omega arith
+-- The answer is that of the outcome.
+answer-is : (out : Outcome Hierarchy) → toldOf (verdictOf out) ≡ answerOf out
+answer-is (accepted k) = refl
+answer-is (refused q) = refl
 
-            -- The shadow is the image.
-            pub update-yes : r ≡ Verdict.Passed → {H : List Float} → Wrote 0 (end + rows) (part (end + rows) (end + rows) G) G H
-                → UpdateDone h w F H out Updated.Done
-            update-yes e {H} copied =
-                let is = image-is in
-                let room = ok .room in
-                let size = done .kept .size in
-                let a = accepts (shadowOf (h .options) (h .levels) w values) (done .answer) e in
-                let is-out : out ≡ accepted (a .0) = through ∙ a .1 in
-                let moved = copied-moved copied (omega arith) (omega arith) in
-                record {
-                  answer = sym (ap answerOf is-out);
-                  view = view-moved moved (h .levels) w (omega arith) ∙ done .view (a .0) (a .1) ∙ sym (ap (hierarchyOf (viewOf (h .levels) w F 0)) is-out);
-                  kept = λ q f. never f is-out;
-                  size = copied .size ∙ size;
-                }
+-- The attempt under the options of the handle is the update.
+pub update-done : (h : Handle) {w : List ℕ} {F G : List Float} (offsets columns : List ℕ) (values : List Float) {v : Verdict}
+    → With (h .options .smoother) (h .options .«residual_norm») (λ o. Attempted (h .levels) w F G (attemptOf o (h .levels) w F offsets columns values) v)
+    → {r : Updated} → r ≡ toldOf v → UpdateDone h w F G (updatedAt h w F offsets columns values) r
+update-done h {w} {F} offsets columns values all e =
+    let d = all (h .options) refl refl in
+    record {
+      answer = e ∙ ap toldOf (d .answer) ∙ answer-is (updatedAt h w F offsets columns values);
+      view = d .view;
+      kept = d .kept;
+      size = d .size;
+    }

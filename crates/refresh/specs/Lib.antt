@@ -1,3 +1,2 @@
-pub mod Update
 pub mod Contract
 pub mod Steps

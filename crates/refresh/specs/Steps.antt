@@ -1,57 +1,35 @@
 -- The steps of an update: what the inner functions require and ensure. Definitions only.
 use mathlib.Core.Path.{_≡_}
-use mathlib.Core.Bool.{Bool, false, cond}
-use mathlib.Core.List.{List, [], _∷_}
-use Prim.Native.Nat.{ℕ, zero, suc, _+_, _*_, _≤_, _<_}
+use mathlib.Core.Bool.{cond}
+use mathlib.Core.List.{List}
+use Prim.Native.Nat.{ℕ, _+_, _*_, _≤_, _<_}
 use lib.ListN.{length}
 use lib.Ieee.{Float}
 use Rattle.float.specs.Float.{zero64}
-use Rattle.store.specs.Region.{idx, part, Wrote, Kept}
+use Rattle.store.specs.Region.{idx, Wrote, Kept}
 use Rattle.store.specs.Vector.{filled}
 use Rattle.options.specs.declared.Handle.{Handle}
 use Rattle.options.specs.declared.MultigridOptions.{MultigridOptions}
+use Rattle.options.specs.declared.MultigridResidualNorm.{MultigridResidualNorm}
+use Rattle.options.specs.declared.MultigridSmoother.{MultigridSmoother}
 use Rattle.refusal.specs.declared.Refusal.{Refusal}
 use Rattle.refusal.specs.declared.Verdict.{Verdict}
-use Rattle.refusal.specs.Outcome.{Outcome, accepted, passed, ask, verdictOf, _>>=_, _>>_}
-use Rattle.vector.specs.Dot.{allFinite}
+use Rattle.refusal.specs.Outcome.{Outcome, accepted, refused, passed, ask, verdictOf, _>>=_, _>>_}
 use Rattle.matrix.specs.Kernel.{kernelAt, rowSumsOf, KernelOk}
 use Rattle.values.specs.Mirrors.{mirrorsEqual}
-use Rattle.dic.specs.Dic.{DicOk}
-use Rattle.packed.specs.Triangle.{tri}
-use Rattle.cholesky.specs.Factor.{choleskyOf}
-use Rattle.cholesky.specs.Contract.{csrAt, coupledAt, factorAt, TerminalOk}
-use Rattle.galerkin.specs.Values.{galerkinOf, SumsOk, FacesOk}
-use Rattle.hierarchy.specs.Level.{Shape, Numbers, Level, Hierarchy}
-use Rattle.hierarchy.specs.Refresh.{needsSums, smootherOf, numbersOf, withSums}
+use Rattle.hierarchy.specs.Level.{Shape, Hierarchy}
+use Rattle.hierarchy.specs.First.{shapesIn}
+use Rattle.hierarchy.specs.Refresh.{needsSums, withSums}
 use Rattle.layout.specs.declared.Place.{Place}
-use Rattle.layout.specs.Layout.{entriesAt, locate, shapeAt, numbersAt, wordsEnd, floatsEnd, levelsAt, imageEnd, viewOf}
-use Rattle.layout.specs.Parts.{kernelIn, terminalIn}
+use Rattle.layout.specs.Layout.{entriesAt, locate, viewOf}
+use Rattle.layout.specs.Parts.{kernelIn}
 use Rattle.sound.specs.declared.Walk.{Walk}
-use Rattle.sound.specs.Sound.{shapeIn, walkOf}
-use Rattle.refresh.specs.Update.{samePattern, diagonalsStand, renewOf}
-use Rattle.refresh.specs.Contract.{imageOf}
-
--- ---- places
-
--- What the place of the level at a and b requires: its sizes stand in the words, and none of its positions wraps.
-pub record PlaceOk (w : List ℕ) (a b : ℕ) : Type 0 where
-  pub inside : locate w a b .links ≤ length w
-  pub words : locate w a b .positions ≤ 18446744073709551615
-  pub floats : locate w a b .factor ≤ 18446744073709551615
-
--- The same where its floats end.
-pub record EndOk (w : List ℕ) (a b : ℕ) : Type 0 where
-  pub place : PlaceOk w a b
-  pub floats : floatsEnd w a b ≤ 18446744073709551615
-
--- So many levels from the one at a and b on, which is `level`: the walk went through them, and their floats end within `size`. A level
--- has fewer than six million words.
-pub record Chain (w : List ℕ) (size left level a b : ℕ) : Type 0 where
-  pub walk : walkOf left w level a ≡ Walk.Sound
-  pub room : imageEnd left w a b ≤ size
-  pub few : level + left ≤ 128
-  pub start : a ≤ 6000000 * level
-  pub fits : size ≤ 18446744073709551615
+use Rattle.sound.specs.Sound.{walkOf}
+use Rattle.sound.specs.Contract.{PlaceOk}
+use Rattle.renewing.specs.Update.{samePattern, renewOf, updateOf}
+use Rattle.renewing.specs.Steps.{Chain, shapesAt}
+use Rattle.refresh.specs.declared.Updated.{Updated}
+use Rattle.refresh.specs.Contract.{hierarchyOf, imageOf}
 
 -- ---- questions 31 and 10
 
@@ -70,139 +48,10 @@ pub record PatternOk (w : List ℕ) (p : Place) : Type 0 where
 -- The finest level, whose mirrored entries are entries.
 pub record AskOk (w : List ℕ) : Type 0 where
   pub place : PlaceOk w 0 0
+  pub inside : locate w 0 0 .links ≤ length w
   pub pattern : PatternOk w (locate w 0 0)
   pub uppers : (k : ℕ) → k < locate w 0 0 .faces → idx w (locate w 0 0 .uppers + k) < locate w 0 0 .entries
   pub lowers : (k : ℕ) → k < locate w 0 0 .faces → idx w (locate w 0 0 .lowers + k) < locate w 0 0 .entries
-
--- ---- one level
-
--- The level at p, with so many coupled rows if it is the last, else none: its words and floats lie in the stores, its floats in order,
--- and what its words index is there.
-pub record LevelOk (w : List ℕ) (size : ℕ) (p : Place) (coupled : ℕ) : Type 0 where
-  pub offsets : p .offsets + (p .rows + 1) ≤ length w
-  pub columns : p .columns + p .entries ≤ length w
-  pub starts : p .starts + p .rows + 1 ≤ length w
-  pub diagonals : p .diagonals + p .rows ≤ length w
-  pub neighbors : p .neighbors + p .faces ≤ length w
-  pub uppers : p .uppers + p .faces ≤ length w
-  pub links : p .links + coupled ≤ length w
-  pub faces : idx w (p .starts + p .rows) ≡ p .faces
-  pub ends : (k : ℕ) → k < p .rows → idx w (p .offsets + k + 1) ≤ p .entries
-  pub falls : (k : ℕ) → k < p .rows → idx w (p .starts + k + 1) ≤ p .faces
-  pub own : (k : ℕ) → k < p .rows → idx w (p .diagonals + k) < p .entries
-  pub near : (k : ℕ) → k < p .faces → idx w (p .neighbors + k) < p .rows
-  pub sides : (k : ℕ) → k < p .faces → idx w (p .uppers + k) < p .entries
-  pub coupling : (k : ℕ) → k < coupled → idx w (p .links + k) < p .rows
-  pub image : p .values + p .entries ≤ p .coefficients
-  pub sided : p .coefficients + p .faces ≤ p .diagonal
-  pub diagonal : p .diagonal + p .rows ≤ p .inverse
-  pub inverse : p .inverse + p .rows ≤ p .dic
-  pub dic : p .dic + p .rows ≤ p .factor
-  pub room : p .factor + tri coupled ≤ size
-
--- The same of a level that is the last or not: only the last has coupled rows.
-pub record LevelReady (w : List ℕ) (size : ℕ) (p : Place) (last : Bool) (coupled : ℕ) : Type 0 where
-  pub level : LevelOk w size p coupled
-  pub none : last ≡ false → coupled ≡ 0
-
--- What question 11 requires of the words at p.
-pub record RowsOk (w : List ℕ) (p : Place) : Type 0 where
-  pub offsets : p .offsets + (p .rows + 1) ≤ length w
-  pub columns : p .columns + p .entries ≤ length w
-  pub diagonals : p .diagonals + p .rows ≤ length w
-  pub own : (k : ℕ) → k < p .rows → idx w (p .diagonals + k) < p .entries
-
--- The same for one row.
-pub record RowOk (w : List ℕ) (p : Place) (row : ℕ) : Type 0 where
-  pub rows : RowsOk w p
-  pub within : row < p .rows
-  pub own : idx w (p .diagonals + row) < p .entries
-
--- the pattern and the diagonal entries at p as a shape, of which question 11 reads no more
-abbrev pub bareAt : List ℕ → Place → Shape
-bareAt w p = shapeAt w p false 0
-
--- the DIC data of the level at p: 16 and 17
-abbrev pub smootherAt : MultigridOptions → ℕ → List ℕ → List Float → Place → Outcome (List Float)
-smootherAt o level w F p = smootherOf o level (kernelAt (kernelIn p) w F)
-
--- What they require.
-abbrev pub SmootherOk : List ℕ → ℕ → Place → Type 0
-SmootherOk w size p = DicOk w size (kernelIn p) (p .dic)
-
--- The values of the last level end below its DIC data, and these below the factor, for which there is room.
-pub record FactorOk (w : List ℕ) (size : ℕ) (p : Place) (coupled : ℕ) : Type 0 where
-  pub terminal : TerminalOk w size (terminalIn p coupled)
-  pub values : p .values + p .entries ≤ p .dic
-  pub dic : p .dic + p .rows ≤ p .factor
-
--- the factor of the coupled rows
-abbrev pub factorOf : List ℕ → List Float → Place → ℕ → ℕ → Outcome (List Float)
-factorOf w F p coupled level = choleskyOf level (csrAt (terminalIn p coupled) w F) coupled (coupledAt (terminalIn p coupled) w)
-
--- Question 15's answer; where it passes, the factor; zeros for the DIC data. Below these nothing changed.
-pub record FactorDone (w : List ℕ) (F G : List Float) (p : Place) (coupled level : ℕ) (v : Verdict) : Type 0 where
-  pub answer : v ≡ verdictOf (factorOf w F p coupled level)
-  pub factor : v ≡ Verdict.Passed → factorOf w F p coupled level ≡ accepted (factorAt (terminalIn p coupled) G)
-  pub dic : part (p .dic) (p .rows) G ≡ filled (p .rows) zero64
-  pub kept : Kept (p .dic) F G
-
--- the numbers of a level of shape s: 11, 12 and 13, then 15, or 16 and 17
-abbrev pub levelOf : MultigridOptions → ℕ → Shape → List Float → Outcome Numbers
-levelOf o level s values = do
-  _ ← diagonalsStand level s
-  numbersOf o level s values
-
--- the same of the level at p
-abbrev pub levelRenewed : MultigridOptions → Bool → ℕ → ℕ → List ℕ → List Float → Place → Outcome Numbers
-levelRenewed o last coupled level w F p = levelOf o level (shapeAt w p last coupled) (part (p .values) (p .entries) F)
-
--- Its answer, and where it accepts, its numbers. Up to the coefficients nothing changed.
-pub record LevelDone (w : List ℕ) (F G : List Float) (o : MultigridOptions) (p : Place) (last : Bool) (coupled level : ℕ) (r : Verdict) : Type 0 where
-  pub answer : r ≡ verdictOf (levelRenewed o last coupled level w F p)
-  pub numbers : (n : Numbers) → levelRenewed o last coupled level w F p ≡ accepted n → numbersAt G p coupled ≡ n
-  pub kept : Kept (p .coefficients) F G
-
--- ---- the next level's values
-
--- What the values of the level at t require, summed from those of the level at p.
-pub record CoarseOk (w : List ℕ) (size : ℕ) (p t : Place) : Type 0 where
-  pub sums : SumsOk w size (p .entries) (p .positions) (p .values) (t .entries) (t .values)
-  pub faces : FacesOk w size (t .faces) (t .uppers) (t .lowers) (t .entries) (t .values)
-
--- these values
-abbrev pub coarseAt : List ℕ → List Float → Place → Place → List Float
-coarseAt w F p t =
-    galerkinOf (t .entries) (p .entries) (part (p .positions) (p .entries) w) (part (p .values) (p .entries) F)
-    (t .faces) (part (t .uppers) (t .faces) w) (part (t .lowers) (t .faces) w)
-
--- The values, and whether they are finite. Below them nothing changed.
-pub record CoarseDone (w : List ℕ) (F G : List Float) (p t : Place) (r : Bool) : Type 0 where
-  pub values : part (t .values) (t .entries) G ≡ coarseAt w F p t
-  pub finite : r ≡ allFinite (t .entries) (coarseAt w F p t)
-  pub kept : Kept (t .values) F G
-
--- ---- the levels
-
--- the shapes of so many levels from a on, which the words tell
-unfoldable pub shapesAt : ℕ → List ℕ → ℕ → List Shape
-shapesAt zero w a = []
-shapesAt (suc k) w a = shapeIn w a ∷ shapesAt k w (wordsEnd w a)
-
--- the levels from a and b on, from the values of the first
-abbrev pub renewAt : MultigridOptions → ℕ → ℕ → List ℕ → List Float → ℕ → ℕ → Outcome (List Level)
-renewAt o left level w F a b = renewOf o level (shapesAt left w a) (part b (entriesAt w a) F)
-
--- What they require: there is one.
-pub record RenewOk (w : List ℕ) (size left level a b : ℕ) : Type 0 where
-  pub chain : Chain w size left level a b
-  pub some : 1 ≤ left
-
--- The answer, and where it accepts, the levels. Below their floats nothing changed.
-pub record Renewed (o : MultigridOptions) (left level : ℕ) (w : List ℕ) (F G : List Float) (a b : ℕ) (r : Verdict) : Type 0 where
-  pub answer : r ≡ verdictOf (renewAt o left level w F a b)
-  pub levels : (ls : List Level) → renewAt o left level w F a b ≡ accepted ls → levelsAt left w G a b ≡ ls
-  pub kept : Kept b F G
 
 -- ---- the row sums
 
@@ -212,16 +61,19 @@ pub record SumOk (w : List ℕ) (size : ℕ) (p : Place) (end : ℕ) : Type 0 wh
   pub room : end + p .rows ≤ size
 
 -- What they ensure.
-pub record Summed (w : List ℕ) (F G : List Float) (o : MultigridOptions) (p : Place) (end : ℕ) : Type 0 where
-  pub wrote : Wrote end (p .rows) (cond (needsSums (o .«residual_norm»)) (rowSumsOf (kernelAt (kernelIn p) w F)) (filled (p .rows) zero64)) F G
+pub record Summed (w : List ℕ) (F G : List Float) (norm : MultigridResidualNorm) (p : Place) (end : ℕ) : Type 0 where
+  pub wrote : Wrote end (p .rows) (cond (needsSums norm) (rowSumsOf (kernelAt (kernelIn p) w F)) (filled (p .rows) zero64)) F G
 
 -- ---- the shadow
 
+-- What holds under all options with that smoother and that norm: of the options an update reads no more.
+abbrev pub With : MultigridSmoother → MultigridResidualNorm → (MultigridOptions → Type 0) → Type 0
+With kind norm holds = (o : MultigridOptions) → o .smoother ≡ kind → o .«residual_norm» ≡ norm → holds o
+
 -- The levels lie in the words, and the image and its shadow in the floats; as many values as the finest level has entries.
-pub record ShadowOk (levels : ℕ) (w : List ℕ) (size count end image : ℕ) : Type 0 where
+pub record ShadowOk (levels : ℕ) (w : List ℕ) (size count image : ℕ) : Type 0 where
   pub chain : Chain w size levels 0 0 image
   pub some : 1 ≤ levels
-  pub ends : end ≡ imageEnd levels w 0 0
   pub is : image ≡ imageOf levels w
   pub room : 2 * image ≤ size
   pub many : count ≡ entriesAt w 0
@@ -239,6 +91,30 @@ pub record ShadowDone (o : MultigridOptions) (levels : ℕ) (w : List ℕ) (F G 
   pub kept : Kept image F G
 
 -- ---- the update
+
+-- What an update of so many levels requires: the walk of question 19 went through them, and there is room for the image and its shadow.
+pub record AttemptOk (levels : ℕ) (w : List ℕ) (size : ℕ) : Type 0 where
+  pub some : 1 ≤ levels
+  pub few : levels ≤ 128
+  pub walk : walkOf levels w 0 0 ≡ Walk.Sound
+  pub room : 2 * imageOf levels w ≤ size
+  pub fits : size ≤ 18446744073709551615
+
+-- the update under these options, of the shapes of so many levels in the stores
+abbrev pub attemptOf : MultigridOptions → ℕ → List ℕ → List Float → List ℕ → List ℕ → List Float → Outcome Hierarchy
+attemptOf o levels w F offsets columns values = updateOf o (shapesIn (viewOf levels w F 0 .levels)) offsets columns values
+
+-- What an update whose outcome is `out` ensures: its answer, and the hierarchy in the stores; refused, no word of the image changed.
+pub record Attempted (levels : ℕ) (w : List ℕ) (F G : List Float) (out : Outcome Hierarchy) (r : Verdict) : Type 0 where
+  pub answer : r ≡ verdictOf out
+  pub view : viewOf levels w G 0 ≡ hierarchyOf (viewOf levels w F 0) out
+  pub kept : (q : Refusal) → out ≡ refused q → Kept (imageOf levels w) F G
+  pub size : length G ≡ length F
+
+-- the answer to a verdict
+abbrev pub toldOf : Verdict → Updated
+toldOf Verdict.Passed = Updated.Done
+toldOf (Verdict.Refused q) = Updated.Refused q
 
 -- What an update requires: from one to 128 levels, which the walk of question 19 went through, and room for the image and its shadow.
 pub record UpdateOk (h : Handle) (w : List ℕ) (size : ℕ) : Type 0 where

@@ -7,28 +7,26 @@ ghost use Rattle.store.specs.Region.{idx, part};
 ghost use Rattle.store.specs.Vector.{each};
 ghost use Rattle.refusal.specs.Outcome.{verdictOf};
 ghost use Rattle.sound.specs.Sound.{shapeIn};
-ghost use Rattle.refresh.specs.Update.{sameList, samePattern};
-ghost use Rattle.refresh.specs.Steps.{askedOf, bareAt, PatternOk, AskOk};
-use crate::place;
+ghost use Rattle.renewing.specs.Update.{sameList, samePattern};
+ghost use Rattle.renewing.specs.Steps.{bareAt};
+ghost use Rattle.refresh.specs.Steps.{askedOf, PatternOk, AskOk};
 use layout::Place;
 use refusal::Refusal;
 use refusal::Verdict;
 
-// Whether the words from `from` on are those of v.
+// Whether the words from `from` on are those of v. No branch leaves the loop, so that it takes several words at once.
 fn equal_words(w: &[u32], from: usize, v: &[u32]) -> bool
     requires { ⌜ from + length (now v) ≤ length (now w) ⌝ }
     ensures { λ r. ⌜ r ≡ each (λ k. eqb (idx (now (v .entry)) k) (idx (now (w .entry)) (from + k))) (length (now (v .entry))) ⌝ }
 {
     let n = v.len();
+    let mut ok = true;
     let mut k = 0;
     while k < n {
-        if v[k] == w[from + k] {
-            k += 1;
-        } else {
-            return false;
-        }
+        ok = ok & (v[k] == w[from + k]);
+        k += 1;
     }
-    true
+    ok
 }
 
 // Whether v is the n words from `from` on.
@@ -57,7 +55,7 @@ pub fn asked(w: &[u32], offsets: &[u32], columns: &[u32], values: &[f64]) -> Ver
     requires { ⌜ AskOk (now w) ⌝ }
     ensures { λ r. ⌜ r ≡ verdictOf (askedOf (shapeIn (now (w .entry)) 0) (now (offsets .entry)) (now (columns .entry)) (now (values .entry))) ⌝ }
 {
-    let p = place::locate(w, 0, 0);
+    let p = sound::place_at(w, 0, 0);
     if same_pattern(w, p, offsets, columns, values) {
         if values::equal_mirrors(w, values, p.faces, p.uppers, p.lowers) {
             return Verdict::Passed;

@@ -1,20 +1,20 @@
-// `update` of hierarchy.rs and `update_values` of mod.rs: new values for the levels of a hierarchy. The new image is computed in a shadow
-// behind the old one and copied over it once nothing can be refused any more.
+// `update_values` of mod.rs: new values for the levels of a hierarchy. The new image is computed in a shadow behind the old one and copied
+// over it once nothing can be refused any more.
+ghost use mathlib.Core.Path.{_≡_};
 ghost use Prim.Native.Nat.{_+_, _≤_};
 ghost use lib.ListN.{length};
 ghost use Rattle.store.specs.Region.{Wrote};
+ghost use Rattle.hierarchy.specs.Refresh.{needsDic};
 ghost use Rattle.refresh.specs.Contract.{updatedAt, UpdateDone};
-ghost use Rattle.refresh.specs.Steps.{RenewOk, Renewed, SumOk, Summed, ShadowOk, ShadowDone, UpdateOk};
+ghost use Rattle.refresh.specs.Steps.{With, SumOk, Summed, ShadowOk, ShadowDone, AttemptOk, attemptOf, Attempted, toldOf, UpdateOk};
 use layout::Place;
 use options::Handle;
-use options::MultigridOptions;
 use options::MultigridResidualNorm;
+use options::MultigridSmoother;
 use refusal::Refusal;
 use refusal::Verdict;
 
 mod asking;
-mod level;
-mod place;
 
 // Whether an update was made.
 pub enum Updated {
@@ -35,43 +35,22 @@ fn load(f: &mut [f64], from: &[f64], to: usize)
     }
 }
 
-// The levels left, from the values of the first, which stand at b.
-fn renew(
-    w: &[u32],
-    f: &mut [f64],
-    o: MultigridOptions,
-    left: u64,
-    level: u64,
-    a: usize,
-    b: usize,
-) -> Verdict
-    requires { ⌜ RenewOk (now w) (length (now f)) left level a b ⌝ }
-    ensures { λ r. ⌜ Renewed o left level (now (w .entry)) (now (f .entry)) (now (f .exit)) a b r ⌝ }
+// Whether the smoother needs DIC data.
+fn needs_dic(kind: MultigridSmoother) -> bool
+    ensures { λ r. ⌜ r ≡ needsDic kind ⌝ }
 {
-    let p = place::locate(w, a, b);
-    if left == 1 {
-        let coupled = store::wide(w[a + 2]);
-        return level::renew_level(w, f, o, p, true, coupled, level);
-    }
-    match level::renew_level(w, f, o, p, false, 0, level) {
-        Verdict::Refused(refusal) => Verdict::Refused(refusal),
-        Verdict::Passed => {
-            let next = layout::words_end(w, a);
-            let t = place::locate(w, next, p.factor);
-            if level::coarse_values(w, f, p, t) {
-                return renew(w, f, o, left - 1, level + 1, next, p.factor);
-            }
-            Verdict::Refused(Refusal::BadCoarseValue)
-        }
+    match kind {
+        MultigridSmoother::GaussSeidel => false,
+        MultigridSmoother::SymmetricGaussSeidel => false,
+        MultigridSmoother::DicGaussSeidel => true,
     }
 }
 
 // The row sums of the level at p, at `end`, where the norm needs them; else zeros.
-fn sums(w: &[u32], f: &mut [f64], o: MultigridOptions, p: Place, end: usize)
+fn sums(w: &[u32], f: &mut [f64], norm: MultigridResidualNorm, p: Place, end: usize)
     requires { ⌜ SumOk (now w) (length (now f)) p end ⌝ }
-    ensures { λ _. ⌜ Summed (now (w .entry)) (now (f .entry)) (now (f .exit)) o p end ⌝ }
+    ensures { λ _. ⌜ Summed (now (w .entry)) (now (f .entry)) (now (f .exit)) norm p end ⌝ }
 {
-    let norm = o.residual_norm;
     match norm {
         MultigridResidualNorm::AbsoluteL2 => store::fill(f, end, p.rows, 0.0),
         MultigridResidualNorm::NormalizedL1 => {
@@ -80,27 +59,64 @@ fn sums(w: &[u32], f: &mut [f64], o: MultigridOptions, p: Place, end: usize)
     }
 }
 
-// The new image in the shadow, which starts where the old image ends; the levels of an image end at `end`.
+// The new image in the shadow, which starts where the old image ends. The row sums of the finest level end an image.
 fn shadow(
     w: &[u32],
     f: &mut [f64],
-    o: MultigridOptions,
+    kind: MultigridSmoother,
+    norm: MultigridResidualNorm,
     levels: u64,
     values: &[f64],
-    end: usize,
     image: usize,
 ) -> Verdict
-    requires { ⌜ ShadowOk levels (now w) (length (now f)) (length (now values)) end image ⌝ }
-    ensures { λ r. ⌜ ShadowDone o levels (now (w .entry)) (now (f .entry)) (now (f .exit)) (now (values .entry)) image r ⌝ }
+    requires { ⌜ ShadowOk levels (now w) (length (now f)) (length (now values)) image ⌝ }
+    ensures { λ r. ⌜ With kind norm (λ o. ShadowDone o levels (now (w .entry)) (now (f .entry)) (now (f .exit)) (now (values .entry)) image r) ⌝ }
 {
     load(f, values, image);
-    match renew(w, f, o, levels, 0, 0, image) {
-        Verdict::Refused(refusal) => Verdict::Refused(refusal),
-        Verdict::Passed => {
-            let p = place::locate(w, 0, image);
-            sums(w, f, o, p, image + end);
-            Verdict::Passed
-        }
+    let answer = renewing::renew(w, f, needs_dic(kind), levels, image);
+    if renewing::refused(answer) {
+        return answer;
+    }
+    let p = sound::place_at(w, 0, image);
+    sums(w, f, norm, p, 2 * image - p.rows);
+    answer
+}
+
+// Questions 31 and 10, the new image in the shadow, and the copy over the old one.
+fn attempt(
+    w: &[u32],
+    f: &mut [f64],
+    kind: MultigridSmoother,
+    norm: MultigridResidualNorm,
+    levels: u64,
+    offsets: &[u32],
+    columns: &[u32],
+    values: &[f64],
+) -> Verdict
+    requires { ⌜ AttemptOk levels (now w) (length (now f)) ⌝ }
+    ensures { λ r. ⌜ With kind norm (λ o. Attempted levels (now (w .entry)) (now (f .entry)) (now (f .exit)) (attemptOf o levels (now (w .entry)) (now (f .entry)) (now (offsets .entry)) (now (columns .entry)) (now (values .entry))) r) ⌝ }
+{
+    let asked = asking::asked(w, offsets, columns, values);
+    if renewing::refused(asked) {
+        return asked;
+    }
+    // The image and its shadow end where the scratch of a solve starts.
+    let image = sound::scratch_start(w, levels) / 2;
+    let answer = shadow(w, f, kind, norm, levels, values, image);
+    if renewing::refused(answer) {
+        return answer;
+    }
+    store::copy(f, image, image, 0);
+    answer
+}
+
+// The answer of an update.
+fn told(answer: Verdict) -> Updated
+    ensures { λ r. ⌜ r ≡ toldOf answer ⌝ }
+{
+    match answer {
+        Verdict::Passed => Updated::Done,
+        Verdict::Refused(refusal) => Updated::Refused(refusal),
     }
 }
 
@@ -116,18 +132,9 @@ pub fn update(
     requires { ⌜ UpdateOk h (now w) (length (now f)) ⌝ }
     ensures { λ r. ⌜ UpdateDone h (now (w .entry)) (now (f .entry)) (now (f .exit)) (updatedAt h (now (w .entry)) (now (f .entry)) (now (offsets .entry)) (now (columns .entry)) (now (values .entry))) r ⌝ }
 {
-    match asking::asked(w, offsets, columns, values) {
-        Verdict::Refused(refusal) => Updated::Refused(refusal),
-        Verdict::Passed => {
-            let end = place::image_end(w, h.levels);
-            let image = end + store::wide(w[0]);
-            match shadow(w, f, h.options, h.levels, values, end, image) {
-                Verdict::Refused(refusal) => Updated::Refused(refusal),
-                Verdict::Passed => {
-                    store::copy(f, image, image, 0);
-                    Updated::Done
-                }
-            }
-        }
-    }
+    let options = h.options;
+    let kind = options.smoother;
+    let norm = options.residual_norm;
+    let answer = attempt(w, f, kind, norm, h.levels, offsets, columns, values);
+    told(answer)
 }

@@ -1,66 +1,56 @@
 -- `refresh::shadow` meets its contract: the values, the levels, and the row sums.
 -- Assumes nothing.
-use Rattle.refresh.proofs.Updating.{load-ready, renew-ready, shadow-place, sums-fit, sums-ready, shadow-no, shadow-yes}
+use mathlib.Core.Path.{sym, _∙_}
+use Rattle.refresh.proofs.Updating.{load-ready, shadow-place, renew-ready, sums-fit, sums-part, sums-ready, shadow-no, shadow-yes}
 use native.Mathlib.Omega.{arith}
 use borrow.Author.Needs.{needs}
 use Rattle.refresh.proofs.shadow.Statement.{statement}
 use Rattle.refresh.proofs.shadow.Tie as tie
 
 load-requires : tie.Need-load-requires
-load-requires c κs =
-    let start = c .before .before .before .before in
-    omega (arith, load-ready (start .args .f .now) (start .args .values .now) (start .pre))
+load-requires c κs = load-ready (c .before .before .before .before .pre)
 
 renew-requires : tie.Need-renew-requires
-renew-requires c κs =
-    let start = c .before .before .before .before .before .before .before .before in
-    renew-ready (start .args .f .now) (start .args .values .now) (start .pre) (c .before .before .before .load .ensures)
+renew-requires c κs = renew-ready (c .before .before .before .before .before .before .before .before .before .pre) (c .before .before .before .before .load .ensures .size)
 
-locate-requires : tie.Need-locate-requires
-locate-requires c κs =
-    let start = c .before .before .before .before .before .before .before .before .before .before .before .before .before in
-    shadow-place (start .args .f .now) (start .args .values .now) (start .pre)
+returns : tie.Need-returns
+returns c o by under =
+    let start = c .before .before .before .before .before .before .before .before .before .before .before .before .before .before in
+    shadow-no (start .args .f .now) (start .pre) (c .before .before .before .before .before .before .before .before .before .load .ensures) o by (c .before .before .before .before .before .needs-dic .ensures) (c .before .before .before .before .renew .ensures)
+    (sym (c .before .refused .ensures) ∙ c .if1 .taken)
 
-add-sums : tie.Need-add-sums
-add-sums c =
-    let start = c .before .before .before .before .before .before .before .before .before .before .before .before .before .before .before in
-    omega (arith, sums-fit (start .args .f .now) (start .args .values .now) (start .pre))
+place-at-requires : tie.Need-place-at-requires
+place-at-requires c κs = shadow-place (c .before .before .before .before .before .before .before .before .before .before .before .before .before .before .pre)
+
+mul-sums : tie.Need-mul-sums
+mul-sums c = omega (arith, sums-fit (c .before .before .before .before .before .before .before .before .before .before .before .before .before .before .before .before .pre))
+
+sub-sums : tie.Need-sub-sums
+sub-sums c = sums-part (c .before .before .before .before .before .before .before .before .before .before .before .before .before .before .before .before .before .pre) (c .before .before .place-at .ensures)
 
 sums-requires : tie.Need-sums-requires
 sums-requires c κs =
-    let start = c .before .before .before .before .before .before .before .before .before .before .before .before .before .before .before in
-    sums-ready (start .args .f .now) (start .args .values .now) (start .pre)
-    (c .before .before .before .before .before .before .before .before .before .before .load .ensures) (start .args .o)
-    (c .before .before .before .before .before .before .renew .ensures) (c .before .locate .ensures)
-
-returns : tie.Need-returns
-returns c =
-    let start = c .before .before .before .before .before .before .before .before .before .before .before .before .before .before in
-    shadow-no (start .args .f .now) (start .args .values .now) (start .pre)
-    (c .before .before .before .before .before .before .before .before .before .load .ensures) (start .args .o)
-    (c .before .before .before .before .before .renew .ensures) (c .before .refusal .given .1)
+    sums-ready (c .before .before .before .before .before .before .before .before .before .before .before .before .before .before .before .before .before .pre) (c .before .before .place-at .ensures) (c .before .before .before .before .before .before .before .renew .kept .1 .0 ∙ c .before .before .before .before .before .before .before .before .before .before .before .before .load .ensures .size)
 
 returns-2 : tie.Need-returns-2
-returns-2 c =
-    let start = c .before .before .before .before .before .before .before .before .before .before .before .before .before .before .before .before .before .before in
-    shadow-yes (start .args .f .now) (start .args .values .now) (start .pre)
-    (c .before .before .before .before .before .before .before .before .before .before .before .before .before .load .ensures)
-    (start .args .o) (c .before .before .before .before .before .before .before .before .before .renew .ensures)
-    (c .before .before .before .before .locate .ensures) (c .before .before .before .before .before .enum-told .given .1)
-    (c .before .before .sums .ensures)
+returns-2 c o by under =
+    let start = c .before .before .before .before .before .before .before .before .before .before .before .before .before .before .before .before .before .before .before .before in
+    shadow-yes (start .args .f .now) (start .pre) (c .before .before .before .before .before .before .before .before .before .before .before .before .before .before .before .load .ensures) o by (c .before .before .before .before .before .before .before .before .before .before .before .needs-dic .ensures) (c .before .before .before .before .before .before .before .before .before .before .renew .ensures)
+    under (c .before .before .before .before .before .place-at .ensures) (c .before .before .sums .ensures)
 
 pub shadow-spec : {M : Type 1} → statement M
 shadow-spec =
     tie.close
     (tie.spec
     load-requires
+    (λ c κs. search needs)
     renew-requires
-    (λ c. search needs)
-    (λ c. search needs)
-    locate-requires
-    add-sums
-    sums-requires
+    (λ c κs. search needs)
     (λ c. search needs)
     returns
+    place-at-requires
+    mul-sums
+    sub-sums
+    sums-requires
     (λ c. search needs)
     returns-2)

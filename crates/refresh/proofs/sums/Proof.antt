@@ -15,9 +15,7 @@ returns : tie.Need-returns
 returns c = summed-none (c .before .before .before .before .enum-told .given .1) (c .before .before .fill .ensures)
 
 returns-2 : tie.Need-returns-2
-returns-2 c =
-    summed-all (c .before .before .before .before .before .enum-told2 .given .1) (c .before .before .before .kernel-in .ensures)
-    (c .before .before .row-sums-into .ensures)
+returns-2 c = summed-all (c .before .before .before .before .before .enum-told2 .given .1) (c .before .before .before .kernel-in .ensures) (c .before .before .row-sums-into .ensures)
 
 pub sums-spec : {M : Type 1} → statement M
 sums-spec =

@@ -4,43 +4,43 @@ use Rattle.refresh.proofs.Questions.{pattern-ready, mirrors-ready, aske
 use Rattle.refresh.proofs.asking.asked.Statement.{statement}
 use Rattle.refresh.proofs.asking.asked.Tie as tie
 
-locate-requires : tie.Need-locate-requires
-locate-requires c κs = c .before .before .before .before .pre .place
+place-at-requires : tie.Need-place-at-requires
+place-at-requires c κs = c .before .before .before .before .pre .place
 
 same-pattern-requires : tie.Need-same-pattern-requires
-same-pattern-requires c κs = pattern-ready (c .before .before .before .before .before .pre) (c .locate .ensures)
+same-pattern-requires c κs = pattern-ready (c .before .before .before .before .before .pre) (c .place-at .ensures)
 
 equal-mirrors-requires : tie.Need-equal-mirrors-requires
 equal-mirrors-requires c κs =
     let start = c .before .before .before .before .before .before .before in
     mirrors-ready (start .args .offsets .now) (start .args .columns .now) (start .args .values .now) (start .pre)
-    (c .before .before .locate .ensures) (c .before .same-pattern .ensures) (c .if1 .taken)
+    (c .before .before .place-at .ensures) (c .before .same-pattern .ensures) (c .if1 .taken)
 
 returns : tie.Need-returns
 returns c =
     let start = c .before .before .before .before .before .before .before .before .before in
     asked-passed (start .args .offsets .now) (start .args .columns .now) (start .args .values .now) (start .pre)
-    (c .before .before .before .before .locate .ensures) (c .before .before .before .same-pattern .ensures) (c .before .before .if1 .taken)
+    (c .before .before .before .before .place-at .ensures) (c .before .before .before .same-pattern .ensures) (c .before .before .if1 .taken)
     (c .before .equal-mirrors .ensures) (c .if2 .taken)
 
 returns-2 : tie.Need-returns-2
 returns-2 c =
     let start = c .before .before .before .before .before .before .before .before .before in
     asked-unequal (start .args .offsets .now) (start .args .columns .now) (start .args .values .now) (start .pre)
-    (c .before .before .before .before .locate .ensures) (c .before .before .before .same-pattern .ensures) (c .before .before .if1 .taken)
+    (c .before .before .before .before .place-at .ensures) (c .before .before .before .same-pattern .ensures) (c .before .before .if1 .taken)
     (c .before .equal-mirrors .ensures) (c .if2 .left)
 
 returns-3 : tie.Need-returns-3
 returns-3 c =
     let start = c .before .before .before .before .before .before .before in
     asked-other (start .args .offsets .now) (start .args .columns .now) (start .args .values .now) (start .pre)
-    (c .before .before .locate .ensures) (c .before .same-pattern .ensures) (c .if1 .left)
+    (c .before .before .place-at .ensures) (c .before .same-pattern .ensures) (c .if1 .left)
 
 pub asked-spec : {M : Type 1} → statement M
 asked-spec =
     tie.close
     (tie.spec
-    locate-requires
+    place-at-requires
     same-pattern-requires
     equal-mirrors-requires
     returns

@@ -1,0 +1,58 @@
+-- `refresh::attempt` meets its contract: questions 31 and 10, the shadow, and the copy.
+-- Assumes nothing.
+use mathlib.Core.Path.{sym, _∙_}
+use Rattle.refresh.proofs.Updating.{ask-ready, start-ready, copy-room, shadow-ready, attempt-asked-no, attempt-no, attempt-yes}
+use borrow.Author.Needs.{needs}
+use Rattle.refresh.proofs.attempt.Statement.{statement}
+use Rattle.refresh.proofs.attempt.Tie as tie
+
+asked-requires : tie.Need-asked-requires
+asked-requires c κs = ask-ready (c .before .before .before .before .before .pre)
+
+returns : tie.Need-returns
+returns c o by under =
+    let start = c .before .before .before .before .before .before .before .before in
+    attempt-asked-no (start .args .f .now) (start .pre) o (start .args .offsets .now) (start .args .columns .now) (start .args .values .now)
+    (c .before .before .asked .ensures) (sym (c .before .refused .ensures) ∙ c .if1 .taken)
+
+scratch-start-requires : tie.Need-scratch-start-requires
+scratch-start-requires c κs = start-ready (c .before .before .before .before .before .before .before .before .pre)
+
+shadow-requires : tie.Need-shadow-requires
+shadow-requires c κs =
+    let start = c .before .before .before .before .before .before .before .before .before .before in
+    shadow-ready (start .pre) (c .before .scratch-start .ensures) (start .args .offsets .now) (start .args .columns .now) (start .args .values .now)
+    (c .before .before .before .before .asked .ensures) (sym (c .before .before .before .refused .ensures) ∙ c .before .before .if1 .left)
+
+returns-2 : tie.Need-returns-2
+returns-2 c o by under =
+    let start = c .before .before .before .before .before .before .before .before .before .before .before .before .before .before .before in
+    attempt-no (start .args .f .now) (start .pre) o (start .args .offsets .now) (start .args .columns .now) (start .args .values .now)
+    (c .before .before .before .before .before .before .before .before .before .asked .ensures) (sym (c .before .before .before .before .before .before .before .before .refused .ensures) ∙ c .before .before .before .before .before .before .before .if1 .left) (c .before .before .before .before .before .before .scratch-start .ensures)
+    (c .before .before .before .before .shadow .ensures o by under) (sym (c .before .refused2 .ensures) ∙ c .if2 .taken)
+
+copy-requires : tie.Need-copy-requires
+copy-requires c κs = copy-room (c .before .before .before .before .before .before .before .before .before .before .before .before .before .before .before .before .pre) (c .before .before .before .before .before .before .before .scratch-start .ensures) (c .before .before .before .before .before .shadow .kept .1 .0)
+
+returns-3 : tie.Need-returns-3
+returns-3 c o by under =
+    let start = c .before .before .before .before .before .before .before .before .before .before .before .before .before .before .before .before .before .before .before in
+    attempt-yes (start .args .f .now) (start .pre) o (start .args .offsets .now) (start .args .columns .now) (start .args .values .now)
+    (c .before .before .before .before .before .before .before .before .before .before .before .before .before .asked .ensures) (sym (c .before .before .before .before .before .before .before .before .before .before .before .before .refused .ensures) ∙ c .before .before .before .before .before .before .before .before .before .before .before .if1 .left) (c .before .before .before .before .before .before .before .before .before .before .scratch-start .ensures)
+    (c .before .before .before .before .before .before .before .before .shadow .ensures o by under) (sym (c .before .before .before .before .before .refused2 .ensures) ∙ c .before .before .before .before .if2 .left) (c .before .before .copy .ensures)
+
+pub attempt-spec : {M : Type 1} → statement M
+attempt-spec =
+    tie.close
+    (tie.spec
+    asked-requires
+    (λ c κs. search needs)
+    returns
+    scratch-start-requires
+    shadow-requires
+    (λ c κs. search needs)
+    (λ c. search needs)
+    returns-2
+    copy-requires
+    (λ c. search needs)
+    returns-3)

@@ -1,0 +1,175 @@
+// New numbers for one level, from its values, and the values of the next.
+ghost use mathlib.Core.Path.{_≡_};
+ghost use Prim.Native.Nat.{_<_};
+ghost use lib.ListN.{length};
+ghost use Rattle.store.specs.Region.{idx};
+ghost use Rattle.store.specs.Vector.{each};
+ghost use Rattle.refusal.specs.Outcome.{verdictOf};
+ghost use Rattle.values.specs.Update.{Updated};
+ghost use Rattle.dic.specs.Dic.{Settled};
+ghost use Rattle.layout.specs.Parts.{kernelIn, terminalIn};
+ghost use Rattle.renewing.specs.Update.{diagonalStands, diagonalsStand};
+ghost use Rattle.renewing.specs.Steps.{isRefused, Under, bareAt, RowOk, RowsOk, CoefficientsOk, coefficientsAsked, SmootherOk, smootherAt};
+ghost use Rattle.renewing.specs.Steps.{FactorOk, FactorDone, LevelReady, LevelDone, CoarseOk, CoarseDone};
+use cholesky::Terminal;
+use layout::Place;
+use refusal::Refusal;
+use refusal::Verdict;
+
+// The word at i as an index.
+fn word_at(w: &[u32], i: usize) -> usize
+    requires { ⌜ i < length (now w) ⌝ }
+    ensures { λ r. ⌜ r ≡ idx (now (w .entry)) i ⌝ }
+{
+    store::wide(w[i])
+}
+
+// Whether the stored position of a row's diagonal is the row's diagonal entry.
+fn diagonal_stands(w: &[u32], p: Place, row: usize) -> bool
+    requires { ⌜ RowOk (now w) p row ⌝ }
+    ensures { λ r. ⌜ r ≡ diagonalStands (bareAt (now (w .entry)) p) row ⌝ }
+{
+    let entry = store::index_at(w, p.diagonals, row, p.entries);
+    let start = p.offsets + row;
+    let first = word_at(w, start);
+    let end = word_at(w, start + 1);
+    let column = word_at(w, p.columns + entry);
+    (first <= entry) & (entry < end) & (column == row)
+}
+
+// Whether those of all rows are. No branch leaves the loop, so that it takes several rows at once.
+fn all_stand(w: &[u32], p: Place) -> bool
+    requires { ⌜ RowsOk (now w) p ⌝ }
+    ensures { λ r. ⌜ r ≡ each (diagonalStands (bareAt (now (w .entry)) p)) (p .rows) ⌝ }
+{
+    let rows = p.rows;
+    let mut ok = true;
+    let mut row = 0;
+    while row < rows {
+        ok = ok & diagonal_stands(w, p, row);
+        row += 1;
+    }
+    ok
+}
+
+// Question 11. Only stores that no build wrote can fail it: then the first row that does is looked for.
+fn diagonals_stand(w: &[u32], p: Place, level: u64) -> Verdict
+    requires { ⌜ RowsOk (now w) p ⌝ }
+    ensures { λ r. ⌜ r ≡ verdictOf (diagonalsStand level (bareAt (now (w .entry)) p)) ⌝ }
+{
+    if all_stand(w, p) {
+        return Verdict::Passed;
+    }
+    let rows = p.rows;
+    let mut row = 0;
+    while row < rows {
+        if diagonal_stands(w, p, row) {
+            row += 1;
+        } else {
+            return Verdict::Refused(Refusal::MissingDiagonal {
+                level: level,
+                row: row as u64,
+            });
+        }
+    }
+    Verdict::Passed
+}
+
+// Whether a question refused.
+pub fn refused(answer: Verdict) -> bool
+    ensures { λ r. ⌜ r ≡ isRefused answer ⌝ }
+{
+    match answer {
+        Verdict::Passed => false,
+        Verdict::Refused(_) => true,
+    }
+}
+
+// The coefficients of the level, from its values: 11, then 12 and 13.
+fn coefficients(w: &[u32], f: &mut [f64], p: Place, level: u64) -> Verdict
+    requires { ⌜ CoefficientsOk (now w) (length (now f)) p ⌝ }
+    ensures { λ r. ⌜ Updated (now (w .entry)) (kernelIn p) (coefficientsAsked level (now (w .entry)) (now (f .entry)) p) (now (f .entry)) (now (f .exit)) r ⌝ }
+{
+    let stand = diagonals_stand(w, p, level);
+    if refused(stand) {
+        return stand;
+    }
+    let kernel = layout::kernel_in(p);
+    let image = layout::entries_in(p);
+    values::update(w, f, kernel, image, level)
+}
+
+// The DIC data of a level that is not the last, with questions 16 and 17; zeros where the smoother needs none.
+fn smoother_data(w: &[u32], f: &mut [f64], dic: bool, p: Place, level: u64) -> Verdict
+    requires { ⌜ SmootherOk (now w) (length (now f)) p ⌝ }
+    ensures { λ r. ⌜ Settled (p .dic) (p .rows) (smootherAt dic level (now (w .entry)) (now (f .entry)) p) (now (f .entry)) (now (f .exit)) r ⌝ }
+{
+    if dic {
+        let kernel = layout::kernel_in(p);
+        dic::update_dic_diagonal(w, f, kernel, p.dic, level)
+    } else {
+        store::fill(f, p.dic, p.rows, 0.0);
+        Verdict::Passed
+    }
+}
+
+// The terminal solve of so many coupled rows.
+fn terminal_in(p: Place, coupled: usize) -> Terminal
+    ensures { λ r. ⌜ r ≡ terminalIn p coupled ⌝ }
+{
+    Terminal {
+        rows: p.rows,
+        entries: p.entries,
+        offsets: p.offsets,
+        columns: p.columns,
+        values: p.values,
+        size: coupled,
+        coupled: p.links,
+        factor: p.factor,
+    }
+}
+
+// The last level: no DIC data, and the factor of the coupled rows (`update` of coarse.rs): question 15.
+fn factor(w: &[u32], f: &mut [f64], p: Place, coupled: usize, level: u64) -> Verdict
+    requires { ⌜ FactorOk (now w) (length (now f)) p coupled ⌝ }
+    ensures { λ v. ⌜ FactorDone (now (w .entry)) (now (f .entry)) (now (f .exit)) p coupled level v ⌝ }
+{
+    let terminal = terminal_in(p, coupled);
+    let dic = p.dic;
+    let rows = p.rows;
+    store::fill(f, dic, rows, 0.0);
+    cholesky::cholesky(w, f, terminal, level)
+}
+
+// The numbers of the level at p, from its values: 11, 12 and 13, then 15 of the last level, or 16 and 17 of another.
+pub fn renew_level(
+    w: &[u32],
+    f: &mut [f64],
+    dic: bool,
+    p: Place,
+    last: bool,
+    coupled: usize,
+    level: u64,
+) -> Verdict
+    requires { ⌜ LevelReady (now w) (length (now f)) p last coupled ⌝ }
+    ensures { λ r. ⌜ Under dic (λ o. LevelDone (now (w .entry)) (now (f .entry)) (now (f .exit)) o p last coupled level r) ⌝ }
+{
+    let own = coefficients(w, f, p, level);
+    if refused(own) {
+        return own;
+    }
+    if last {
+        return factor(w, f, p, coupled, level);
+    }
+    smoother_data(w, f, dic, p, level)
+}
+
+// The values of the level at t, summed from those of the level at p, then half plus half: question 18.
+pub fn coarse_values(w: &[u32], f: &mut [f64], p: Place, t: Place) -> bool
+    requires { ⌜ CoarseOk (now w) (length (now f)) p t ⌝ }
+    ensures { λ r. ⌜ CoarseDone (now (w .entry)) (now (f .entry)) (now (f .exit)) p t r ⌝ }
+{
+    galerkin::sum_entries(w, f, p.entries, p.positions, p.values, t.entries, t.values);
+    galerkin::symmetrize(w, f, t.faces, t.uppers, t.lowers, t.entries, t.values);
+    vector::all_finite(f, t.entries, t.values)
+}
