@@ -1,19 +1,28 @@
 // cycle.rs: one visit of each level. A level's vectors stand one after the other in its scratch: right-hand side, x, work, which also
 // holds the residual, correction and product; after them come those of the next level.
 ghost use mathlib.Core.Path.{_≡_};
-ghost use Prim.Native.Nat.{_+_, _*_, _<_, _≤_};
+ghost use Prim.Native.Nat.{_+_, _*_, _<_};
 ghost use lib.ListN.{length};
-ghost use Rattle.layout.specs.Layout.{locate};
+ghost use Rattle.layout.specs.Layout.{rowsAt, locate};
 ghost use Rattle.layout.specs.Parts.{terminalIn};
+ghost use Rattle.visit.specs.Visit.{Downed};
+ghost use Rattle.options.specs.Counts.{preSweepsOf};
+ghost use Rattle.store.specs.Region.{idx};
 ghost use Rattle.cycle.specs.Cycle.{countOf};
-ghost use Rattle.cycle.specs.Contract.{CycleOk, CycleDone, PlaceOk, LevelOk, InnerOk, LastOk, UpOk};
-ghost use Rattle.cycle.specs.Contract.{residualAt, endAt, smoothedAt, scaledAt, correctedAt, raisedAt, upAt};
-ghost use Rattle.cycle.specs.Contract.{Moved, Visited, Resided, Restricted, Downed};
+ghost use Rattle.cycle.specs.Contract.{CycleOk, CycleDone, PlaceOk, NextOk, innerAt, EndOk, StepOk};
+ghost use Rattle.cycle.specs.Contract.{Visited, endAt, upAt, workOk, workDone};
 use cholesky::Terminal;
-use correction::Factor;
 use layout::Place;
 use options::MultigridOptions;
 use refusal::Verdict;
+use visit::Inner;
+
+// Which way a cycle goes at a level: the last is solved, another is left downward and entered again upward.
+pub enum Way {
+    Last,
+    Down,
+    Up,
+}
 
 // Adds to a counter of the level at that depth: 1 its visits, 2 its smoothing sweeps, 3 its coarse iterations.
 fn count(t: &mut [u64; 512], depth: u64, counter: u64, more: u64)
@@ -57,172 +66,103 @@ fn end(
     f: &mut [f64],
     t: &mut [u64; 512],
     depth: u64,
-    p: Place,
+    a: usize,
+    b: usize,
     s: usize,
-    coupled: usize,
 ) -> Verdict
-    requires { ⌜ LastOk (now w) (length (now f)) p s coupled depth ⌝ }
-    ensures { λ r. ⌜ Visited s (p .rows) (endAt (now (w .entry)) (now (f .entry)) (now (t .entry)) p s coupled depth) (now (f .entry)) (now (f .exit)) (now (t .exit)) r ⌝ }
+    requires { ⌜ EndOk (now w) (length (now f)) depth a b s ⌝ }
+    ensures { λ r. ⌜ Visited s (rowsAt (now (w .entry)) a) (endAt (now (w .entry)) (now (f .entry)) (now (t .entry)) (locate (now (w .entry)) a b) s (idx (now (w .entry)) (a + 2)) depth) (now (f .entry)) (now (f .exit)) (now (t .exit)) r ⌝ }
 {
+    let p = level_place(w, a, b);
+    let terminal = terminal_in(p, store::wide(w[a + 2]));
     let n = p.rows;
-    let terminal = terminal_in(p, coupled);
     let r = coarse::solve(w, f, terminal, p.inverse, s, s + n, s + 2 * n);
     count(t, depth, 3, 0);
     r
 }
 
-// So many sweeps on a level.
-fn smooth(w: &[u32], f: &mut [f64], o: MultigridOptions, p: Place, s: usize, sweeps: u64) -> Verdict
-    requires { ⌜ LevelOk (now w) (length (now f)) p s ⌝ }
-    ensures { λ r. ⌜ Moved s (p .rows) (smoothedAt o (now (w .entry)) (now (f .entry)) p s sweeps) (now (f .entry)) (now (f .exit)) r ⌝ }
+// A level that is not the last, as its visit takes it.
+fn inner_at(w: &[u32], a: usize, b: usize, s: usize) -> Inner
+    requires { ⌜ NextOk (now w) a b ⌝ }
+    ensures { λ r. ⌜ r ≡ innerAt (now (w .entry)) a b s ⌝ }
 {
-    let n = p.rows;
-    let k = layout::kernel_in(p);
-    let kind = o.smoother;
-    smoother::smooth(w, f, k, p.dic, kind, s, s + n, s + 2 * n, s + 3 * n, sweeps)
-}
-
-// Where the residual stands.
-fn residual_at(s: usize, n: usize, sweeps: u64) -> usize
-    requires { ⌜ s + 2 * n ≤ 18446744073709551615 ⌝ }
-    ensures { λ r. ⌜ r ≡ residualAt s n sweeps ⌝ }
-{
-    if sweeps == 0 { s } else { s + 2 * n }
-}
-
-// Every recursive correction starts at zero. With no sweeps before, the residual is exactly the right-hand side: the matrix is not
-// multiplied by a zero vector.
-fn residual(w: &[u32], f: &mut [f64], p: Place, s: usize, sweeps: u64)
-    requires { ⌜ LevelOk (now w) (length (now f)) p s ⌝ }
-    ensures { λ _. ⌜ Resided (now (w .entry)) (now (f .entry)) (now (f .exit)) p s sweeps ⌝ }
-{
-    if sweeps == 0 {
-        return;
+    let p = level_place(w, a, b);
+    let matrix = layout::kernel_in(p);
+    let after = p.positions + p.entries;
+    Inner {
+        matrix: matrix,
+        dic: p.dic,
+        links: p.links,
+        start: s,
+        next: store::wide(w[after]),
     }
-    let n = p.rows;
-    let k = layout::kernel_in(p);
-    matrix::apply(w, f, k, s + n, s + 4 * n);
-    correction::subtract(f, n, s, s + 4 * n, s + 2 * n);
 }
 
-// The residual, added up over the aggregates to the next level's right-hand side; the next level's x starts at zero.
-fn restrict(w: &[u32], f: &mut [f64], p: Place, s: usize, next: usize, sweeps: u64)
-    requires { ⌜ InnerOk (now w) (length (now f)) p s next ⌝ }
-    ensures { λ _. ⌜ Restricted (now (w .entry)) (now (f .entry)) (now (f .exit)) p s next sweeps ⌝ }
-{
-    let n = p.rows;
-    residual(w, f, p, s, sweeps);
-    let from = residual_at(s, n, sweeps);
-    transfer::restrict(w, f, n, next, p.links, from, s + 5 * n);
-    store::fill(f, s + 5 * n + next, next, 0.0);
-}
-
-// The way down: sweeps, and the next level's right-hand side.
+// The way down of a level.
 fn down(
     w: &[u32],
     f: &mut [f64],
     o: MultigridOptions,
-    p: Place,
+    depth: u64,
+    a: usize,
+    b: usize,
     s: usize,
-    next: usize,
-    sweeps: u64,
 ) -> Verdict
-    requires { ⌜ InnerOk (now w) (length (now f)) p s next ⌝ }
-    ensures { λ r. ⌜ Downed o (now (w .entry)) (now (f .entry)) (now (f .exit)) p s next sweeps r ⌝ }
+    requires { ⌜ StepOk (now w) (length (now f)) depth a b s ⌝ }
+    ensures { λ r. ⌜ Downed (o .smoother) (now (w .entry)) (now (f .entry)) (now (f .exit)) (innerAt (now (w .entry)) a b s) (preSweepsOf o depth) r ⌝ }
 {
-    match smooth(w, f, o, p, s, sweeps) {
-        Verdict::Refused(q) => Verdict::Refused(q),
-        Verdict::Passed => {
-            restrict(w, f, p, s, next, sweeps);
-            Verdict::Passed
-        }
-    }
+    let g = inner_at(w, a, b, s);
+    let kind = o.smoother;
+    visit::down(w, f, g, kind, options::pre_sweeps_at(o, depth))
 }
 
-// The correction scaled, and a Jacobi step on the residual that it leaves.
-fn correct_scaled(w: &[u32], f: &mut [f64], p: Place, s: usize, sweeps: u64) -> Verdict
-    requires { ⌜ LevelOk (now w) (length (now f)) p s ⌝ }
-    ensures { λ r. ⌜ Moved s (p .rows) (scaledAt (now (w .entry)) (now (f .entry)) p s sweeps) (now (f .entry)) (now (f .exit)) r ⌝ }
-{
-    let n = p.rows;
-    let k = layout::kernel_in(p);
-    let from = residual_at(s, n, sweeps);
-    let e = s + 3 * n;
-    let product = s + 4 * n;
-    matrix::apply(w, f, k, e, product);
-    match correction::correction_factor(f, n, e, from, product) {
-        Factor::Refused(q) => Verdict::Refused(q),
-        Factor::Factor(factor) => {
-            correction::add_scaled(f, n, factor, e, from, product, p.inverse, s + n);
-            Verdict::Passed
-        }
-    }
-}
-
-// The correction, added to x.
-fn correct(
-    w: &[u32],
-    f: &mut [f64],
-    o: MultigridOptions,
-    p: Place,
-    s: usize,
-    sweeps: u64,
-) -> Verdict
-    requires { ⌜ LevelOk (now w) (length (now f)) p s ⌝ }
-    ensures { λ r. ⌜ Moved s (p .rows) (correctedAt o (now (w .entry)) (now (f .entry)) p s sweeps) (now (f .entry)) (now (f .exit)) r ⌝ }
-{
-    let n = p.rows;
-    if o.scale_correction {
-        return correct_scaled(w, f, p, s, sweeps);
-    }
-    correction::add_plain(f, n, s + 3 * n, s + n);
-    Verdict::Passed
-}
-
-// The next level's x comes up as the correction, and sweeps follow.
-fn raise(
-    w: &[u32],
-    f: &mut [f64],
-    o: MultigridOptions,
-    p: Place,
-    s: usize,
-    next: usize,
-    pre: u64,
-    post: u64,
-) -> Verdict
-    requires { ⌜ InnerOk (now w) (length (now f)) p s next ⌝ }
-    ensures { λ r. ⌜ Moved s (p .rows) (raisedAt o (now (w .entry)) (now (f .entry)) p s next pre post) (now (f .entry)) (now (f .exit)) r ⌝ }
-{
-    let n = p.rows;
-    transfer::prolong(w, f, n, next, p.links, s + 5 * n + next, s + 3 * n);
-    match correct(w, f, o, p, s, pre) {
-        Verdict::Refused(q) => Verdict::Refused(q),
-        Verdict::Passed => smooth(w, f, o, p, s, post),
-    }
-}
-
-// The way up, after which the level's sweeps are counted.
+// The way up of a level, after which its sweeps are counted.
 fn up(
     w: &[u32],
     f: &mut [f64],
     t: &mut [u64; 512],
     o: MultigridOptions,
     depth: u64,
-    p: Place,
+    a: usize,
+    b: usize,
     s: usize,
-    next: usize,
-    pre: u64,
 ) -> Verdict
-    requires { ⌜ UpOk (now w) (length (now f)) p s next depth ⌝ }
-    ensures { λ r. ⌜ Visited s (p .rows) (upAt o (now (w .entry)) (now (f .entry)) (now (t .entry)) p s next depth pre) (now (f .entry)) (now (f .exit)) (now (t .exit)) r ⌝ }
+    requires { ⌜ StepOk (now w) (length (now f)) depth a b s ⌝ }
+    ensures { λ r. ⌜ Visited s (rowsAt (now (w .entry)) a) (upAt o (now (w .entry)) (now (f .entry)) (now (t .entry)) (innerAt (now (w .entry)) a b s) depth) (now (f .entry)) (now (f .exit)) (now (t .exit)) r ⌝ }
 {
+    let g = inner_at(w, a, b, s);
+    let kind = o.smoother;
+    let pre = options::pre_sweeps_at(o, depth);
     let post = options::post_sweeps_at(o, depth);
-    match raise(w, f, o, p, s, next, pre, post) {
+    match visit::up(w, f, g, kind, o.scale_correction, pre, post) {
         Verdict::Refused(q) => Verdict::Refused(q),
         Verdict::Passed => {
             count(t, depth, 2, float::saturating_add(pre, post));
             Verdict::Passed
         }
+    }
+}
+
+// The work at a level, whichever way the cycle goes. One function for all of it, called from several places, so that the compiled
+// recursion keeps nothing of it for the levels that wait for deeper ones.
+fn work(
+    w: &[u32],
+    f: &mut [f64],
+    t: &mut [u64; 512],
+    o: MultigridOptions,
+    way: Way,
+    depth: u64,
+    a: usize,
+    b: usize,
+    s: usize,
+) -> Verdict
+    requires { ⌜ workOk way (now w) (length (now f)) depth a b s ⌝ }
+    ensures { λ r. ⌜ workDone way o (now (w .entry)) (now (f .entry)) (now (f .exit)) (now (t .entry)) (now (t .exit)) depth a b s r ⌝ }
+{
+    match way {
+        Way::Last => end(w, f, t, depth, a, b, s),
+        Way::Down => down(w, f, o, depth, a, b, s),
+        Way::Up => up(w, f, t, o, depth, a, b, s),
     }
 }
 
@@ -242,20 +182,28 @@ pub fn cycle(
     ensures { λ r. ⌜ CycleDone o left (now (w .entry)) (now (f .entry)) (now (f .exit)) (now (t .entry)) (now (t .exit)) depth a b s r ⌝ }
 {
     count(t, depth, 1, 1);
-    let p = level_place(w, a, b);
     if left == 1 {
-        let coupled = store::wide(w[a + 2]);
-        return end(w, f, t, depth, p, s, coupled);
+        return work(w, f, t, o, Way::Last, depth, a, b, s);
     }
-    let deeper = p.positions + p.entries;
-    let scratch = s + 5 * p.rows;
-    let next = store::wide(w[deeper]);
-    let pre = options::pre_sweeps_at(o, depth);
-    match down(w, f, o, p, s, next, pre) {
+    match work(w, f, t, o, Way::Down, depth, a, b, s) {
         Verdict::Refused(q) => Verdict::Refused(q),
-        Verdict::Passed => match cycle(w, f, t, o, left - 1, depth + 1, deeper, p.factor, scratch) {
-            Verdict::Refused(q) => Verdict::Refused(q),
-            Verdict::Passed => up(w, f, t, o, depth, p, s, next, pre),
-        },
+        Verdict::Passed => {
+            let p = level_place(w, a, b);
+            let deeper = p.positions + p.entries;
+            match cycle(
+                w,
+                f,
+                t,
+                o,
+                left - 1,
+                depth + 1,
+                deeper,
+                p.factor,
+                s + 5 * p.rows,
+            ) {
+                Verdict::Refused(q) => Verdict::Refused(q),
+                Verdict::Passed => work(w, f, t, o, Way::Up, depth, a, b, s),
+            }
+        }
     }
 }

@@ -1,42 +1,58 @@
 -- `cycle::up` meets its contract: one law for each way out.
 -- Assumes nothing.
-use Rattle.cycle.proofs.Steps.{up-no, up-yes}
+use native.Mathlib.Omega.{arith}
+use Rattle.cycle.proofs.Steps.{visit-ok, up-no, up-yes}
 use borrow.Author.Needs.{needs}
 use Rattle.cycle.proofs.up.Statement.{statement}
 use Rattle.cycle.proofs.up.Tie as tie
 
-raise-requires : tie.Need-raise-requires
-raise-requires c κs = c .before .before .before .before .pre .inner
+inner-at-requires : tie.Need-inner-at-requires
+inner-at-requires c κs = c .before .before .pre .next
+
+up-requires : tie.Need-up-requires
+up-requires c κs =
+    let at-inner-at = c .before .before .before in
+    let start = at-inner-at .before .before .before in
+    visit-ok (start .pre) (at-inner-at .inner-at .ensures)
+
+count-requires : tie.Need-count-requires
+count-requires c κs =
+    let start = c .before .before .before .before .before .before .before .before .before .before .before .before .before in
+    omega (arith, start .pre .deep)
 
 returns : tie.Need-returns
 returns c =
-    let refusal = c .before in
-    let risen = refusal .before .before .before .before in
-    let sweeps = risen .before .before in
-    let start = sweeps .before .before .before in
-    up-no (start .args .o) (start .args .t .now) (start .args .pre) (start .pre) (sweeps .post-sweeps-at .ensures) (risen .raise .ensures) _
-    (refusal .q .given .1)
+    let at-q = c .before in
+    let at-up = at-q .before .before .before .before in
+    let at-post-sweeps-at = at-up .before .before in
+    let at-pre-sweeps-at = at-post-sweeps-at .before in
+    let at-inner-at = at-pre-sweeps-at .before in
+    let start = at-inner-at .before .before .before in
+    up-no (start .args .o) (start .args .w .now) (start .args .t .now) _ _ _ _ (at-inner-at .inner-at .ensures) (at-pre-sweeps-at .pre-sweeps-at .ensures) (at-post-sweeps-at .post-sweeps-at .ensures) (at-up .up .ensures) _ (at-q .q .given .1)
 
 returns-2 : tie.Need-returns-2
 returns-2 c =
-    let sum = c .before in
-    let told = sum .before .before in
-    let risen = told .before .before .before .before in
-    let sweeps = risen .before .before in
-    let start = sweeps .before .before .before in
-    up-yes (start .args .o) (start .args .t .now) (start .args .pre) (start .pre) (sweeps .post-sweeps-at .ensures) (risen .raise .ensures)
-    (told .enum-told .given .1) (sum .saturating-add .ensures) (c .count .ensures)
+    let at-saturating-add = c .before in
+    let at-enum-told = at-saturating-add .before .before in
+    let at-up = at-enum-told .before .before .before .before in
+    let at-post-sweeps-at = at-up .before .before in
+    let at-pre-sweeps-at = at-post-sweeps-at .before in
+    let at-inner-at = at-pre-sweeps-at .before in
+    let start = at-inner-at .before .before .before in
+    up-yes (start .args .o) (start .args .w .now) (start .args .t .now) _ _ _ _ (at-inner-at .inner-at .ensures) (at-pre-sweeps-at .pre-sweeps-at .ensures) (at-post-sweeps-at .post-sweeps-at .ensures) (at-up .up .ensures) (at-enum-told .enum-told .given .1) (at-saturating-add .saturating-add .ensures) (c .count .ensures)
 
 pub up-spec : {M : Type 1} → statement M
 up-spec =
     tie.close
     (tie.spec
+    inner-at-requires
     (λ c κs. search needs)
-    raise-requires
+    (λ c κs. search needs)
+    up-requires
     (λ c. search needs)
     (λ c. search needs)
     (λ c κs. search needs)
-    (λ c κs. search needs)
+    count-requires
     (λ c. search needs)
     returns
     (λ c. search needs)

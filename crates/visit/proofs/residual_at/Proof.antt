@@ -1,9 +1,9 @@
--- `cycle::residual_at` meets its contract.
+-- `visit::residual_at` meets its contract.
 -- Assumes nothing.
-use Rattle.cycle.proofs.Steps.{at-none, at-some}
+use Rattle.visit.proofs.Laws.{at-none, at-some}
 use borrow.Author.Needs.{needs}
-use Rattle.cycle.proofs.residual_at.Statement.{statement}
-use Rattle.cycle.proofs.residual_at.Tie as tie
+use Rattle.visit.proofs.residual_at.Statement.{statement}
+use Rattle.visit.proofs.residual_at.Tie as tie
 
 returns : tie.Need-returns
 returns c = at-none _ _ (c .if1 .taken)
