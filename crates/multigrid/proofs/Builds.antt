@@ -4,16 +4,15 @@
 use mathlib.Core.Path.{_≡_, refl, sym, ap, _∙_}
 use mathlib.Core.Bool.{false, cond, _&&_}
 use mathlib.Core.List.{List, []}
-use Prim.Native.Nat.{ℕ, _*_, _/_, _≤_}
+use Prim.Native.Nat.{ℕ, _/_, _≤_}
 use native.Mathlib.Omega.{arith}
 use lib.Dec.{leb}
 use lib.ListN.{length}
 use lib.Ieee.{Float}
 use borrow.Author.Tests.{leb-true}
-use Rattle.store.specs.Region.{lay, splice, Wrote}
+use Rattle.store.specs.Region.{lay}
 use Rattle.store.specs.Vector.{filled}
 use Rattle.store.proofs.Each.{both-r}
-use Rattle.store.proofs.Vector.{length-tab}
 use Rattle.options.specs.declared.MultigridOptions.{MultigridOptions}
 use Rattle.options.specs.declared.Handle.{Handle}
 use Rattle.refusal.specs.declared.Refusal.{Refusal}
@@ -30,8 +29,9 @@ use Rattle.build.specs.declared.Built.{Built}
 use Rattle.build.specs.Contract.{handleOf, builtOf, lentOf, BuildDone}
 use Rattle.build.specs.Steps.{inputOf}
 use Rattle.multigrid.specs.New.{statisticsOf, NewDone}
-use Rattle.statistics.specs.Fresh.{freshOf, freshAt, PublishOk}
+use Rattle.statistics.specs.Fresh.{freshOf}
 use Rattle.statistics.proofs.Publishing.{fresh-is}
+use Rattle.publishing.specs.Published.{LevelsFit, publishedOf, Published}
 
 -- ---- the answer
 
@@ -60,43 +60,32 @@ refused-is x (refused q) e = cc
 
 -- ---- the statistics
 
-module _ {w z : List ℕ} {F G : List Float} {x : Input} {r : Built} where
-  -- The levels of a handle can be published in the words of statistics c, once these are zeros.
-  pub made-ok : (size : ℕ) {n : ℕ} {h : Handle} {c : List ℕ} → BuildDone w z F G x n r → n ≡ size / 4 → r ≡ Built.Made h → c ≡ filled size 0
-      → PublishOk z (length c) (h .levels)
-  made-ok size {n} {h} {c} d k e zeros =
-      let l = lentOf w F n in
-      let m = made-is x (buildOf l x) (sym e ∙ d .answer) in
-      let levels : h .levels ≡ length (m .0 .levels) = ap (λ (k : Handle). k .levels) (m .2) in
-      let few = build-levels l x (m .1) .few in
-      let enough = records-enough l x (m .1) in
-      let long : length c ≡ size = ap length zeros ∙ length-tab (λ _. 0) size in
-      record { fits = rw levels (d .fits (m .0) (m .1)); room = omega arith }
+-- What is published of an answer are the statistics of its hierarchy; of a refusal zeros.
+published-is : (n : ℕ) (z : List ℕ) (G : List Float) (x : Input) {built : Built} (out : Outcome Hierarchy) → built ≡ builtOf x out
+    → ((k : Hierarchy) → out ≡ accepted k → viewOf (length (k .levels)) z G 0 ≡ k) → publishedOf n z built ≡ statisticsOf n out
+unfolding statisticsOf publishedOf viewOf
+published-is n z G x (accepted k) e view = rw e
+    (ap (λ (v : List ℕ). lay v (filled n 0)) (fresh-is (length (k .levels)) z G 0 0 ∙ ap (λ (k : Hierarchy). freshOf (k .levels)) (view k refl)))
+published-is n z G x (refused q) e view = rw e refl
 
-  module _ {s t : List ℕ} where
-    -- They are then those of the hierarchy.
-    pub made-done : {n : ℕ} {h : Handle} {c : List ℕ} → BuildDone w z F G x n r → n ≡ length s / 4 → r ≡ Built.Made h
-        → c ≡ filled (length s) 0 → Wrote 0 (4 * h .levels) (freshAt (h .levels) z 0) c t → NewDone w z F G s t x (Built.Made h)
-    unfolding statisticsOf splice viewOf
-    made-done {n} {h} {c} d k e zeros v =
-        let done : BuildDone w z F G x (length s / 4) (Built.Made h) = rw (k, e) at d in
-        let l = lentOf w F (length s / 4) in
-        let m = made-is x (buildOf l x) (done .answer) in
+module _ {w z : List ℕ} {F G : List Float} {x : Input} {built : Built} where
+  -- The levels of a handle can be published in as many words of statistics as the build had records for.
+  pub levels-fit : {size : ℕ} → BuildDone w z F G x (size / 4) built → LevelsFit z size built
+  levels-fit {size} d = record {
+    made = λ h e.
+        let l = lentOf w F (size / 4) in
+        let m = made-is x (buildOf l x) (sym e ∙ d .answer) in
         let levels : h .levels ≡ length (m .0 .levels) = ap (λ (k : Handle). k .levels) (m .2) in
-        let fresh : freshAt (h .levels) z 0 ≡ freshOf (m .0 .levels) =
-        ap (λ (k : ℕ). freshAt k z 0) levels ∙ fresh-is (length (m .0 .levels)) z G 0 0
-        ∙ ap (λ (k : Hierarchy). freshOf (k .levels)) (done .view (m .0) (m .1)) in
-        let laid : t ≡ lay (freshOf (m .0 .levels)) (filled (length s) 0) = rw (fresh, zeros) at (v .is) in
-        record { built = done; statistics = rw (m .1) laid }
+        let few = build-levels l x (m .1) .few in
+        let enough = records-enough l x (m .1) in
+        record { fits = rw levels (d .fits (m .0) (m .1)); room = omega arith };
+  }
 
-    -- A refused build has zeros in their place.
-    pub refused-done : {n : ℕ} {q : Refusal} → BuildDone w z F G x n r → n ≡ length s / 4 → r ≡ Built.Refused q
-        → t ≡ filled (length s) 0 → NewDone w z F G s t x (Built.Refused q)
-    unfolding statisticsOf
-    refused-done {n} {q} d k e zeros =
-        let done : BuildDone w z F G x (length s / 4) (Built.Refused q) = rw (k, e) at d in
-        let none = refused-is x (buildOf (lentOf w F (length s / 4)) x) (done .answer) in
-        record { built = done; statistics = rw none zeros }
+  -- A build and then its statistics.
+  pub with-done : {s t : List ℕ} {r : Built} → BuildDone w z F G x (length s / 4) built → Published z s t built r → NewDone w z F G s t x r
+  with-done {s} {r = r} d p =
+      let done : BuildDone w z F G x (length s / 4) r = rw (p .answer) d in
+      record { built = done; statistics = p .statistics ∙ published-is (length s) z G x (buildOf (lentOf w F (length s / 4)) x) (d .answer) (d .view) }
 
 -- ---- weights that are not given
 

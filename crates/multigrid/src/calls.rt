@@ -25,7 +25,7 @@ pub fn update_values(
 ) -> Updated
     ensures { λ r. ⌜ UpdateCall handle (now (words .entry)) (now (floats .entry)) (now (floats .exit)) (now (statistics .entry)) (now (offsets .entry)) (now (columns .entry)) (now (values .entry)) r ⌝ }
 {
-    if sound::check(handle, words, floats.len(), statistics.len() / 4) {
+    if soundcheck::check(handle, words, floats.len(), statistics.len() / 4) {
         return refresh::update(handle, offsets, columns, values, words, floats);
     }
     Updated::Refused(Refusal::UnsoundStores)
@@ -43,7 +43,7 @@ pub fn solve(
 ) -> Solved
     ensures { λ r. ⌜ SolveCall handle (now (words .entry)) (now (floats .entry)) (now (floats .exit)) (now (statistics .entry)) (now (statistics .exit)) (now (rhs .entry)) (now (x .entry)) (now (x .exit)) options r ⌝ }
 {
-    if sound::check(handle, words, floats.len(), statistics.len() / 4) {
+    if soundcheck::check(handle, words, floats.len(), statistics.len() / 4) {
         return solve::solve(handle, words, floats, statistics, rhs, x, options);
     }
     Solved::Refused(Refusal::UnsoundStores)
@@ -53,7 +53,7 @@ pub fn solve(
 pub fn statistics(handle: Handle, words: &[u32], floats: &[f64], statistics: &[u64]) -> Counted
     ensures { λ r. ⌜ r ≡ countedOf handle (now (words .entry)) (now (floats .entry)) (now (statistics .entry)) ⌝ }
 {
-    if sound::check(handle, words, floats.len(), statistics.len() / 4) {
+    if soundcheck::check(handle, words, floats.len(), statistics.len() / 4) {
         return Counted::Levels(handle.levels);
     }
     Counted::Refused(Refusal::UnsoundStores)

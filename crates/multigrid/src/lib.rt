@@ -28,7 +28,6 @@ fn with_weights(
 ) -> Built
     ensures { λ r. ⌜ NewDone (now (words .entry)) (now (words .exit)) (now (floats .entry)) (now (floats .exit)) (now (statistics .entry)) (now (statistics .exit)) (inputOf rows (now (offsets .entry)) (now (columns .entry)) (now (values .entry)) given (now (weights .entry)) options) r ⌝ }
 {
-    let records = statistics.len() / 4;
     let built = build::build(
         rows,
         offsets,
@@ -37,18 +36,11 @@ fn with_weights(
         given,
         weights,
         options,
-        records,
+        statistics.len() / 4,
         words,
         floats,
     );
-    statistics::zero(statistics);
-    match built {
-        Built::Made(h) => {
-            statistics::publish(words, statistics, h.levels as usize);
-            Built::Made(h)
-        }
-        Built::Refused(q) => Built::Refused(q),
-    }
+    publishing::publish(built, words, statistics)
 }
 
 // The hierarchy of a matrix in compressed rows, paired by its values, in stores that the caller lends, whatever these held.

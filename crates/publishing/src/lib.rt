@@ -1,0 +1,19 @@
+// The statistics of a build's answer: those of its levels where it made a handle, zeros where it refuses.
+ghost use lib.ListN.{length};
+ghost use Rattle.publishing.specs.Published.{LevelsFit, Published};
+use build::Built;
+
+// The answer is passed on as it is.
+pub fn publish(built: Built, words: &[u32], statistics: &mut [u64]) -> Built
+    requires { ⌜ LevelsFit (now words) (length (now statistics)) built ⌝ }
+    ensures { λ r. ⌜ Published (now (words .entry)) (now (statistics .entry)) (now (statistics .exit)) built r ⌝ }
+{
+    statistics::zero(statistics);
+    match built {
+        Built::Made(h) => {
+            statistics::publish(words, statistics, h.levels as usize);
+            Built::Made(h)
+        }
+        Built::Refused(q) => Built::Refused(q),
+    }
+}
