@@ -43,7 +43,7 @@ use Rattle.statistics.specs.Fresh as fresh
 use Rattle.sound.specs.Sound as sound
 use Rattle.solve.specs.Solve as solve
 use Rattle.refresh.specs.declared.Updated.{Updated}
-use Rattle.refresh.specs.Update as update
+use Rattle.renewing.specs.Update as update
 use Rattle.multigrid.specs.New.{NewDone, statisticsOf}
 use Rattle.multigrid.specs.Calls.{SolveCall, UpdateCall}
 use Rattle.multigrid.specs.Trace.{Trace, withValues, Agrees}
