@@ -1,13 +1,14 @@
 -- Pattern first, values second, for update: what an accepted update is.
 -- Assumes nothing.
 use mathlib.Core.Path.{_≡_, refl, sym, ap, _∙_}
+use mathlib.Core.Bool.{true}
 use mathlib.Core.List.{List, [], _∷_}
 use Prim.Native.Nat.{ℕ, _+_}
 use lib.ListN.{length}
 use lib.Ieee.{Float}
 use Rattle.options.specs.declared.MultigridOptions.{MultigridOptions}
 use Rattle.refusal.specs.declared.Refusal.{Refusal}
-use Rattle.refusal.specs.Outcome.{accepted, ask, _>>=_}
+use Rattle.refusal.specs.Outcome.{Outcome, accepted, ask, _>>=_}
 use Rattle.refusal.proofs.Outcome.{ask-yes, then-accepted}
 use Rattle.vector.specs.Dot.{allFinite}
 use Rattle.values.specs.Mirrors.{mirrorsEqual}
@@ -25,6 +26,23 @@ pub record Second (o : MultigridOptions) (level : ℕ) (shapes : List Shape) (va
   pub same : shapesIn levels ≡ shapes
 
 module _ (o : MultigridOptions) where
+  -- A level before others that a refresh makes.
+  second-more : (level : ℕ) (s t : Shape) (rest : List Shape) (values : List Float) {n : Numbers} {deeper levels : List Level}
+      → numbersOf o level s values ≡ accepted n → allFinite (entries (t .pattern)) (coarseValues o s t values) ≡ true
+      → Second o (level + 1) (t ∷ rest) (coarseValues o s t values) deeper → record { shape = s; numbers = n } ∷ deeper ≡ levels
+      → Second o level (s ∷ t ∷ rest) values levels
+  unfolding refreshOf
+  second-more level s t rest values {n} {deeper} {levels} own finite under all =
+      let next = coarseValues o s t values in
+      let after : Numbers → Outcome (List Level) = λ n. _>>=_ (refreshOf o (level + 1) (t ∷ rest) next) (λ ls. accepted (record { shape = s; numbers = n } ∷ ls)) in
+      record {
+        made = then-accepted (numbersOf o level s values) (λ n. ask (allFinite (entries (t .pattern)) next) Refusal.BadCoarseValue (after n)) own
+            ∙ ask-yes (allFinite (entries (t .pattern)) next) Refusal.BadCoarseValue (after n) finite
+            ∙ then-accepted (refreshOf o (level + 1) (t ∷ rest) next) (λ ls. accepted (record { shape = s; numbers = n } ∷ ls)) (under .made)
+            ∙ ap accepted all;
+        same = ap shapesIn (sym all) ∙ ap (λ (r : List Shape). s ∷ r) (under .same);
+      }
+
   -- Levels that are renewed are what a refresh makes: question 11 changes none of them.
   pub renew-second : (level : ℕ) (shapes : List Shape) (values : List Float) {levels : List Level} → renewOf o level shapes values ≡ accepted levels
       → Second o level shapes values levels
@@ -41,22 +59,12 @@ module _ (o : MultigridOptions) where
   renew-second level (s ∷ t ∷ rest) values e =
       let own : Numbers → Level = λ n. record { shape = s; numbers = n } in
       let next = coarseValues o s t values in
-      let finite = allFinite (entries (t .pattern)) next in
       let deep = renewOf o (level + 1) (t ∷ rest) next in
-      let under = refreshOf o (level + 1) (t ∷ rest) next in
       let a = then-split (diagonalsStand level s) _ e in
       let b = then-split (numbersOf o level s values) _ (a .2) in
-      let c = ask-split finite Refusal.BadCoarseValue (_>>=_ deep (λ ls. accepted (own (b .0) ∷ ls))) (b .2) in
+      let c = ask-split (allFinite (entries (t .pattern)) next) Refusal.BadCoarseValue (_>>=_ deep (λ ls. accepted (own (b .0) ∷ ls))) (b .2) in
       let d = then-split deep (λ ls. accepted (own (b .0) ∷ ls)) (c .1) in
-      let deeper = renew-second (level + 1) (t ∷ rest) next (d .1) in
-      record {
-        made = then-accepted (numbersOf o level s values)
-            (λ n. ask finite Refusal.BadCoarseValue (_>>=_ under (λ ls. accepted (own n ∷ ls)))) (b .1)
-            ∙ ask-yes finite Refusal.BadCoarseValue (_>>=_ under (λ ls. accepted (own (b .0) ∷ ls))) (c .0)
-            ∙ then-accepted under (λ ls. accepted (own (b .0) ∷ ls)) (deeper .made)
-            ∙ d .2;
-        same = ap shapesIn (sym (accepted-one (d .2))) ∙ ap (λ (r : List Shape). s ∷ r) (deeper .same);
-      }
+      second-more level s t rest values {n = b .0} {deeper = d .0} (b .1) (c .0) (renew-second (level + 1) (t ∷ rest) next (d .1)) (accepted-one (d .2))
 
 -- What an accepted update is: its shapes stay, and its numbers are what a refresh of these shapes makes of the new values.
 pub record FirstUpdate (o : MultigridOptions) (old : List Shape) (values : List Float) (h : Hierarchy) : Type 0 where

@@ -3,7 +3,8 @@
 use mathlib.Core.Path.{_≡_, refl, sym, ap, _∙_, subst}
 use mathlib.Core.Bool.{Bool, true, false, cond}
 use mathlib.Core.List.{List}
-use Prim.Native.Nat.{ℕ, _+_, _≤_}
+use Prim.Native.Nat.{ℕ, _+_, _-_, _*_, _≤_}
+use native.Mathlib.Omega.{arith}
 use lib.ListN.{length, getD, set}
 use lib.Ieee.{Float}
 use Rattle.float.specs.Float.{zero64}
@@ -18,8 +19,9 @@ use Rattle.matrix.specs.declared.SymmetricMatrix.{SymmetricMatrix}
 use Rattle.matrix.specs.Kernel.{kernelAt, rowSumsOf, KernelOk}
 use Rattle.hierarchy.specs.Refresh.{needsSums}
 use Rattle.layout.specs.declared.Place.{Place}
+use Rattle.layout.specs.Layout.{rowsAt, locate}
 use Rattle.layout.specs.Parts.{kernelIn}
-use Rattle.refresh.specs.Steps.{SumOk, Summed}
+use Rattle.refresh.specs.Steps.{sumsStart, SumOk, sumsAt, Summed}
 
 -- a turn of a loop that copies the list v; d stands for what is past its end
 unfoldable pub loadTurn : {A : Type 0} → A → List A → ℕ → ℕ → List A → List A
@@ -43,24 +45,39 @@ cond-no b x y e = rw e
 cond-yes : {A : Type 0} (b : Bool) (x y : A) → b ≡ true → cond b x y ≡ x
 cond-yes b x y e = rw e
 
--- What the row sums require.
-pub sum-ready : {w : List ℕ} {size : ℕ} {p : Place} {end : ℕ} {k : SymmetricMatrix} → SumOk w size p end → k ≡ kernelIn p
-    → (KernelOk w end k) × (end + k .rows ≤ size)
-sum-ready ok is = rw is (ok .kernel, ok .room)
+module _ {w : List ℕ} {size image : ℕ} (ok : SumOk w size image) {p : Place} (is : p ≡ locate w 0 image) where
+  -- The row sums are a part of the image,
+  pub sums-part : p .rows ≤ 2 * image
+  sums-part = rw is (ok .within)
 
--- Under a norm that needs no row sums zeros are written;
-pub summed-none : {w : List ℕ} {F G : List Float} {norm : MultigridResidualNorm} {p : Place} {end : ℕ}
-    → norm ≡ MultigridResidualNorm.AbsoluteL2
-    → Wrote end (p .rows) (filled (p .rows) zero64) F G → Summed w F G norm p end
-summed-none {w} {F} {G} {norm} {p} {end} e s = record {
-  wrote = subst (λ (v : List Float). Wrote end (p .rows) v F G) (sym (cond-no (needsSums norm) _ _ (ap needsSums e))) s;
-}
+  -- and lie in the store.
+  pub sums-room : 2 * image - p .rows + p .rows ≤ size
+  sums-room = let h = sums-part in let r = ok .room in omega arith
 
--- under the other the row sums.
-pub summed-all : {w : List ℕ} {F G : List Float} {norm : MultigridResidualNorm} {p : Place} {end : ℕ} {k : SymmetricMatrix}
-    → norm ≡ MultigridResidualNorm.NormalizedL1 → k ≡ kernelIn p
-    → Wrote end (k .rows) (rowSumsOf (kernelAt k w F)) F G → Summed w F G norm p end
-summed-all {w} {F} {G} {norm} {p} {end} n e s =
-    let a : Wrote end (p .rows) (rowSumsOf (kernelAt (kernelIn p) w F)) F G =
-    subst (λ (k : SymmetricMatrix). Wrote end (k .rows) (rowSumsOf (kernelAt k w F)) F G) e s in
-    record { wrote = subst (λ (v : List Float). Wrote end (p .rows) v F G) (sym (cond-yes (needsSums norm) _ _ (ap needsSums n))) a }
+  -- What they require of a kernel.
+  pub sum-ready : {k : SymmetricMatrix} → k ≡ kernelIn p → (KernelOk w (2 * image - p .rows) k) × (2 * image - p .rows + k .rows ≤ size)
+  sum-ready {k} e =
+      let room = sums-room in (
+        subst (λ (q : SymmetricMatrix). KernelOk w (2 * image - p .rows) q) (sym e)
+            (subst (λ (q : Place). KernelOk w (2 * image - q .rows) (kernelIn q)) (sym is) (ok .kernel)),
+        rw e room,
+      )
+
+  module _ {F G : List Float} {norm : MultigridResidualNorm} where
+    -- What is written at p is written at the finest level.
+    summed : Wrote (2 * image - p .rows) (p .rows) (sumsAt norm w F p) F G → Summed w F G norm image
+    summed s = record { wrote = subst (λ (q : Place). Wrote (2 * image - q .rows) (q .rows) (sumsAt norm w F q) F G) is s }
+
+    -- Under a norm that needs no row sums zeros are written;
+    pub summed-none : norm ≡ MultigridResidualNorm.AbsoluteL2 → Wrote (2 * image - p .rows) (p .rows) (filled (p .rows) zero64) F G
+        → Summed w F G norm image
+    summed-none n s = summed
+        (subst (λ (v : List Float). Wrote (2 * image - p .rows) (p .rows) v F G) (sym (cond-no (needsSums norm) _ _ (ap needsSums n))) s)
+
+    -- under the other the row sums.
+    pub summed-all : norm ≡ MultigridResidualNorm.NormalizedL1 → {k : SymmetricMatrix} → k ≡ kernelIn p
+        → Wrote (2 * image - p .rows) (k .rows) (rowSumsOf (kernelAt k w F)) F G → Summed w F G norm image
+    summed-all n {k} e s =
+        let a : Wrote (2 * image - p .rows) (p .rows) (rowSumsOf (kernelAt (kernelIn p) w F)) F G =
+        subst (λ (k : SymmetricMatrix). Wrote (2 * image - p .rows) (k .rows) (rowSumsOf (kernelAt k w F)) F G) e s in
+        summed (subst (λ (v : List Float). Wrote (2 * image - p .rows) (p .rows) v F G) (sym (cond-yes (needsSums norm) _ _ (ap needsSums n))) a)

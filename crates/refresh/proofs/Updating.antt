@@ -38,7 +38,7 @@ use Rattle.renewing.proofs.Outcomes.{never, verdict-then, went-on, told-accepte
 use Rattle.renewing.proofs.Renewing.{bare-ok, shapes-some, levels-some, floats-end}
 use Rattle.refresh.specs.declared.Updated.{Updated}
 use Rattle.refresh.specs.Contract.{updatedAt, answerOf, hierarchyOf, imageOf, UpdateDone}
-use Rattle.refresh.specs.Steps.{With, askedOf, AskOk, SumOk, Summed, ShadowOk, shadowOf, ShadowDone, AttemptOk, attemptOf, Attempted, toldOf, UpdateOk}
+use Rattle.refresh.specs.Steps.{With, askedOf, AskOk, sumsStart, SumOk, Summed, ShadowOk, shadowOf, ShadowDone, AttemptOk, attemptOf, Attempted, toldOf, UpdateOk}
 use Rattle.refresh.proofs.Questions.{many-values}
 use Rattle.refresh.proofs.Moving.{shapes-are, image-shift, kept-moved, copied-moved, levels-stay, view-moved}
 
@@ -70,45 +70,34 @@ module _ {levels : ℕ} {w : List ℕ} {size count image : ℕ} (ok : ShadowOk l
       let many = ok .many in
       omega arith
 
-  -- What the place of the finest level requires.
-  pub shadow-place : PlaceOk w 0 image
-  shadow-place = first .place
-
   -- What the levels require.
   pub renew-ready : {now : ℕ} → now ≡ size → RenewOk w now levels 0 0 image
   renew-ready e = subst (λ (n : ℕ). RenewOk w n levels 0 0 image) (sym e) (record { chain = ok .chain; some = ok .some })
 
-  -- Where the row sums start is an index.
-  pub sums-fit : 2 * image ≤ 18446744073709551615
-  sums-fit = let r = ok .room in let f = ok .chain .fits in omega arith
+  -- The levels of the shadow end where its row sums start.
+  ends-far : (imageEnd levels w 0 image ≡ sumsStart w image) × (floatsEnd w 0 image ≤ sumsStart w image)
+  ends-far =
+      let is0 = first .is in
+      let up = floats-to (levels - 1) w (wordsEnd w 0) (floatsEnd w 0 image) in
+      let far = shadow-end levels w image in
+      let im = ok .is in
+      (omega arith, omega arith)
 
-  module _ {p : Place} (is : p ≡ locate w 0 image) where
-    -- The row sums of the finest level are a part of the image.
-    pub sums-part : p .rows ≤ 2 * image
-    sums-part = let im = ok .is in rw is (omega arith)
-
-    -- The levels of the shadow end where its row sums start.
-    ends-far : (imageEnd levels w 0 image ≡ 2 * image - p .rows) × (floatsEnd w 0 image ≤ 2 * image - p .rows)
-    ends-far =
-        let is0 = first .is in
-        let up = floats-to (levels - 1) w (wordsEnd w 0) (floatsEnd w 0 image) in
-        let far = shadow-end levels w image in
-        let im = ok .is in
-        rw is (omega arith, omega arith)
-
-    -- What the row sums require.
-    pub sums-ready : {now : ℕ} → now ≡ size → SumOk w now p (2 * image - p .rows)
-    sums-ready {now} same =
-        let far = ends-far .1 in
-        let e = floats-end w 0 image in
-        let room = ok .room in
-        let inside = sums-part in
-        let kernel : KernelOk w (2 * image - p .rows) (kernelIn (locate w 0 image)) =
-        kernel-ready (bare-ok (record { chain = ok .chain; some = ok .some })) (2 * image - p .rows) (omega arith) in
-        record {
-          kernel = subst (λ (q : Place). KernelOk w (2 * image - p .rows) (kernelIn q)) (sym is) kernel;
-          room = omega arith;
-        }
+  -- What the row sums require.
+  pub sums-ready : {now : ℕ} → now ≡ size → SumOk w now image
+  sums-ready {now} same =
+      let far = ends-far .1 in
+      let e = floats-end w 0 image in
+      let room = ok .room in
+      let fits = ok .chain .fits in
+      let im = ok .is in
+      record {
+        place = first .place;
+        kernel = kernel-ready (bare-ok (record { chain = ok .chain; some = ok .some })) (sumsStart w image) (omega arith);
+        within = omega arith;
+        room = omega arith;
+        fits = omega arith;
+      }
 
 -- The levels of the shadow, renewed from the values that were loaded.
 module _ {levels : ℕ} {w : List ℕ} (F : List Float) {values : List Float} {image : ℕ} (ok : ShadowOk levels w (length F) (length values) image)
@@ -144,22 +133,17 @@ module _ {levels : ℕ} {w : List ℕ} (F : List Float) {values : List Float} {i
       }
 
   -- All levels and the row sums are there.
-  pub shadow-yes : {norm : MultigridResidualNorm} → o .«residual_norm» ≡ norm → {p : Place} → p ≡ locate w 0 image → {H : List Float}
-      → Summed w G H norm p (2 * image - p .rows) → ShadowDone o levels w F H values image v
+  pub shadow-yes : {norm : MultigridResidualNorm} → o .«residual_norm» ≡ norm → {H : List Float} → Summed w G H norm image
+      → ShadowDone o levels w F H values image v
   unfolding viewOf
-  shadow-yes {norm} under {p} is {H} summed =
-      let end = 2 * image - p .rows in
-      let s : Summed w G H (o .«residual_norm») (locate w 0 image) end =
-      subst (λ (n : MultigridResidualNorm). Summed w G H n (locate w 0 image) end) (sym under)
-      (subst (λ (q : Place). Summed w G H norm q end) is summed) in
-      let far = ends-far ok is .0 in
+  shadow-yes {norm} under {H} summed =
+      let s : Summed w G H (o .«residual_norm») image = subst (λ (n : MultigridResidualNorm). Summed w G H n image) (sym under) summed in
+      let far = ends-far ok .0 in
       let size = done .kept .size in
       let load = loaded .size in
       let room = ok .room in
-      let inside = sums-part ok is in
-      let low : image ≤ end = (let im = ok .is in let e : p .rows ≡ rowsAt w 0 = ap (λ (q : Place). q .rows) is in omega arith) in
-      let rows : rowsAt w 0 ≡ p .rows = sym (ap (λ (q : Place). q .rows) is) in
-      let frame : Kept end G H = kept-wrote (s .wrote) (omega arith) in
+      let im = ok .is in
+      let frame : Kept (sumsStart w image) G H = kept-wrote (s .wrote) (omega arith) in
       record {
         answer = renewed-is ∙ sym (verdict-then renewed (withSums o));
         view = λ h e.

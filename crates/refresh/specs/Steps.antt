@@ -2,7 +2,7 @@
 use mathlib.Core.Path.{_≡_}
 use mathlib.Core.Bool.{cond}
 use mathlib.Core.List.{List}
-use Prim.Native.Nat.{ℕ, _+_, _*_, _≤_, _<_}
+use Prim.Native.Nat.{ℕ, _+_, _-_, _*_, _≤_, _<_}
 use lib.ListN.{length}
 use lib.Ieee.{Float}
 use Rattle.float.specs.Float.{zero64}
@@ -21,7 +21,7 @@ use Rattle.hierarchy.specs.Level.{Shape, Hierarchy}
 use Rattle.hierarchy.specs.First.{shapesIn}
 use Rattle.hierarchy.specs.Refresh.{needsSums, withSums}
 use Rattle.layout.specs.declared.Place.{Place}
-use Rattle.layout.specs.Layout.{entriesAt, locate, viewOf}
+use Rattle.layout.specs.Layout.{rowsAt, entriesAt, locate, viewOf}
 use Rattle.layout.specs.Parts.{kernelIn}
 use Rattle.sound.specs.declared.Walk.{Walk}
 use Rattle.sound.specs.Sound.{walkOf}
@@ -55,14 +55,25 @@ pub record AskOk (w : List ℕ) : Type 0 where
 
 -- ---- the row sums
 
--- What the row sums of the level at p require, which are written at `end`.
-pub record SumOk (w : List ℕ) (size : ℕ) (p : Place) (end : ℕ) : Type 0 where
-  pub kernel : KernelOk w end (kernelIn p)
-  pub room : end + p .rows ≤ size
+-- where the row sums of the finest level start in a shadow that starts at `image`: they end it
+abbrev pub sumsStart : List ℕ → ℕ → ℕ
+sumsStart w image = 2 * image - rowsAt w 0
+
+-- What they require.
+pub record SumOk (w : List ℕ) (size image : ℕ) : Type 0 where
+  pub place : PlaceOk w 0 image
+  pub kernel : KernelOk w (sumsStart w image) (kernelIn (locate w 0 image))
+  pub within : rowsAt w 0 ≤ 2 * image
+  pub room : 2 * image ≤ size
+  pub fits : size ≤ 18446744073709551615
+
+-- the row sums of the level at p, if the norm needs them
+abbrev pub sumsAt : MultigridResidualNorm → List ℕ → List Float → Place → List Float
+sumsAt norm w F p = cond (needsSums norm) (rowSumsOf (kernelAt (kernelIn p) w F)) (filled (p .rows) zero64)
 
 -- What they ensure.
-pub record Summed (w : List ℕ) (F G : List Float) (norm : MultigridResidualNorm) (p : Place) (end : ℕ) : Type 0 where
-  pub wrote : Wrote end (p .rows) (cond (needsSums norm) (rowSumsOf (kernelAt (kernelIn p) w F)) (filled (p .rows) zero64)) F G
+pub record Summed (w : List ℕ) (F G : List Float) (norm : MultigridResidualNorm) (image : ℕ) : Type 0 where
+  pub wrote : Wrote (sumsStart w image) (rowsAt w 0) (sumsAt norm w F (locate w 0 image)) F G
 
 -- ---- the shadow
 

@@ -5,9 +5,9 @@ ghost use Prim.Native.Nat.{_+_, _≤_};
 ghost use lib.ListN.{length};
 ghost use Rattle.store.specs.Region.{Wrote};
 ghost use Rattle.hierarchy.specs.Refresh.{needsDic};
+ghost use Rattle.renewing.specs.Steps.{isRefused};
 ghost use Rattle.refresh.specs.Contract.{updatedAt, UpdateDone};
 ghost use Rattle.refresh.specs.Steps.{With, SumOk, Summed, ShadowOk, ShadowDone, AttemptOk, attemptOf, Attempted, toldOf, UpdateOk};
-use layout::Place;
 use options::Handle;
 use options::MultigridResidualNorm;
 use options::MultigridSmoother;
@@ -35,6 +35,16 @@ fn load(f: &mut [f64], from: &[f64], to: usize)
     }
 }
 
+// Whether a question refused.
+fn refused(answer: Verdict) -> bool
+    ensures { λ r. ⌜ r ≡ isRefused answer ⌝ }
+{
+    match answer {
+        Verdict::Passed => false,
+        Verdict::Refused(_) => true,
+    }
+}
+
 // Whether the smoother needs DIC data.
 fn needs_dic(kind: MultigridSmoother) -> bool
     ensures { λ r. ⌜ r ≡ needsDic kind ⌝ }
@@ -46,11 +56,13 @@ fn needs_dic(kind: MultigridSmoother) -> bool
     }
 }
 
-// The row sums of the level at p, at `end`, where the norm needs them; else zeros.
-fn sums(w: &[u32], f: &mut [f64], norm: MultigridResidualNorm, p: Place, end: usize)
-    requires { ⌜ SumOk (now w) (length (now f)) p end ⌝ }
-    ensures { λ _. ⌜ Summed (now (w .entry)) (now (f .entry)) (now (f .exit)) norm p end ⌝ }
+// The row sums of the finest level of the shadow that starts at `image`, where the norm needs them; else zeros. They end the shadow.
+fn sums(w: &[u32], f: &mut [f64], norm: MultigridResidualNorm, image: usize)
+    requires { ⌜ SumOk (now w) (length (now f)) image ⌝ }
+    ensures { λ _. ⌜ Summed (now (w .entry)) (now (f .entry)) (now (f .exit)) norm image ⌝ }
 {
+    let p = sound::place_at(w, 0, image);
+    let end = 2 * image - p.rows;
     match norm {
         MultigridResidualNorm::AbsoluteL2 => store::fill(f, end, p.rows, 0.0),
         MultigridResidualNorm::NormalizedL1 => {
@@ -59,7 +71,7 @@ fn sums(w: &[u32], f: &mut [f64], norm: MultigridResidualNorm, p: Place, end: us
     }
 }
 
-// The new image in the shadow, which starts where the old image ends. The row sums of the finest level end an image.
+// The new image in the shadow, which starts where the old image ends.
 fn shadow(
     w: &[u32],
     f: &mut [f64],
@@ -74,11 +86,10 @@ fn shadow(
 {
     load(f, values, image);
     let answer = renewing::renew(w, f, needs_dic(kind), levels, image);
-    if renewing::refused(answer) {
+    if refused(answer) {
         return answer;
     }
-    let p = sound::place_at(w, 0, image);
-    sums(w, f, norm, p, 2 * image - p.rows);
+    sums(w, f, norm, image);
     answer
 }
 
@@ -97,13 +108,13 @@ fn attempt(
     ensures { λ r. ⌜ With kind norm (λ o. Attempted levels (now (w .entry)) (now (f .entry)) (now (f .exit)) (attemptOf o levels (now (w .entry)) (now (f .entry)) (now (offsets .entry)) (now (columns .entry)) (now (values .entry))) r) ⌝ }
 {
     let asked = asking::asked(w, offsets, columns, values);
-    if renewing::refused(asked) {
+    if refused(asked) {
         return asked;
     }
     // The image and its shadow end where the scratch of a solve starts.
     let image = sound::scratch_start(w, levels) / 2;
     let answer = shadow(w, f, kind, norm, levels, values, image);
-    if renewing::refused(answer) {
+    if refused(answer) {
         return answer;
     }
     store::copy(f, image, image, 0);

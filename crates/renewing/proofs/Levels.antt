@@ -9,11 +9,11 @@ use lib.ListN.{length}
 use lib.Ieee.{Float}
 use Rattle.float.specs.Float.{zero64}
 use Rattle.store.specs.Region.{part, Wrote}
-use Rattle.store.specs.Vector.{filled}
+use Rattle.store.specs.Vector.{filled, each}
 use Rattle.store.proofs.Region.{wrote-at, wrote-off, kept-wrote, kept-on}
 use Rattle.refusal.specs.declared.Verdict.{Verdict}
 use Rattle.refusal.specs.Outcome.{Outcome, accepted, refused, verdictOf, _>>=_}
-use Rattle.refusal.proofs.Outcome.{then-accepted, then-refused, passes, refuses}
+use Rattle.refusal.proofs.Outcome.{then-accepted, then-refused}
 use Rattle.vector.specs.Dot.{allFinite}
 use Rattle.matrix.specs.declared.SymmetricMatrix.{SymmetricMatrix}
 use Rattle.matrix.specs.Kernel.{kernelAt, KernelOk}
@@ -26,9 +26,10 @@ use Rattle.cholesky.specs.Contract.{csrAt, coupledAt, TerminalOk, Factored}
 use Rattle.galerkin.specs.Values.{sumsOf, symmetrizeOf, FacesOk}
 use Rattle.layout.specs.declared.Place.{Place}
 use Rattle.layout.specs.Parts.{kernelIn, entriesIn, terminalIn}
-use Rattle.renewing.specs.Update.{diagonalsStand}
-use Rattle.renewing.specs.Steps.{isRefused, LevelOk, bareAt, CoefficientsOk, coefficientsAsked, smootherAt, SmootherOk, factorOf, FactorOk, FactorDone, CoarseOk, coarseAt, CoarseDone}
-use Rattle.renewing.proofs.Outcomes.{never, went-on, stopped}
+use Rattle.renewing.specs.Update.{diagonalStands, diagonalsStand}
+use Rattle.renewing.specs.Steps.{LevelOk, bareAt, CoefficientsOk, coefficientsAsked, smootherAt, SmootherOk, factorOf, FactorOk, FactorDone, CoarseOk, coarseAt, CoarseDone}
+use Rattle.renewing.proofs.Outcomes.{never}
+use Rattle.renewing.proofs.Standing.{stand-all, stand-not}
 
 -- ---- what the calls require
 
@@ -113,30 +114,30 @@ module _ {w : List ℕ} {size : ℕ} {p : Place} (ok : CoefficientsOk w size p) 
   pub update-ready : {k : SymmetricMatrix} {e : Entries} → k ≡ kernelIn p → e ≡ entriesIn p → UpdateOk w size k e
   update-ready kernel image = rw (kernel, image) (ok .update)
 
-module _ (w : List ℕ) (F : List Float) (p : Place) (level : ℕ) {stand : Verdict} (asked : stand ≡ verdictOf (diagonalsStand level (bareAt w p))) where
+module _ (w : List ℕ) (F : List Float) (p : Place) (level : ℕ) {all : Bool} (asked : all ≡ each (diagonalStands (bareAt w p)) (p .rows)) where
   -- what 12 and 13 ask
   abbrev values : Outcome Coefficients
   values = updateAt level (kernelIn p) (entriesIn p) w F
 
   -- Question 11 refuses.
-  pub coefficients-no : isRefused stand ≡ true → Updated w (kernelIn p) (coefficientsAsked level w F p) F F stand
-  coefficients-no e =
-      let told = stopped stand e in
-      let refusal : coefficientsAsked level w F p ≡ refused (told .0) =
-      then-refused (diagonalsStand level (bareAt w p)) (λ _. values) (refuses (diagonalsStand level (bareAt w p)) asked (told .1)) in
+  pub coefficients-no : all ≡ false → {v : Verdict} → v ≡ verdictOf (diagonalsStand level (bareAt w p))
+      → Updated w (kernelIn p) (coefficientsAsked level w F p) F F v
+  coefficients-no told e =
+      let no = stand-not level w p asked told in
+      let refusal : coefficientsAsked level w F p ≡ refused (no .0) = then-refused (diagonalsStand level (bareAt w p)) (λ _. values) (no .1) in
       record {
-        verdict = told .1 ∙ sym (ap verdictOf refusal);
+        verdict = e ∙ ap verdictOf (no .1) ∙ sym (ap verdictOf refusal);
         holds = λ k e. never refusal e;
         within = record { below = refl; above = refl; size = refl };
       }
 
   -- It passes.
-  pub coefficients-made : isRefused stand ≡ false → {k : SymmetricMatrix} {e : Entries} → k ≡ kernelIn p → e ≡ entriesIn p → {G : List Float} {v : Verdict}
+  pub coefficients-made : all ≡ true → {k : SymmetricMatrix} {e : Entries} → k ≡ kernelIn p → e ≡ entriesIn p → {G : List Float} {v : Verdict}
       → Updated w k (updateAt level k e w F) F G v → Updated w (kernelIn p) (coefficientsAsked level w F p) F G v
   coefficients-made told {k} {e} kernel image {G} {v} made =
       let own : Updated w (kernelIn p) values F G v = rw (kernel, image) at made in
       let through : coefficientsAsked level w F p ≡ values =
-      then-accepted (diagonalsStand level (bareAt w p)) (λ _. values) (passes (diagonalsStand level (bareAt w p)) asked (went-on stand told)) in
+      then-accepted (diagonalsStand level (bareAt w p)) (λ _. values) (stand-all level w p asked told) in
       subst (λ (x : Outcome Coefficients). Updated w (kernelIn p) x F G v) (sym through) own
 
 -- ---- the DIC data

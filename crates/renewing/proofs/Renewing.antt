@@ -457,76 +457,83 @@ module _ {w : List ℕ} (F : List Float) {left level a b : ℕ} (ok : RenewOk w 
 
 -- ---- the loop
 
--- The loop over the levels stands at `level`, whose words start at a and whose floats start at b: the levels from there on make all of
--- them, whatever they are.
-pub record Underway (dic : Bool) (levels image level a b : ℕ) (w : List ℕ) (F G : List Float) : Type 0 where
+-- The loop over the levels stands at `level`, whose words start at a and which stands at p: the levels from there on make all of them,
+-- whatever they are.
+pub record Underway (dic : Bool) (levels image level a : ℕ) (p : Place) (w : List ℕ) (F G : List Float) : Type 0 where
+  pub b : ℕ
+  pub is : p ≡ locate w a b
   pub ok : RenewOk w (length G) (levels - level) level a b
   pub size : length G ≡ length F
   pub whole : Under dic (λ o. (E : List Float) (r : Verdict) → Renewed o (levels - level) level w G E a b r → Renewed o levels 0 w F E 0 image r)
 
 -- Before the first level all are left.
-pub underway-start : {dic : Bool} {levels image : ℕ} {w : List ℕ} (F : List Float)
-    → RenewOk w (length F) levels 0 0 image → Underway dic levels image 0 0 image w F F
-underway-start {dic} {levels} {image} {w} F ok = record {
+pub underway-start : {dic : Bool} {levels image : ℕ} {w : List ℕ} (F : List Float) {p : Place} → RenewOk w (length F) levels 0 0 image
+    → p ≡ locate w 0 image → Underway dic levels image 0 0 p w F F
+underway-start {dic} {levels} {image} {w} F ok is = record {
+  b = image;
+  is = is;
   ok = rw (sub-zero levels) ok;
   size = refl;
   whole = λ o _ E r d. rw (sub-zero levels) at d;
 }
 
-module _ {dic : Bool} {levels image level a b : ℕ} {w : List ℕ} {F G : List Float} (u : Underway dic levels image level a b w F G) where
+module _ {dic : Bool} {levels image level a : ℕ} {p : Place} {w : List ℕ} {F G : List Float} (u : Underway dic levels image level a p w F G) where
   -- The level is one of them.
   pub underway-few : level + 1 ≤ 128
   underway-few = let f = u .ok .chain .few in let s = u .ok .some in omega arith
+
+  -- Its header stands in the words.
+  pub underway-header : a + 3 ≤ length w
+  underway-header = renew-header (u .ok)
 
   module _ (h : level + 1 < levels) where
     -- At least two are left.
     two-left : 2 ≤ levels - level
     two-left = omega arith
 
-    -- What the place of the level requires,
-    pub underway-place : PlaceOk w a b
-    underway-place = renew-place (u .ok)
-
-    -- and where its words end.
+    -- Where its words end.
     pub underway-words : wordsEnd w a ≤ length w
-    underway-words = inner-words (u .ok) refl two-left
+    underway-words = inner-words (u .ok) (u .is) two-left
 
-    module _ {p : Place} (is : p ≡ locate w a b) {next : ℕ} (at : next ≡ wordsEnd w a) where
+    module _ {next : ℕ} (at : next ≡ wordsEnd w a) where
       -- What the place of the next level requires.
       pub underway-next : PlaceOk w next (p .factor)
-      underway-next = next-place (u .ok) is two-left at
+      underway-next = next-place (u .ok) (u .is) two-left at
 
       module _ {t : Place} (there : t ≡ locate w next (p .factor)) where
         -- What the turn requires.
         pub underway-turn : TurnOk w (length G) p t
-        underway-turn = turn-ready (u .ok) is two-left at there
+        underway-turn = turn-ready (u .ok) (u .is) two-left at there
 
         module _ {H : List Float} {v : Verdict} (done : Under dic (λ o. Turned w G H o p t level v)) where
           -- A question of the turn refuses.
           pub underway-no : isRefused v ≡ true → Under dic (λ o. Renewed o levels 0 w F H 0 image v)
-          underway-no stop o by = u .whole o by H v (renewed-no G (u .ok) o is two-left at there (done o by) stop)
+          underway-no stop o by = u .whole o by H v (renewed-no G (u .ok) o (u .is) two-left at there (done o by) stop)
 
           -- One level fewer is left.
-          pub underway-on : isRefused v ≡ false → length H ≡ length G → Underway dic levels image (level + 1) next (p .factor) w F H
+          pub underway-on : isRefused v ≡ false → length H ≡ length G → Underway dic levels image (level + 1) next t w F H
           underway-on told size =
               let one : levels - level - 1 ≡ levels - (level + 1) = omega arith in
               record {
+                b = p .factor;
+                is = there;
                 ok = subst (λ (n : ℕ). RenewOk w (length H) n (level + 1) next (p .factor)) one
-                    (subst (λ (n : ℕ). RenewOk w n (levels - level - 1) (level + 1) next (p .factor)) (sym size) (next-ready (u .ok) is two-left at));
+                    (subst (λ (n : ℕ). RenewOk w n (levels - level - 1) (level + 1) next (p .factor)) (sym size) (next-ready (u .ok) (u .is) two-left at));
                 size = size ∙ u .size;
-                whole = λ o by E r deep. u .whole o by E r (renewed-on G (u .ok) o is two-left at there (done o by) (went-on v told)
+                whole = λ o by E r deep. u .whole o by E r (renewed-on G (u .ok) o (u .is) two-left at there (done o by) (went-on v told)
                     (subst (λ (n : ℕ). Renewed o n (level + 1) w H E next (p .factor) r) (sym one) deep));
               }
 
-  module _ (h : levels ≤ level + 1) where
+  module _ (h : levels ≤ level + 1) {coupled : ℕ} (told : coupled ≡ idx w (a + 2)) where
     -- One is left.
     one-left : levels - level ≡ 1
     one-left = let s = u .ok .some in omega arith
 
     -- What it requires.
-    pub underway-last : RenewOk w (length G) 1 level a b
-    underway-last = subst (λ (n : ℕ). RenewOk w (length G) n level a b) one-left (u .ok)
+    pub underway-last : LevelReady w (length G) p true coupled
+    underway-last = last-ready (u .ok) (u .is) one-left told
 
     -- With it all are there.
-    pub underway-end : {E : List Float} {r : Verdict} → Under dic (λ o. Renewed o 1 level w G E a b r) → Under dic (λ o. Renewed o levels 0 w F E 0 image r)
-    underway-end {E} {r} done o by = u .whole o by E r (subst (λ (n : ℕ). Renewed o n level w G E a b r) (sym one-left) (done o by))
+    pub underway-end : {E : List Float} {r : Verdict} → Under dic (λ o. LevelDone w G E o p true coupled level r)
+        → Under dic (λ o. Renewed o levels 0 w F E 0 image r)
+    underway-end {E} {r} done o by = u .whole o by E r (renewed-last G (u .ok) o (u .is) one-left told (done o by))

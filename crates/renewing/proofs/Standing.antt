@@ -13,11 +13,12 @@ use Rattle.store.proofs.Each.{each-at}
 use Rattle.store.proofs.Region.{getD-part}
 use Rattle.refusal.specs.declared.Refusal.{Refusal}
 use Rattle.refusal.specs.declared.Verdict.{Verdict}
-use Rattle.refusal.specs.Outcome.{Outcome, passed, ask, askRows, askFrom, verdictOf, _>>=_}
+use Rattle.refusal.specs.Outcome.{Outcome, accepted, refused, passed, ask, askRows, askFrom, verdictOf, _>>=_}
 use Rattle.refusal.proofs.Outcome.{ask-yes, ask-no, each-step, each-stop, each-done}
 use Rattle.layout.specs.declared.Place.{Place}
 use Rattle.renewing.specs.Update.{diagonalStands, diagonalsStand}
 use Rattle.renewing.specs.Steps.{bareAt, RowOk, RowsOk}
+use Rattle.renewing.proofs.Outcomes.{never}
 
 -- The test of a row as the code has it.
 pub stands-is : {w : List ℕ} {p : Place} {row entry first end column : ℕ} → RowOk w p row → entry ≡ idx w (p .diagonals + row)
@@ -116,8 +117,39 @@ rows-pass level w p all (suc fuel) row h =
     (ask-yes (diagonalStands (bareAt w p) row) (Refusal.MissingDiagonal level row) passed stands)
     ∙ rows-pass level w p all fuel (row + 1) (omega arith)
 
--- Where all stand, question 11 passes.
+-- Where all stand, question 11 passes,
 pub stand-all : (level : ℕ) (w : List ℕ) (p : Place) {all : Bool} → all ≡ each (diagonalStands (bareAt w p)) (p .rows) → all ≡ true
-    → Verdict.Passed ≡ verdictOf (diagonalsStand level (bareAt w p))
+    → diagonalsStand level (bareAt w p) ≡ passed
 unfolding diagonalsStand
-stand-all level w p e told = sym (ap verdictOf (rows-pass level w p (sym e ∙ told) (p .rows - 0) 0 (omega arith)))
+stand-all level w p e told = rows-pass level w p (sym e ∙ told) (p .rows - 0) 0 (omega arith)
+
+-- Rows that pass stand, after others that do.
+pass-rows : (level : ℕ) (w : List ℕ) (p : Place) (fuel row : ℕ) → each (diagonalStands (bareAt w p)) row ≡ true
+    → askRows fuel row (asks level w p) passed ≡ passed → each (diagonalStands (bareAt w p)) (row + fuel) ≡ true
+unfolding askRows each
+pass-rows level w p zero row before e = let none : row + 0 ≡ row = omega arith in rw none before
+pass-rows level w p (suc fuel) row before e = go (diagonalStands (bareAt w p) row) refl (pass-rows level w p fuel (row + 1))
+  where
+    go : (b : Bool) → diagonalStands (bareAt w p) row ≡ b
+        → (each (diagonalStands (bareAt w p)) (row + 1) ≡ true → askRows fuel (row + 1) (asks level w p) passed ≡ passed
+        → each (diagonalStands (bareAt w p)) (row + 1 + fuel) ≡ true)
+        → each (diagonalStands (bareAt w p)) (row + suc fuel) ≡ true
+    go true stands deeper =
+        let far : row + 1 + fuel ≡ row + suc fuel = omega arith in
+        ap (each (diagonalStands (bareAt w p))) (sym far) ∙ deeper (rw (add-one row, before, stands) refl) (rw stands at e)
+    go false fails deeper = never (ap (λ (b : Bool). _>>=_ (ask b (Refusal.MissingDiagonal level row) passed) (λ _. askRows fuel (row + 1) (asks level w p) passed)) fails) e
+
+-- and where one does not, it refuses.
+pub stand-not : (level : ℕ) (w : List ℕ) (p : Place) {all : Bool} → all ≡ each (diagonalStands (bareAt w p)) (p .rows) → all ≡ false
+    → (q : Refusal) × (diagonalsStand level (bareAt w p) ≡ refused q)
+unfolding diagonalsStand each
+stand-not level w p {all} e told = go (askRows (p .rows - 0) 0 (asks level w p) passed) refl
+  where
+    go : (o : Outcome Unit) → askRows (p .rows - 0) 0 (asks level w p) passed ≡ o → (q : Refusal) × (diagonalsStand level (bareAt w p) ≡ refused q)
+    go (refused q) is = (q, is)
+    go (accepted u) is =
+        let whole : 0 + (p .rows - 0) ≡ p .rows = omega arith in
+        let yes : each (diagonalStands (bareAt w p)) (p .rows) ≡ true =
+        ap (each (diagonalStands (bareAt w p))) (sym whole) ∙ pass-rows level w p (p .rows - 0) 0 refl is in
+        let none : _≡_ {A = ℕ} 0 1 = cc in
+        absurd (omega arith)

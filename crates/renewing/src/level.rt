@@ -52,14 +52,11 @@ fn all_stand(w: &[u32], p: Place) -> bool
     ok
 }
 
-// Question 11. Only stores that no build wrote can fail it: then the first row that does is looked for.
-fn diagonals_stand(w: &[u32], p: Place, level: u64) -> Verdict
+// Question 11, row by row, which finds the first row that fails.
+fn rows_stand(w: &[u32], p: Place, level: u64) -> Verdict
     requires { ⌜ RowsOk (now w) p ⌝ }
     ensures { λ r. ⌜ r ≡ verdictOf (diagonalsStand level (bareAt (now (w .entry)) p)) ⌝ }
 {
-    if all_stand(w, p) {
-        return Verdict::Passed;
-    }
     let rows = p.rows;
     let mut row = 0;
     while row < rows {
@@ -85,18 +82,15 @@ pub fn refused(answer: Verdict) -> bool
     }
 }
 
-// The coefficients of the level, from its values: 11, then 12 and 13.
+// The coefficients of the level, from its values: 12 and 13, once 11 has passed. Only stores that no build wrote can fail 11.
 fn coefficients(w: &[u32], f: &mut [f64], p: Place, level: u64) -> Verdict
     requires { ⌜ CoefficientsOk (now w) (length (now f)) p ⌝ }
     ensures { λ r. ⌜ Updated (now (w .entry)) (kernelIn p) (coefficientsAsked level (now (w .entry)) (now (f .entry)) p) (now (f .entry)) (now (f .exit)) r ⌝ }
 {
-    let stand = diagonals_stand(w, p, level);
-    if refused(stand) {
-        return stand;
+    if all_stand(w, p) {
+        return values::update(w, f, layout::kernel_in(p), layout::entries_in(p), level);
     }
-    let kernel = layout::kernel_in(p);
-    let image = layout::entries_in(p);
-    values::update(w, f, kernel, image, level)
+    rows_stand(w, p, level)
 }
 
 // The DIC data of a level that is not the last, with questions 16 and 17; zeros where the smoother needs none.
@@ -105,12 +99,10 @@ fn smoother_data(w: &[u32], f: &mut [f64], dic: bool, p: Place, level: u64) -> V
     ensures { λ r. ⌜ Settled (p .dic) (p .rows) (smootherAt dic level (now (w .entry)) (now (f .entry)) p) (now (f .entry)) (now (f .exit)) r ⌝ }
 {
     if dic {
-        let kernel = layout::kernel_in(p);
-        dic::update_dic_diagonal(w, f, kernel, p.dic, level)
-    } else {
-        store::fill(f, p.dic, p.rows, 0.0);
-        Verdict::Passed
+        return dic::update_dic_diagonal(w, f, layout::kernel_in(p), p.dic, level);
     }
+    store::fill(f, p.dic, p.rows, 0.0);
+    Verdict::Passed
 }
 
 // The terminal solve of so many coupled rows.

@@ -2,7 +2,7 @@
 ghost use lib.ListN.{length};
 ghost use Rattle.renewing.specs.Steps.{Under, TurnOk, Turned, RenewOk, Renewed};
 use layout::Place;
-pub use level::refused;
+use level::refused;
 use refusal::Refusal;
 use refusal::Verdict;
 
@@ -23,34 +23,25 @@ fn turn(w: &[u32], f: &mut [f64], dic: bool, p: Place, t: Place, level: u64) -> 
     Verdict::Refused(Refusal::BadCoarseValue)
 }
 
-// The last level, whose words start at a and whose floats start at b: its words tell its coupled rows.
-fn last(w: &[u32], f: &mut [f64], dic: bool, level: u64, a: usize, b: usize) -> Verdict
-    requires { ⌜ RenewOk (now w) (length (now f)) 1 level a b ⌝ }
-    ensures { λ r. ⌜ Under dic (λ o. Renewed o 1 level (now (w .entry)) (now (f .entry)) (now (f .exit)) a b r) ⌝ }
-{
-    let p = sound::place_at(w, a, b);
-    let coupled = store::wide(w[a + 2]);
-    level::renew_level(w, f, dic, p, true, coupled, level)
-}
-
-// So many levels, from the values of the finest, which stand at `image`; `dic` tells whether the smoother needs DIC data.
+// So many levels, from the values of the finest, which stand at `image`; `dic` tells whether the smoother needs DIC data. The words of
+// the last level tell its coupled rows.
 pub fn renew(w: &[u32], f: &mut [f64], dic: bool, levels: u64, image: usize) -> Verdict
     requires { ⌜ RenewOk (now w) (length (now f)) levels 0 0 image ⌝ }
     ensures { λ r. ⌜ Under dic (λ o. Renewed o levels 0 (now (w .entry)) (now (f .entry)) (now (f .exit)) 0 image r) ⌝ }
 {
     let mut level = 0;
     let mut a = 0;
-    let mut b = image;
+    let mut p = sound::place_at(w, 0, image);
     while level + 1 < levels {
-        let p = sound::place_at(w, a, b);
         a = layout::words_end(w, a);
-        b = p.factor;
-        let t = sound::place_at(w, a, b);
+        let t = sound::place_at(w, a, p.factor);
         let answer = turn(w, f, dic, p, t, level);
         if refused(answer) {
             return answer;
         }
+        p = t;
         level += 1;
     }
-    last(w, f, dic, level, a, b)
+    let coupled = store::wide(w[a + 2]);
+    level::renew_level(w, f, dic, p, true, coupled, level)
 }

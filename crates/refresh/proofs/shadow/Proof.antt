@@ -1,8 +1,7 @@
 -- `refresh::shadow` meets its contract: the values, the levels, and the row sums.
 -- Assumes nothing.
 use mathlib.Core.Path.{sym, _∙_}
-use Rattle.refresh.proofs.Updating.{load-ready, shadow-place, renew-ready, sums-fit, sums-part, sums-ready, shadow-no, shadow-yes}
-use native.Mathlib.Omega.{arith}
+use Rattle.refresh.proofs.Updating.{load-ready, renew-ready, sums-ready, shadow-no, shadow-yes}
 use borrow.Author.Needs.{needs}
 use Rattle.refresh.proofs.shadow.Statement.{statement}
 use Rattle.refresh.proofs.shadow.Tie as tie
@@ -19,24 +18,14 @@ returns c o by under =
     shadow-no (start .args .f .now) (start .pre) (c .before .before .before .before .before .before .before .before .before .load .ensures) o by (c .before .before .before .before .before .needs-dic .ensures) (c .before .before .before .before .renew .ensures)
     (sym (c .before .refused .ensures) ∙ c .if1 .taken)
 
-place-at-requires : tie.Need-place-at-requires
-place-at-requires c κs = shadow-place (c .before .before .before .before .before .before .before .before .before .before .before .before .before .before .pre)
-
-mul-sums : tie.Need-mul-sums
-mul-sums c = omega (arith, sums-fit (c .before .before .before .before .before .before .before .before .before .before .before .before .before .before .before .before .pre))
-
-sub-sums : tie.Need-sub-sums
-sub-sums c = sums-part (c .before .before .before .before .before .before .before .before .before .before .before .before .before .before .before .before .before .pre) (c .before .before .place-at .ensures)
-
 sums-requires : tie.Need-sums-requires
-sums-requires c κs =
-    sums-ready (c .before .before .before .before .before .before .before .before .before .before .before .before .before .before .before .before .before .pre) (c .before .before .place-at .ensures) (c .before .before .before .before .before .before .before .renew .kept .1 .0 ∙ c .before .before .before .before .before .before .before .before .before .before .before .before .load .ensures .size)
+sums-requires c κs = sums-ready (c .before .before .before .before .before .before .before .before .before .before .before .before .before .before .before .pre) (c .before .before .before .before .before .renew .kept .1 .0 ∙ c .before .before .before .before .before .before .before .before .before .before .load .ensures .size)
 
 returns-2 : tie.Need-returns-2
 returns-2 c o by under =
-    let start = c .before .before .before .before .before .before .before .before .before .before .before .before .before .before .before .before .before .before .before .before in
-    shadow-yes (start .args .f .now) (start .pre) (c .before .before .before .before .before .before .before .before .before .before .before .before .before .before .before .load .ensures) o by (c .before .before .before .before .before .before .before .before .before .before .before .needs-dic .ensures) (c .before .before .before .before .before .before .before .before .before .before .renew .ensures)
-    under (c .before .before .before .before .before .place-at .ensures) (c .before .before .sums .ensures)
+    let start = c .before .before .before .before .before .before .before .before .before .before .before .before .before .before .before .before .before .before in
+    shadow-yes (start .args .f .now) (start .pre) (c .before .before .before .before .before .before .before .before .before .before .before .before .before .load .ensures) o by (c .before .before .before .before .before .before .before .before .before .needs-dic .ensures) (c .before .before .before .before .before .before .before .before .renew .ensures)
+    under (c .before .before .sums .ensures)
 
 pub shadow-spec : {M : Type 1} → statement M
 shadow-spec =
@@ -48,9 +37,6 @@ shadow-spec =
     (λ c κs. search needs)
     (λ c. search needs)
     returns
-    place-at-requires
-    mul-sums
-    sub-sums
     sums-requires
     (λ c. search needs)
     returns-2)

@@ -2,59 +2,66 @@
 -- Assumes nothing.
 use mathlib.Core.Path.{sym, _∙_}
 use Prim.Native.Nat.{_-_}
-use Rattle.renewing.proofs.Renewing.{Underway, underway-start, underway-few, underway-place, underway-words, underway-next, underway-turn, underway-no, underway-on, underway-last, underway-end}
+use Rattle.renewing.proofs.Renewing.{renew-place, Underway, underway-start, underway-few, underway-header, underway-words, underway-next, underway-turn, underway-no, underway-on, underway-last, underway-end}
 use native.Mathlib.Omega.{arith}
 use borrow.Author.Needs.{needs}
 use Rattle.renewing.proofs.renew.Statement.{statement}
 use Rattle.renewing.proofs.renew.Tie as tie
 
 abbrev Inv-loop : tie.InvT-loop
-Inv-loop w f₀ dic levels image level₀ a₀ b₀ f level a b = Underway dic levels image level a b w f₀ f
+Inv-loop w f₀ dic levels image level₀ a₀ p₀ f level a p = Underway dic levels image level a p w f₀ f
 
 abbrev μ-loop : tie.MeasureT-loop
-μ-loop w f₀ dic levels image level₀ a₀ b₀ f level a b = levels - level
+μ-loop w f₀ dic levels image level₀ a₀ p₀ f level a p = levels - level
+
+place-at-requires : tie.Need-place-at-requires Inv-loop μ-loop
+place-at-requires c κs = renew-place (c .before .before .pre)
 
 loop-holds : tie.Need-loop-holds Inv-loop μ-loop
-loop-holds c = underway-start _ (c .before .before .pre)
+loop-holds c = underway-start _ (c .before .before .before .pre) (c .place-at .ensures)
 
 add-loop : tie.Need-add-loop Inv-loop μ-loop
 add-loop c = omega (arith, underway-few (c .loop .inv))
 
-place-at-requires : tie.Need-place-at-requires Inv-loop μ-loop
-place-at-requires c κs = underway-place (c .before .loop .inv) (c .loop-test .taken)
-
 words-end-requires : tie.Need-words-end-requires Inv-loop μ-loop
-words-end-requires c κs = underway-words (c .before .before .loop .inv) (c .before .loop-test .taken)
+words-end-requires c κs = underway-words (c .before .loop .inv) (c .loop-test .taken)
 
 place-at-requires-2 : tie.Need-place-at-requires-2 Inv-loop μ-loop
-place-at-requires-2 c κs =
-    underway-next (c .before .before .before .loop .inv) (c .before .before .loop-test .taken) (c .before .place-at .ensures) (c .words-end .ensures)
+place-at-requires-2 c κs = underway-next (c .before .before .loop .inv) (c .before .loop-test .taken) (c .words-end .ensures)
 
 turn-requires : tie.Need-turn-requires Inv-loop μ-loop
 turn-requires c κs =
-    underway-turn (c .before .before .before .before .before .loop .inv) (c .before .before .before .before .loop-test .taken) (c .before .before .before .place-at .ensures) (c .before .before .words-end .ensures)
-    (c .before .place-at2 .ensures)
+    underway-turn (c .before .before .before .before .loop .inv) (c .before .before .before .loop-test .taken) (c .before .before .words-end .ensures) (c .before .place-at2 .ensures)
 
 returns : tie.Need-returns Inv-loop μ-loop
 returns c =
     let gone = c .before .before .before .before in
-    underway-no (gone .before .before .before .before .before .before .loop .inv) (gone .before .before .before .before .before .loop-test .taken) (gone .before .before .before .before .place-at .ensures) (gone .before .before .before .words-end .ensures)
-    (gone .before .before .place-at2 .ensures) (gone .turn .ensures) (sym (c .before .refused .ensures) ∙ c .if1 .taken)
+    underway-no (gone .before .before .before .before .before .loop .inv) (gone .before .before .before .before .loop-test .taken) (gone .before .before .before .words-end .ensures) (gone .before .before .place-at2 .ensures)
+    (gone .turn .ensures) (sym (c .before .refused .ensures) ∙ c .if1 .taken)
 
 add-level : tie.Need-add-level Inv-loop μ-loop
-add-level c = omega (arith, underway-few (c .before .before .before .before .before .before .before .before .before .before .loop .inv))
+add-level c = omega (arith, underway-few (c .before .before .before .before .before .before .before .before .before .loop .inv))
 
 loop-again : tie.Need-loop-again Inv-loop μ-loop
 loop-again c =
     let gone = c .before .before .before .before in
-    underway-on (gone .before .before .before .before .before .before .loop .inv) (gone .before .before .before .before .before .loop-test .taken) (gone .before .before .before .before .place-at .ensures) (gone .before .before .before .words-end .ensures)
-    (gone .before .before .place-at2 .ensures) (gone .turn .ensures) (sym (c .before .refused .ensures) ∙ c .if1 .left) (gone .turn .kept .1 .0)
+    underway-on (gone .before .before .before .before .before .loop .inv) (gone .before .before .before .before .loop-test .taken) (gone .before .before .before .words-end .ensures) (gone .before .before .place-at2 .ensures)
+    (gone .turn .ensures) (sym (c .before .refused .ensures) ∙ c .if1 .left) (gone .turn .kept .1 .0)
 
-last-requires : tie.Need-last-requires Inv-loop μ-loop
-last-requires c κs = underway-last (c .before .before .loop .inv) (c .before .loop-test .left)
+add-wide : tie.Need-add-wide Inv-loop μ-loop
+add-wide c = omega (arith, underway-header (c .before .loop .inv))
+
+mul-wide : tie.Need-mul-wide Inv-loop μ-loop
+mul-wide c = omega (arith, underway-header (c .before .loop .inv))
+
+shared-slice-read-wide : tie.Need-shared-slice-read-wide Inv-loop μ-loop
+shared-slice-read-wide c = omega (arith, underway-header (c .before .before .loop .inv))
+
+renew-level-requires : tie.Need-renew-level-requires Inv-loop μ-loop
+renew-level-requires c κs = underway-last (c .before .before .before .before .loop .inv) (c .before .before .before .loop-test .left) (c .before .wide .ensures)
 
 returns-2 : tie.Need-returns-2 Inv-loop μ-loop
-returns-2 c = underway-end (c .before .before .before .before .before .loop .inv) (c .before .before .before .before .loop-test .left) (c .before .before .last .ensures)
+returns-2 c = underway-end (c .before .before .before .before .before .before .before .loop .inv) (c .before .before .before .before .before .before .loop-test .left) (c .before .before .before .before .wide .ensures) (c .before .before .renew-level .ensures)
 
 pub renew-spec : {M : Type 1} → statement M
 renew-spec =
@@ -62,9 +69,9 @@ renew-spec =
     (tie.spec
     Inv-loop
     μ-loop
+    place-at-requires
     loop-holds
     add-loop
-    place-at-requires
     words-end-requires
     place-at-requires-2
     turn-requires
@@ -74,6 +81,10 @@ renew-spec =
     add-level
     (λ c. omega arith)
     loop-again
-    last-requires
+    add-wide
+    mul-wide
+    shared-slice-read-wide
+    (λ c κs. search needs)
+    renew-level-requires
     (λ c. search needs)
     returns-2)

@@ -8,16 +8,16 @@ use Rattle.renewing.proofs.level.smoother_data.Tie as tie
 update-dic-diagonal-requires : tie.Need-update-dic-diagonal-requires
 update-dic-diagonal-requires c κs =
     let start = c .before .before .before .before .before in
-    dic-requires (start .args .p) (c .before .kernel-in .ensures) (start .pre)
-
-fill-requires : tie.Need-fill-requires
-fill-requires c κs = c .before .before .before .before .pre .fits
+    dic-requires (start .args .p) (c .kernel-in .ensures) (start .pre)
 
 returns : tie.Need-returns
 returns c =
     let start = c .before .before .before .before .before .before .before .before in
-    smoother-made (start .args .p) (c .before .before .before .before .kernel-in .ensures) (start .args .w .now) (start .args .dic) (start .args .level)
+    smoother-made (start .args .p) (c .before .before .before .kernel-in .ensures) (start .args .w .now) (start .args .dic) (start .args .level)
     (c .before .before .before .before .before .if1 .taken) (c .before .before .update-dic-diagonal .ensures)
+
+fill-requires : tie.Need-fill-requires
+fill-requires c κs = c .before .before .before .before .pre .fits
 
 returns-2 : tie.Need-returns-2
 returns-2 c =
@@ -30,8 +30,8 @@ smoother-data-spec =
     (tie.spec
     (λ c κs. search needs)
     update-dic-diagonal-requires
-    fill-requires
     (λ c. search needs)
     returns
+    fill-requires
     (λ c. search needs)
     returns-2)
