@@ -19,9 +19,9 @@ use Rattle.matrix.specs.declared.SymmetricMatrix.{SymmetricMatrix}
 use Rattle.matrix.specs.Kernel.{kernelAt, rowSumsOf, KernelOk}
 use Rattle.hierarchy.specs.Refresh.{needsSums}
 use Rattle.layout.specs.declared.Place.{Place}
-use Rattle.layout.specs.Layout.{rowsAt, locate}
+use Rattle.layout.specs.Layout.{locate}
 use Rattle.layout.specs.Parts.{kernelIn}
-use Rattle.refresh.specs.Steps.{sumsStart, SumOk, sumsAt, Summed}
+use Rattle.refresh.specs.Steps.{SumOk, sumsAt, Summed}
 
 -- a turn of a loop that copies the list v; d stands for what is past its end
 unfoldable pub loadTurn : {A : Type 0} → A → List A → ℕ → ℕ → List A → List A

@@ -8,7 +8,7 @@ use native.Mathlib.Omega.{arith}
 use lib.ListN.{length}
 use lib.Ieee.{Float}
 use Rattle.float.specs.Float.{zero64}
-use Rattle.store.specs.Region.{part, Wrote, Kept, CopyOk}
+use Rattle.store.specs.Region.{part, Wrote, Kept}
 use Rattle.store.specs.Vector.{filled}
 use Rattle.store.proofs.Region.{wrote-at, kept-wrote, kept-on, kept-less, kept-self}
 use Rattle.options.specs.declared.Handle.{Handle}
@@ -20,18 +20,17 @@ use Rattle.refusal.specs.declared.Verdict.{Verdict}
 use Rattle.refusal.specs.Outcome.{Outcome, accepted, refused, passed, ask, verdictOf, _>>=_}
 use Rattle.refusal.proofs.Outcome.{then-accepted, then-refused, passes}
 use Rattle.values.specs.Mirrors.{mirrorsEqual}
-use Rattle.matrix.specs.Kernel.{kernelAt, rowSumsOf, KernelOk}
+use Rattle.matrix.specs.Kernel.{kernelAt, rowSumsOf}
 use Rattle.hierarchy.specs.Level.{Shape, Level, Hierarchy}
 use Rattle.hierarchy.specs.Refresh.{needsDic, needsSums, withSums}
 use Rattle.hierarchy.proofs.Accepted.{ask-split, then-split, accepted-one}
-use Rattle.layout.specs.declared.Place.{Place}
 use Rattle.layout.specs.Layout.{rowsAt, entriesAt, locate, levelAt, wordsEnd, floatsEnd, levelsAt, imageEnd, viewOf}
 use Rattle.layout.specs.Parts.{kernelIn}
 use Rattle.layout.proofs.Views.{floats-to}
 use Rattle.sound.specs.Sound.{shapeIn, scratchStart}
-use Rattle.sound.specs.Contract.{PlaceOk, LevelsOk}
+use Rattle.sound.specs.Contract.{LevelsOk}
 use Rattle.renewing.specs.Update.{samePattern, renewOf, updateOf}
-use Rattle.renewing.specs.Steps.{Chain, Under, isRefused, shapesAt, RenewOk, Renewed}
+use Rattle.renewing.specs.Steps.{Under, isRefused, shapesAt, RenewOk, Renewed}
 use Rattle.renewing.proofs.Chains.{Opened, opened}
 use Rattle.renewing.proofs.Levels.{kernel-ready}
 use Rattle.renewing.proofs.Outcomes.{never, verdict-then, went-on, told-accepted, told-refused}
@@ -197,11 +196,8 @@ module _ {levels : ℕ} {w : List ℕ} {size : ℕ} (ok : AttemptOk levels w siz
     image-is = omega arith
 
     -- There is room for the image and its shadow.
-    pub copy-room : {now : ℕ} → now ≡ size → CopyOk now (start / 2) (start / 2) 0
-    copy-room e =
-        let is = image-is in
-        let room = ok .room in
-        record { source = omega arith; target = omega arith; clear = omega arith }
+    pub copy-room : {now : ℕ} → now ≡ size → 2 * (start / 2) ≤ now
+    copy-room e = let is = image-is in let room = ok .room in omega arith
 
     module _ (offsets columns : List ℕ) (values : List Float) {v : Verdict} (told : v ≡ verdictOf (askedOf (shapeIn w 0) offsets columns values))
         (pass : isRefused v ≡ false) where

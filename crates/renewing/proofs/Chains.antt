@@ -6,7 +6,7 @@ use mathlib.Core.List.{List}
 use Prim.Native.Nat.{ℕ, zero, suc, _+_, _-_, _≤_}
 use native.Mathlib.Numerals.{sub-one}
 use native.Mathlib.Omega.{arith}
-use Rattle.layout.specs.Layout.{lastAt, locate, wordsEnd, floatsEnd, imageEnd}
+use Rattle.layout.specs.Layout.{lastAt, wordsEnd, floatsEnd, imageEnd}
 use Rattle.layout.proofs.Views.{floats-to}
 use Rattle.sound.specs.Sound.{headSound}
 use Rattle.sound.specs.Contract.{PlaceOk}

@@ -12,7 +12,7 @@ use Rattle.store.specs.Region.{part, Wrote}
 use Rattle.store.specs.Vector.{filled, each}
 use Rattle.store.proofs.Region.{wrote-at, wrote-off, kept-wrote, kept-on}
 use Rattle.refusal.specs.declared.Verdict.{Verdict}
-use Rattle.refusal.specs.Outcome.{Outcome, accepted, refused, verdictOf, _>>=_}
+use Rattle.refusal.specs.Outcome.{Outcome, accepted, refused, verdictOf}
 use Rattle.refusal.proofs.Outcome.{then-accepted, then-refused}
 use Rattle.vector.specs.Dot.{allFinite}
 use Rattle.matrix.specs.declared.SymmetricMatrix.{SymmetricMatrix}

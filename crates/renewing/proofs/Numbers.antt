@@ -1,6 +1,6 @@
 -- The numbers of one level: 11, 12 and 13, then 15, or 16 and 17.
 -- Assumes nothing.
-use mathlib.Core.Path.{_≡_, refl, sym, ap, _∙_, subst}
+use mathlib.Core.Path.{_≡_, refl, sym, ap, _∙_}
 use mathlib.Core.Bool.{Bool, true, false, cond}
 use mathlib.Core.List.{List, []}
 use Prim.Native.Nat.{ℕ, _+_}
@@ -10,7 +10,7 @@ use lib.Ieee.{Float}
 use Rattle.float.specs.Float.{zero64}
 use Rattle.store.specs.Region.{idx, part, Kept}
 use Rattle.store.specs.Vector.{filled}
-use Rattle.store.proofs.Region.{length-part, wrote-at, kept-part, kept-wrote, kept-on, kept-less, kept-self}
+use Rattle.store.proofs.Region.{length-part, wrote-at, kept-part, kept-wrote, kept-on, kept-less}
 use Rattle.options.specs.declared.MultigridOptions.{MultigridOptions}
 use Rattle.refusal.specs.declared.Verdict.{Verdict}
 use Rattle.refusal.specs.Outcome.{Outcome, accepted, refused, verdictOf, _>>=_}
@@ -22,14 +22,14 @@ use Rattle.dic.specs.Dic.{settled, Settled}
 use Rattle.packed.specs.Triangle.{tri}
 use Rattle.cholesky.specs.Factor.{choleskyOf}
 use Rattle.hierarchy.specs.Level.{Shape, Numbers, kernelOf, csrOf}
-use Rattle.hierarchy.specs.Refresh.{needsDic, coefficientsOf, smootherOf, innerNumbers, lastNumbers, numbersOf}
+use Rattle.hierarchy.specs.Refresh.{needsDic, coefficientsOf, smootherOf, innerNumbers, lastNumbers}
 use Rattle.hierarchy.proofs.Accepted.{then-split, accepted-one}
 use Rattle.layout.specs.declared.Place.{Place}
 use Rattle.layout.specs.Layout.{shapeAt, numbersAt}
 use Rattle.layout.specs.Parts.{kernelIn, entriesIn}
 use Rattle.renewing.specs.Update.{diagonalStands, diagonalsStand}
 use Rattle.renewing.specs.Steps.{isRefused, LevelOk, LevelReady, bareAt, coefficientsAsked, smootherUnder, smootherAt, factorOf, FactorDone, levelRenewed, LevelDone}
-use Rattle.renewing.proofs.Outcomes.{never, verdict-then, then-then, went-on, told-accepted, told-refused}
+use Rattle.renewing.proofs.Outcomes.{never, verdict-then, then-then, told-accepted, told-refused}
 
 -- ---- outcomes
 

@@ -9,8 +9,8 @@ use native.Mathlib.Numerals.{sub-one}
 use native.Mathlib.Omega.{arith}
 use lib.ListN.{length}
 use lib.Ieee.{Float}
-use Rattle.store.specs.Region.{idx, part, Kept}
-use Rattle.store.proofs.Region.{getD-part, length-part, kept-part, kept-on, kept-less, kept-self}
+use Rattle.store.specs.Region.{idx, part}
+use Rattle.store.proofs.Region.{getD-part, length-part, kept-on, kept-less, kept-self}
 use Rattle.options.specs.declared.MultigridOptions.{MultigridOptions}
 use Rattle.refusal.specs.declared.Refusal.{Refusal}
 use Rattle.refusal.specs.declared.Verdict.{Verdict}

