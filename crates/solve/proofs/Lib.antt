@@ -1,4 +1,3 @@
-pub mod Copying
 pub mod Placing
 pub mod Moving
 pub mod Advancing

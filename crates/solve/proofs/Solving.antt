@@ -21,8 +21,9 @@ use Rattle.options.specs.declared.solver.LinearSolverOptions.{LinearSolverOptio
 use Rattle.options.specs.declared.solver.LinearSolverStatus.{LinearSolverStatus}
 use Rattle.options.specs.declared.solver.LinearSolveReport.{LinearSolveReport}
 use Rattle.refusal.specs.declared.Refusal.{Refusal}
-use Rattle.refusal.specs.Outcome.{Outcome, accepted, refused, ask, _>>=_}
-use Rattle.refusal.proofs.Outcome.{ask-yes, ask-no}
+use Rattle.refusal.specs.declared.Verdict.{Verdict}
+use Rattle.refusal.specs.Outcome.{Outcome, accepted, refused, ask, verdictOf, _>>=_}
+use Rattle.refusal.proofs.Outcome.{ask-yes, ask-no, refuses}
 use Rattle.vector.specs.declared.Product.{Product}
 use Rattle.vector.specs.Dot.{allFinite}
 use Rattle.matrix.specs.Kernel.{Kernel, kernelAt, applyOf}
@@ -35,11 +36,12 @@ use Rattle.layout.specs.Layout.{rowsAt, entriesAt, viewOf}
 use Rattle.sound.specs.declared.Walk.{Walk}
 use Rattle.sound.specs.Sound.{walkOf, isSound, handleSound, scratchStart, scratchEnd, cycleStart, soundOf}
 use Rattle.sound.proofs.Question.{handle-few}
+use Rattle.copies.specs.Copies.{EnterOk, Entered, LeaveOk, Taken}
 use Rattle.solve.specs.declared.Regions.{Regions}
 use Rattle.solve.specs.declared.Solved.{Solved}
 use Rattle.solve.specs.Solve.{System, State, Solution, measured, residualOf, measuredOf, factorOf, reportOf, runOf, iterateOf, lengthsOk, inputOk, solveOf}
 use Rattle.solve.specs.Contract.{systemAt, solvedAt, countersOf, answerOf, solutionOf, statisticsOf, SolveDone}
-use Rattle.solve.specs.Steps.{regionsAt, Opened, Ready, VectorsOk, Renewed, productAt, stateAt, Ran, iterateAt, attemptOf, attemptAt, begunAt, BeginOk}
+use Rattle.solve.specs.Steps.{regionsAt, Opened, Ready, VectorsOk, Renewed, productAt, stateAt, Ran, iterateAt, askedOf, attemptOf, attemptAt, begunAt, BeginOk}
 use Rattle.solve.proofs.Placing.{vectors, rows-is, system-kept, sums-is, kernel-is, kernel-rows}
 use Rattle.solve.proofs.Iterations.{ran-accepted, ran-refused}
 
@@ -189,43 +191,33 @@ module _ {h : Handle} {w : List ℕ} {size words m n : ℕ} (b : BeginOk h w siz
     room = let room = o .room in omega arith;
   }
 
+  -- The counters of the levels are among those there are.
+  pub counts-ok : 4 * h .levels ≤ 512
+  counts-ok = let deep = b .opened .deep in omega arith
+
   module _ {g : Regions} (e : g ≡ regionsAt h w) {other : ℕ} (same : other ≡ size) where
     -- What the solve on copies requires.
     pub ready-ok : Ready h w other g
     ready-ok = rw same (record { opened = b .opened; regions = e })
 
-    -- There is room for the right-hand side and the start,
-    pub rhs-ok : g .rhs + m ≤ other
-    rhs-ok =
+    -- What the copies require.
+    pub enter-ok : EnterOk other words (4 * h .levels) m n (g .rhs) (g .solution)
+    enter-ok =
         let l = vectors ready-ok in
         let rows = rows-is ready-ok in
         let given = b .given in
-        let is = b .opened .rows in
-        omega arith
-
-    pub start-ok : g .solution + n ≤ other
-    start-ok =
-        let l = vectors ready-ok in
-        let rows = rows-is ready-ok in
         let start = b .start in
         let is = b .opened .rows in
-        omega arith
+        record { given = omega arith; room = omega arith; few = counts-ok; counted = b .records }
 
-  -- and for the counters.
-  pub counts-ok : 4 * h .levels ≤ 512
-  counts-ok = let deep = b .opened .deep in omega arith
+    pub leave-ok : LeaveOk other words (4 * h .levels) n (g .solution)
+    leave-ok = let ok = enter-ok in record { room = ok .room; few = counts-ok; counted = ok .counted }
 
 module _ {h : Handle} {w : List ℕ} (F : List Float) (T : List ℕ) (rhs x : List Float) (s : LinearSolverOptions)
     (b : BeginOk h w (length F) (length T) (length rhs) (length x)) {g : Regions} (e : g ≡ regionsAt h w)
-    {E D : List Float} (first : Wrote (g .rhs) (length rhs) rhs F E) (second : Wrote (g .solution) (length x) x E D)
-    {t t' : List ℕ} (zeros : t ≡ replicate 512 0) (counted : Wrote 0 (4 * h .levels) (part 0 (4 * h .levels) T) t t') where
+    {D : List Float} {t t' : List ℕ} (zeros : t ≡ replicate 512 0) (n : Entered F D T t t' (4 * h .levels) rhs x (g .rhs) (g .solution)) where
   abbrev ready : Ready h w (length F) g
   ready = record { opened = b .opened; regions = e }
-
-  copied : Kept (g .rhs) F D
-  copied =
-      let l = vectors ready in
-      kept-on (kept-wrote first (omega arith)) (kept-wrote second (omega arith))
 
   -- The solve on copies is that of the caller's vectors.
   attempt-same : attemptAt h w D t' g s ≡ begunAt h w F T rhs x s
@@ -236,15 +228,12 @@ module _ {h : Handle} {w : List ℕ} (F : List Float) (T : List ℕ) (rhs x : Li
       let is = b .opened .rows in
       let given = b .given in
       let start = b .start in
-      let size = first .size in
       let long : length rhs ≡ g .rows = omega arith in
       let wide : length x ≡ g .rows = omega arith in
-      let one : Wrote (g .rhs) (g .rows) rhs F E = rw long at first in
-      let two : Wrote (g .solution) (g .rows) x E D = rw wide at second in
-      let system : systemAt h w D ≡ systemAt h w F = system-kept ready copied (omega arith) (omega arith) in
-      let right : part (g .rhs) (g .rows) D ≡ rhs = wrote-off two _ _ (omega arith) ∙ wrote-at one (omega arith) in
-      let left : part (g .solution) (g .rows) D ≡ x = wrote-at two (omega arith) in
-      let counters : t' ≡ countersOf (h .levels) T = counted .is ∙ ap (lay (part 0 (4 * h .levels) T)) (zeros ∙ zeros-are 512) in
+      let system : systemAt h w D ≡ systemAt h w F = system-kept ready (n .floats) (omega arith) (omega arith) in
+      let right : part (g .rhs) (g .rows) D ≡ rhs = ap (λ (k : ℕ). part (g .rhs) k D) (sym long) ∙ n .given in
+      let left : part (g .solution) (g .rows) D ≡ x = ap (λ (k : ℕ). part (g .solution) k D) (sym wide) ∙ n .solution in
+      let counters : t' ≡ countersOf (h .levels) T = n .counts .is ∙ ap (lay (part 0 (4 * h .levels) T)) (zeros ∙ zeros-are 512) in
       ap (λ (y : System). attemptOf y s (part (g .rhs) (g .rows) D) (part (g .solution) (g .rows) D) t') system
       ∙ ap (λ (r : List Float). attemptOf (systemAt h w F) s r (part (g .solution) (g .rows) D) t') right
       ∙ ap (λ (v : List Float). attemptOf (systemAt h w F) s rhs v t') left
@@ -255,14 +244,13 @@ module _ {h : Handle} {w : List ℕ} (F : List Float) (T : List ℕ) (rhs x : Li
     below =
         let l = vectors ready in
         let at : g .rhs ≡ scratchStart (h .levels) w = ap (λ (g : Regions). g .rhs) e in
-        kept-less (kept-on copied (kept-less (d .floats) (omega arith))) (omega arith)
+        kept-less (kept-on (n .floats) (kept-less (d .floats) (omega arith))) (omega arith)
 
     -- Accepted, solution and statistics are copied out.
-    pub begin-yes : {report : LinearSolveReport} → r ≡ Solved.Report report → {z : List Float} → z ≡ part (g .solution) (length x) H
-        → {U : List ℕ} → Wrote 0 (4 * h .levels) (part 0 (4 * h .levels) u) T U
+    pub begin-yes : {report : LinearSolveReport} → r ≡ Solved.Report report → {z : List Float} {U : List ℕ} → Taken H x z u T U (g .solution) (4 * h .levels)
         → SolveDone h w F H T U x z (begunAt h w F T rhs x s) (Solved.Report report)
     unfolding splice
-    begin-yes told {z} out {U} wrote =
+    begin-yes told {z} {U} out =
         let answer = sym told ∙ d .answer in
         let a = report-is (attemptAt h w D t' g s) answer in
         let is : begunAt h w F T rhs x s ≡ accepted (a .0) = sym attempt-same ∙ a .1 in
@@ -272,8 +260,8 @@ module _ {h : Handle} {w : List ℕ} (F : List Float) (T : List ℕ) (rhs x : Li
         let wide : length x ≡ g .rows = omega arith in
         record {
           answer = answer ∙ ap answerOf attempt-same;
-          solution = out ∙ ap (λ (n : ℕ). part (g .solution) n H) wide ∙ d .solved (a .0) (a .1) ∙ sym (ap (solutionOf x) is);
-          statistics = wrote .is ∙ ap (λ (c : List ℕ). lay (part 0 (4 * h .levels) c) T) (d .counted (a .0) (a .1)) ∙ sym (ap (statisticsOf (h .levels) T) is);
+          solution = out .solution ∙ ap (λ (n : ℕ). part (g .solution) n H) wide ∙ d .solved (a .0) (a .1) ∙ sym (ap (solutionOf x) is);
+          statistics = out .statistics .is ∙ ap (λ (c : List ℕ). lay (part 0 (4 * h .levels) c) T) (d .counted (a .0) (a .1)) ∙ sym (ap (statisticsOf (h .levels) T) is);
           floats = below;
         }
 
@@ -327,12 +315,58 @@ opened-of h w size records e =
       leb-true (h .levels) records (t .1),
     )
 
+-- Two questions before a result: what refuses it refuses the whole,
+asked-no : {A : Type 0} {q : Refusal} (a b : Bool) (y : List Float) (out : Outcome A)
+    → ask a Refusal.WrongLength (ask b Refusal.BadInput (accepted y)) ≡ refused q → ask a Refusal.WrongLength (ask b Refusal.BadInput out) ≡ refused q
+asked-no true true y out e = let none : _≡_ {A = ℕ} 0 1 = cc in absurd (omega arith)
+asked-no true false y out e = cc
+asked-no false b y out e = cc
+
+-- and where it is accepted, both hold.
+both-asked : {v : List Float} (a b : Bool) (y : List Float) → ask a Refusal.WrongLength (ask b Refusal.BadInput (accepted y)) ≡ accepted v
+    → (a ≡ true) × (b ≡ true)
+both-asked true true y e = (refl, refl)
+both-asked true false y e = let none : _≡_ {A = ℕ} 0 1 = cc in absurd (omega arith)
+both-asked false b y e = let none : _≡_ {A = ℕ} 0 1 = cc in absurd (omega arith)
+
+asked-yes : {A : Type 0} {v : List Float} (a b : Bool) (y : List Float) (out : Outcome A)
+    → ask a Refusal.WrongLength (ask b Refusal.BadInput (accepted y)) ≡ accepted v → ask a Refusal.WrongLength (ask b Refusal.BadInput out) ≡ out
+asked-yes a b y out e = let t = both-asked a b y e in ask-yes _ _ _ (t .0) ∙ ask-yes _ _ _ (t .1)
+
+-- What passed was accepted.
+accepts-it : {A : Type 0} {v : Verdict} (out : Outcome A) → v ≡ verdictOf out → v ≡ Verdict.Passed → (a : A) × (out ≡ accepted a)
+accepts-it (accepted a) e told = (a, refl)
+accepts-it (refused q) e told = let none : _≡_ {A = ℕ} 0 1 = cc in absurd (omega arith)
+
+module _ (n : ℕ) (s : LinearSolverOptions) (rhs x : List Float) where
+  -- Question 20 of the right-hand side,
+  pub ask-rhs : (length rhs ≡ n → ⊥) → Verdict.Refused Refusal.WrongLength ≡ verdictOf (askedOf n s rhs x)
+  ask-rhs other = rw (ne-eqb (length rhs) n other)
+
+  module _ (long : length rhs ≡ n) where
+    -- and of the solution.
+    pub ask-x : (length x ≡ n → ⊥) → Verdict.Refused Refusal.WrongLength ≡ verdictOf (askedOf n s rhs x)
+    ask-x other = rw (eq-eqb (length rhs) n long, ne-eqb (length x) n other)
+
+    module _ (wide : length x ≡ n) {b : Bool} (is : b ≡ inputOk s rhs x) where
+      -- Question 21.
+      pub ask-bad : b ≡ false → Verdict.Refused Refusal.BadInput ≡ verdictOf (askedOf n s rhs x)
+      ask-bad fails = rw (eq-eqb (length rhs) n long, eq-eqb (length x) n wide, ← is, fails)
+
+      -- Both pass.
+      pub ask-good : b ≡ true → Verdict.Passed ≡ verdictOf (askedOf n s rhs x)
+      ask-good holds = rw (eq-eqb (length rhs) n long, eq-eqb (length x) n wide, ← is, holds)
+
 -- What the solve on copies requires.
-pub begin-ok : {h : Handle} {w : List ℕ} {size words m n : ℕ} → soundOf h w size (words / 4) ≡ true → m ≡ h .rows → n ≡ h .rows
-    → BeginOk h w size words m n
-begin-ok {h} {w} {size} {words} e long wide =
+pub begin-ok : {h : Handle} {w : List ℕ} {size words : ℕ} (s : LinearSolverOptions) (rhs x : List Float) {r : Verdict} → soundOf h w size (words / 4) ≡ true
+    → r ≡ verdictOf (askedOf (h .rows) s rhs x) → r ≡ Verdict.Passed → BeginOk h w size words (length rhs) (length x)
+begin-ok {h} {w} {size} {words} s rhs x e a told =
     let o = opened-of h w size (words / 4) e in
     let records = o .1 in
+    let yes = accepts-it (askedOf (h .rows) s rhs x) a told .1 in
+    let fits = both-asked (lengthsOk (h .rows) rhs x) (inputOk s rhs x) x yes .0 in
+    let long = eqb-true (length rhs) (h .rows) (both-l (eqb (length rhs) (h .rows)) (eqb (length x) (h .rows)) fits) in
+    let wide = eqb-true (length x) (h .rows) (both-r (eqb (length rhs) (h .rows)) (eqb (length x) (h .rows)) fits) in
     record { opened = o .0; records = omega arith; given = long; start = wide }
 
 module _ (h : Handle) (w : List ℕ) (F : List Float) (T : List ℕ) (rhs x : List Float) (s : LinearSolverOptions)
@@ -353,43 +387,27 @@ module _ (h : Handle) (w : List ℕ) (F : List Float) (T : List ℕ) (rhs x : Li
     floats = kept-self;
   }
 
-  -- Question 20 of the right-hand side,
-  pub solve-rhs : (length rhs ≡ h .rows → ⊥) → SolveDone h w F F T T x x (solvedAt h w F T rhs x s) (Solved.Refused Refusal.WrongLength)
-  unfolding solveOf
-  solve-rhs other =
-      let n = systemAt h w F .kernel .rows in
-      let wrong : eqb (length rhs) n ≡ false = ne-eqb (length rhs) n (λ e. other (e ∙ rows-are)) in
-      nothing (ask-no _ _ _ (ap (λ (t : Bool). t && eqb (length x) n) wrong))
+  module _ {r : Verdict} (a : r ≡ verdictOf (askedOf (h .rows) s rhs x)) where
+    -- The questions of the definition are those of the handle's rows.
+    asked-as : askedOf (systemAt h w F .kernel .rows) s rhs x ≡ askedOf (h .rows) s rhs x
+    asked-as = ap (λ (k : ℕ). askedOf k s rhs x) rows-are
 
-  module _ (long : length rhs ≡ h .rows) where
-    -- and of the solution.
-    pub solve-x : (length x ≡ h .rows → ⊥) → SolveDone h w F F T T x x (solvedAt h w F T rhs x s) (Solved.Refused Refusal.WrongLength)
+    -- Questions 20 and 21 refuse.
+    pub solve-no : {q : Refusal} → r ≡ Verdict.Refused q → SolveDone h w F F T T x x (solvedAt h w F T rhs x s) (Solved.Refused q)
     unfolding solveOf
-    solve-x other =
-        let n = systemAt h w F .kernel .rows in
-        let right : eqb (length rhs) n ≡ true = eq-eqb (length rhs) n (long ∙ sym rows-are) in
-        let wrong : eqb (length x) n ≡ false = ne-eqb (length x) n (λ e. other (e ∙ rows-are)) in
-        nothing (ask-no _ _ _ (ap (λ (t : Bool). t && eqb (length x) n) right ∙ wrong))
+    solve-no {q} told =
+        let no = asked-as ∙ refuses (askedOf (h .rows) s rhs x) a told in
+        nothing (asked-no (lengthsOk (systemAt h w F .kernel .rows) rhs x) (inputOk s rhs x) x (begunAt h w F T rhs x s) no)
 
-    module _ (wide : length x ≡ h .rows) where
-      lengths-fit : lengthsOk (systemAt h w F .kernel .rows) rhs x ≡ true
-      lengths-fit =
-          let n = systemAt h w F .kernel .rows in
-          ap (λ (t : Bool). t && eqb (length x) n) (eq-eqb (length rhs) n (long ∙ sym rows-are)) ∙ eq-eqb (length x) n (wide ∙ sym rows-are)
-
-      -- Question 21.
-      pub solve-input : {b : Bool} → b ≡ inputOk s rhs x → b ≡ false
-          → SolveDone h w F F T T x x (solvedAt h w F T rhs x s) (Solved.Refused Refusal.BadInput)
-      unfolding solveOf
-      solve-input is fails = nothing (ask-yes _ _ _ lengths-fit ∙ ask-no _ _ _ (sym is ∙ fails))
-
-      -- The solve of an input that passed.
-      pub solve-on : {b : Bool} → b ≡ inputOk s rhs x → b ≡ true → {G : List Float} {U : List ℕ} {z : List Float} {r : Solved}
-          → SolveDone h w F G T U x z (begunAt h w F T rhs x s) r → SolveDone h w F G T U x z (solvedAt h w F T rhs x s) r
-      unfolding solveOf
-      solve-on is holds {G} {U} {z} {r} d =
-          let same : solvedAt h w F T rhs x s ≡ begunAt h w F T rhs x s = ask-yes _ _ _ lengths-fit ∙ ask-yes _ _ _ (sym is ∙ holds) in
-          rw same d
+    -- The solve of an input that passed.
+    pub solve-on : r ≡ Verdict.Passed → {G : List Float} {U : List ℕ} {z : List Float} {v : Solved}
+        → SolveDone h w F G T U x z (begunAt h w F T rhs x s) v → SolveDone h w F G T U x z (solvedAt h w F T rhs x s) v
+    unfolding solveOf
+    solve-on told {G} {U} {z} {v} d =
+        let yes = asked-as ∙ accepts-it (askedOf (h .rows) s rhs x) a told .1 in
+        let same : solvedAt h w F T rhs x s ≡ begunAt h w F T rhs x s =
+        asked-yes (lengthsOk (systemAt h w F .kernel .rows) rhs x) (inputOk s rhs x) x (begunAt h w F T rhs x s) yes in
+        rw same d
 
 -- A vector is the region of its length.
 part-whole : (v : List Float) → part 0 (length v) v ≡ v

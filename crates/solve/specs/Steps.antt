@@ -24,7 +24,7 @@ use Rattle.sound.specs.Sound.{walkOf, scratchStart, scratchEnd, cycleStart}
 use Rattle.solve.specs.declared.Regions.{Regions}
 use Rattle.solve.specs.declared.Solved.{Solved}
 use Rattle.solve.specs.declared.Step.{Step}
-use Rattle.solve.specs.Solve.{System, State, Solution, residualOf, measuredOf, movedOf, factorOf, runOf, stepOf, iterateOf}
+use Rattle.solve.specs.Solve.{System, State, Solution, lengthsOk, inputOk, residualOf, measuredOf, movedOf, factorOf, runOf, stepOf, iterateOf}
 use Rattle.solve.specs.Contract.{systemAt, countersOf, answerOf}
 
 -- ---- places
@@ -203,6 +203,10 @@ pub record Iterating (h : Handle) (w : List ℕ) (F G : List Float) (t u : List 
   pub floats : Kept (g .solution) F G
 
 -- ---- the solve
+
+-- questions 20 and 21, of a system of so many rows; the start passes them with the rest
+abbrev pub askedOf : ℕ → LinearSolverOptions → List Float → List Float → Outcome (List Float)
+askedOf n s rhs x = ask (lengthsOk n rhs x) Refusal.WrongLength (ask (inputOk s rhs x) Refusal.BadInput (accepted x))
 
 -- `solve` from question 22 on
 abbrev pub attemptOf : System → LinearSolverOptions → List Float → List Float → List ℕ → Outcome Solution

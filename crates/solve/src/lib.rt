@@ -6,16 +6,17 @@ ghost use lib.ListN.{length};
 ghost use Rattle.sound.specs.Sound.{soundOf};
 ghost use Rattle.solve.specs.Solve.{inputOk};
 ghost use Rattle.solve.specs.Contract.{solvedAt, SolveDone};
-ghost use Rattle.solve.specs.Steps.{BeginOk, begunAt, attemptAt, Ready, Ran};
+ghost use Rattle.refusal.specs.Outcome.{verdictOf};
+ghost use Rattle.solve.specs.Steps.{askedOf, BeginOk, begunAt, attemptAt, Ready, Ran};
 use matrix::SymmetricMatrix;
 use options::Handle;
 use options::LinearSolveReport;
 use options::LinearSolverOptions;
 use options::LinearSolverStatus;
 use refusal::Refusal;
+use refusal::Verdict;
 use vector::Product;
 
-mod copies;
 mod iterating;
 mod places;
 mod stepping;
@@ -55,6 +56,22 @@ fn input_fits(s: LinearSolverOptions, rhs: &[f64], x: &[f64]) -> bool
         & (float::is_finite(s.relative_tolerance) & !(s.relative_tolerance < 0.0))
         & vector::all_finite(rhs, rhs.len(), 0)
         & vector::all_finite(x, x.len(), 0)
+}
+
+// Questions 20 and 21, of a system of so many rows.
+fn ask_input(n: usize, s: LinearSolverOptions, rhs: &[f64], x: &[f64]) -> Verdict
+    ensures { λ r. ⌜ r ≡ verdictOf (askedOf n s (now (rhs .entry)) (now (x .entry))) ⌝ }
+{
+    if rhs.len() != n {
+        return Verdict::Refused(Refusal::WrongLength);
+    }
+    if x.len() != n {
+        return Verdict::Refused(Refusal::WrongLength);
+    }
+    if !input_fits(s, rhs, x) {
+        return Verdict::Refused(Refusal::BadInput);
+    }
+    Verdict::Passed
 }
 
 // Questions 22 and 23 on the right-hand side and the start in the store, and the iterations unless the start is good enough.
@@ -109,13 +126,10 @@ fn begin(
     let g = places::regions(h, w);
     let n = 4 * (h.levels as usize);
     let mut t = [0u64; 512];
-    copies::load_counts(&mut t, statistics, n);
-    copies::copy_in(f, g.rhs, rhs);
-    copies::copy_in(f, g.solution, x);
+    copies::enter(f, &mut t, statistics, n, rhs, x, g.rhs, g.solution);
     match attempt(h, w, f, &mut t, g, s) {
         Solved::Report(report) => {
-            copies::copy_out(x, f, g.solution);
-            copies::store_counts(statistics, t, n);
+            copies::leave(x, statistics, f, t, g.solution, n);
             Solved::Report(report)
         }
         Solved::Refused(q) => Solved::Refused(q),
@@ -135,15 +149,8 @@ pub fn solve(
     requires { ⌜ soundOf h (now w) (length (now f)) (length (now statistics) / 4) ≡ true ⌝ }
     ensures { λ r. ⌜ SolveDone h (now (w .entry)) (now (f .entry)) (now (f .exit)) (now (statistics .entry)) (now (statistics .exit)) (now (x .entry)) (now (x .exit)) (solvedAt h (now (w .entry)) (now (f .entry)) (now (statistics .entry)) (now (rhs .entry)) (now (x .entry)) s) r ⌝ }
 {
-    let n = h.rows as usize;
-    if rhs.len() != n {
-        return Solved::Refused(Refusal::WrongLength);
+    match ask_input(h.rows as usize, s, rhs, x) {
+        Verdict::Refused(q) => Solved::Refused(q),
+        Verdict::Passed => begin(h, w, f, statistics, rhs, x, s),
     }
-    if x.len() != n {
-        return Solved::Refused(Refusal::WrongLength);
-    }
-    if !input_fits(s, rhs, x) {
-        return Solved::Refused(Refusal::BadInput);
-    }
-    begin(h, w, f, statistics, rhs, x, s)
 }

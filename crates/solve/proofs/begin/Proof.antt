@@ -1,41 +1,61 @@
 -- `solve::begin` meets its contract: copies in, the solve on them, and copies out where it is accepted.
 -- Assumes nothing.
 use mathlib.Core.Path.{refl, _∙_}
-use Rattle.solve.proofs.Solving.{opened-ok, ready-ok, rhs-ok, start-ok, counts-ok, begin-yes, begin-no}
 use native.Mathlib.Omega.{arith}
+use Rattle.solve.proofs.Solving.{opened-ok, ready-ok, enter-ok, leave-ok, counts-ok, begin-yes, begin-no}
 use borrow.Author.Needs.{needs}
 use Rattle.solve.proofs.begin.Statement.{statement}
 use Rattle.solve.proofs.begin.Tie as tie
 
 regions-requires : tie.Need-regions-requires
-regions-requires c κs = opened-ok (c .before .before .before .before .before .pre) (omega arith)
+regions-requires c κs =
+    let start = c .before .before .before .before .before in
+    opened-ok (start .pre) (omega arith)
 
 mul-n : tie.Need-mul-n
-mul-n c = omega (arith, counts-ok (c .before .before .before .before .before .before .pre))
+mul-n c =
+    let start = c .before .before .before .before .before .before in
+    omega (arith, counts-ok (start .pre))
 
-load-counts-requires : tie.Need-load-counts-requires
-load-counts-requires c κs = (counts-ok (c .before .before .before .before .before .before .before .before .pre), c .before .before .before .before .before .before .before .before .pre .records)
-
-copy-in-requires : tie.Need-copy-in-requires
-copy-in-requires c κs = rhs-ok (c .before .before .before .before .before .before .before .before .before .before .pre) (c .before .before .before .before .regions .ensures) refl
-
-copy-in-requires-2 : tie.Need-copy-in-requires-2
-copy-in-requires-2 c κs = start-ok (c .before .before .before .before .before .before .before .before .before .before .before .before .before .before .before .pre) (c .before .before .before .before .before .before .before .before .before .regions .ensures) (c .before .before .before .before .copy-in .ensures .size)
+enter-requires : tie.Need-enter-requires
+enter-requires c κs =
+    let at-regions = c .before .before .before .before in
+    let start = at-regions .before .before .before .before .before .before in
+    enter-ok (start .pre) (at-regions .regions .ensures) refl
 
 attempt-requires : tie.Need-attempt-requires
-attempt-requires c κs = ready-ok (c .before .before .before .before .before .before .before .before .before .before .before .before .before .before .before .before .before .before .before .before .pre) (c .before .before .before .before .before .before .before .before .before .before .before .before .before .before .regions .ensures) (c .before .before .before .before .copy-in2 .ensures .size ∙ c .before .before .before .before .before .before .before .before .before .copy-in .ensures .size)
+attempt-requires c κs =
+    let at-enter = c .before .before .before .before in
+    let at-regions = at-enter .before .before .before .before .before in
+    let start = at-regions .before .before .before .before .before .before in
+    ready-ok (start .pre) (at-regions .regions .ensures) (at-enter .enter .ensures .floats .size)
 
-copy-out-requires : tie.Need-copy-out-requires
-copy-out-requires c κs = start-ok (c .before .before .before .before .before .before .before .before .before .before .before .before .before .before .before .before .before .before .before .before .before .before .before .before .before .before .before .before .pre) (c .before .before .before .before .before .before .before .before .before .before .before .before .before .before .before .before .before .before .before .before .before .before .regions .ensures) (c .before .before .before .before .before .before .before .attempt .ensures .floats .size ∙ c .before .before .before .before .before .before .before .before .before .before .before .before .copy-in2 .ensures .size ∙ c .before .before .before .before .before .before .before .before .before .before .before .before .before .before .before .before .before .copy-in .ensures .size)
-
-store-counts-requires : tie.Need-store-counts-requires
-store-counts-requires c κs = (counts-ok (c .before .before .before .before .before .before .before .before .before .before .before .before .before .before .before .before .before .before .before .before .before .before .before .before .before .before .before .before .before .before .before .before .pre), c .before .before .before .before .before .before .before .before .before .before .before .before .before .before .before .before .before .before .before .before .before .before .before .before .before .before .before .before .before .before .before .before .pre .records)
+leave-requires : tie.Need-leave-requires
+leave-requires c κs =
+    let at-attempt = c .before .before .before .before .before .before .before .before in
+    let at-enter = at-attempt .before .before .before .before .before in
+    let at-regions = at-enter .before .before .before .before .before in
+    let start = at-regions .before .before .before .before .before .before in
+    leave-ok (start .pre) (at-regions .regions .ensures) (at-attempt .attempt .ensures .floats .size ∙ at-enter .enter .ensures .floats .size)
 
 returns : tie.Need-returns
-returns c = begin-yes _ _ _ _ _ (c .before .before .before .before .before .before .before .before .before .before .before .before .before .before .before .before .before .before .before .before .before .before .before .before .before .before .before .before .before .before .before .before .before .before .before .pre) (c .before .before .before .before .before .before .before .before .before .before .before .before .before .before .before .before .before .before .before .before .before .before .before .before .before .before .before .before .before .regions .ensures) (c .before .before .before .before .before .before .before .before .before .before .before .before .before .before .before .before .before .before .before .before .before .before .before .before .copy-in .ensures) (c .before .before .before .before .before .before .before .before .before .before .before .before .before .before .before .before .before .before .before .copy-in2 .ensures) refl (c .before .before .before .before .before .before .before .before .before .before .before .before .before .before .before .before .before .before .before .before .before .before .before .before .before .before .load-counts .ensures) (c .before .before .before .before .before .before .before .before .before .before .before .before .before .before .attempt .ensures) (c .before .before .before .before .before .before .before .before .before .before .report .given .1) (c .before .before .before .before .before .before .copy-out .ensures) (c .before .before .store-counts .ensures)
+returns c =
+    let at-leave = c .before .before .before .before in
+    let at-report = at-leave .before .before .before .before .before in
+    let at-attempt = at-report .before .before .before .before in
+    let at-enter = at-attempt .before .before .before .before .before in
+    let at-regions = at-enter .before .before .before .before .before in
+    let start = at-regions .before .before .before .before .before .before in
+    begin-yes _ _ _ _ _ (start .pre) (at-regions .regions .ensures) refl (at-enter .enter .ensures) (at-attempt .attempt .ensures) (at-report .report .given .1) (at-leave .leave .ensures)
 
 returns-2 : tie.Need-returns-2
-returns-2 c = begin-no _ _ _ _ _ (c .before .before .before .before .before .before .before .before .before .before .before .before .before .before .before .before .before .before .before .before .before .before .before .before .before .before .pre) (c .before .before .before .before .before .before .before .before .before .before .before .before .before .before .before .before .before .before .before .before .regions .ensures) (c .before .before .before .before .before .before .before .before .before .before .before .before .before .before .before .copy-in .ensures) (c .before .before .before .before .before .before .before .before .before .before .copy-in2 .ensures) refl (c .before .before .before .before .before .before .before .before .before .before .before .before .before .before .before .before .before .load-counts .ensures) (c .before .before .before .before .before .attempt .ensures) (c .before .q .given .1)
+returns-2 c =
+    let at-q = c .before in
+    let at-attempt = at-q .before .before .before .before in
+    let at-enter = at-attempt .before .before .before .before .before in
+    let at-regions = at-enter .before .before .before .before .before in
+    let start = at-regions .before .before .before .before .before .before in
+    begin-no _ _ _ _ _ (start .pre) (at-regions .regions .ensures) refl (at-enter .enter .ensures) (at-attempt .attempt .ensures) (at-q .q .given .1)
 
 pub begin-spec : {M : Type 1} → statement M
 begin-spec =
@@ -43,13 +63,10 @@ begin-spec =
     (tie.spec
     regions-requires
     mul-n
-    load-counts-requires
-    copy-in-requires
-    copy-in-requires-2
+    enter-requires
     attempt-requires
     (λ c. search needs)
-    copy-out-requires
-    store-counts-requires
+    leave-requires
     (λ c. search needs)
     (λ c. search needs)
     (λ c. search needs)

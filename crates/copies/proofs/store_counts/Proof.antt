@@ -1,4 +1,4 @@
--- `solve::copies::store_counts` meets its contract. The loop's invariant: what is left to copy gives the whole.
+-- `copies::store_counts` meets its contract. The loop's invariant: what is left to copy gives the whole.
 -- Assumes nothing.
 use mathlib.Core.Path.{_≡_, refl}
 use Prim.Native.Nat.{_-_}
@@ -6,9 +6,9 @@ use native.Mathlib.Omega.{arith}
 use lib.ListN.{length, length-set}
 use Rattle.store.specs.Loop.{for}
 use Rattle.store.proofs.Loop.{Left, left-start, left-on}
-use Rattle.solve.proofs.Copying.{startTurn, start-done}
-use Rattle.solve.proofs.copies.store_counts.Statement.{statement}
-use Rattle.solve.proofs.copies.store_counts.Tie as tie
+use Rattle.copies.proofs.Copying.{startTurn, start-done}
+use Rattle.copies.proofs.store_counts.Statement.{statement}
+use Rattle.copies.proofs.store_counts.Tie as tie
 
 abbrev Inv-loop : tie.InvT-loop
 Inv-loop statistics₀ n t k₀ statistics k = (length statistics ≡ length statistics₀) × Left (startTurn 0 t) k n statistics (for (startTurn 0 t) 0 n statistics₀)

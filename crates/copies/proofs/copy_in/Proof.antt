@@ -1,4 +1,4 @@
--- `solve::copies::copy_in` meets its contract. The loop's invariant: what is left to copy gives the whole.
+-- `copies::copy_in` meets its contract. The loop's invariant: what is left to copy gives the whole.
 -- Assumes nothing.
 use mathlib.Core.Path.{_≡_, refl}
 use Prim.Native.Nat.{_-_}
@@ -8,9 +8,9 @@ use lib.ListN.{length}
 use lib.Ieee.{nan}
 use Rattle.store.specs.Loop.{for}
 use Rattle.store.proofs.Loop.{Left, left-start, left-on}
-use Rattle.solve.proofs.Copying.{inTurn, in-done}
-use Rattle.solve.proofs.copies.copy_in.Statement.{statement}
-use Rattle.solve.proofs.copies.copy_in.Tie as tie
+use Rattle.copies.proofs.Copying.{inTurn, in-done}
+use Rattle.copies.proofs.copy_in.Statement.{statement}
+use Rattle.copies.proofs.copy_in.Tie as tie
 
 abbrev Inv-loop : tie.InvT-loop
 Inv-loop f₀ to v k₀ f k = (length f ≡ length f₀) × Left (inTurn nan v to) k (length v) f (for (inTurn nan v to) 0 (length v) f₀)

@@ -1,4 +1,4 @@
--- `solve::copies::copy_out` meets its contract. The loop's invariant: what is left to copy gives the whole.
+-- `copies::copy_out` meets its contract. The loop's invariant: what is left to copy gives the whole.
 -- Assumes nothing.
 use mathlib.Core.Path.{_≡_, refl}
 use Prim.Native.Nat.{_-_}
@@ -7,9 +7,9 @@ use lib.ListN.{length, length-set}
 use lib.Ieee.{nan}
 use Rattle.store.specs.Loop.{for}
 use Rattle.store.proofs.Loop.{Left, left-start, left-on}
-use Rattle.solve.proofs.Copying.{outTurn, out-done}
-use Rattle.solve.proofs.copies.copy_out.Statement.{statement}
-use Rattle.solve.proofs.copies.copy_out.Tie as tie
+use Rattle.copies.proofs.Copying.{outTurn, out-done}
+use Rattle.copies.proofs.copy_out.Statement.{statement}
+use Rattle.copies.proofs.copy_out.Tie as tie
 
 abbrev Inv-loop : tie.InvT-loop
 Inv-loop x₀ f from k₀ x k = (length x ≡ length x₀) × Left (outTurn nan f from) k (length x₀) x (for (outTurn nan f from) 0 (length x₀) x₀)

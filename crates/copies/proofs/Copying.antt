@@ -5,12 +5,14 @@ use mathlib.Core.List.{List, [], _∷_, _++_}
 use Prim.Native.Nat.{ℕ, zero, suc, _+_, _≤_, _<_}
 use native.Mathlib.Nat.{zero-add}
 use native.Mathlib.Omega.{arith}
-use lib.ListN.{length, getD, set, drop}
+use lib.ListN.{length, getD, set}
+use lib.Ieee.{Float}
 use Rattle.store.specs.Loop.{for}
-use Rattle.store.specs.Region.{part, splice, Wrote}
+use Rattle.store.specs.Region.{part, splice, Wrote, Kept}
 use Rattle.store.proofs.Loop.{Left, left-end, for-same, for-done}
-use Rattle.store.proofs.Region.{getD-part, length-part, wrote, wrote-whole}
+use Rattle.store.proofs.Region.{getD-part, length-part, wrote, wrote-at, wrote-off, wrote-whole, kept-wrote, kept-on}
 use Rattle.store.proofs.Vector.{tab-same, tab-getD, for-each}
+use Rattle.copies.specs.Copies.{EnterOk, Entered}
 
 -- a turn of a loop that copies v to the place `to`; d stands for what is past its end
 unfoldable pub inTurn : {A : Type 0} → A → List A → ℕ → ℕ → List A → List A
@@ -59,3 +61,20 @@ module _ {A : Type 0} where
       let same = for-same (startTurn d v) (outTurn d v 0) 0 n (λ k _ _ H. ap (λ (i : ℕ). set H k (getD v i d)) (sym (zero-add k))) in
       out-wrote v F 0 n {k = n} d (omega arith)
       (record { gives = for-done (outTurn d v 0) n n G (omega arith) ∙ left-end l h ∙ same F }) (omega arith)
+
+-- Right-hand side and start in the store.
+pub entered : {F G H rhs x : List Float} (T t : List ℕ) {u : List ℕ} {n to start : ℕ} → EnterOk (length F) (length T) n (length rhs) (length x) to start
+    → Wrote 0 n (part 0 n T) t u → Wrote to (length rhs) rhs F G → Wrote start (length x) x G H → Entered F H T t u n rhs x to start
+entered T t {u} {n} {to} {start} ok c a b =
+    let same = a .size in
+    record {
+      given = wrote-off b _ _ (omega (arith, ok .given)) ∙ wrote-at a (omega (arith, ok .given, ok .room));
+      solution = wrote-at b (omega (arith, ok .room));
+      counts = c;
+      floats = kept-on (kept-wrote a (omega arith)) (kept-wrote b (omega (arith, ok .given)));
+    }
+
+-- There is room for the second after the first.
+pub second-fits : {F G : List Float} {words n m k : ℕ} {rhs : List Float} {to start : ℕ} → EnterOk (length F) words n m k to start
+    → Wrote to m rhs F G → start + k ≤ length G
+second-fits ok a = omega (arith, ok .room, a .size)

@@ -1,13 +1,13 @@
--- `solve::copies::load_counts` meets its contract. The loop's invariant: what is left to copy gives the whole.
+-- `copies::load_counts` meets its contract. The loop's invariant: what is left to copy gives the whole.
 -- Assumes nothing.
 use mathlib.Core.Path.{refl}
 use Prim.Native.Nat.{_-_}
 use native.Mathlib.Omega.{arith}
 use Rattle.store.specs.Loop.{for}
 use Rattle.store.proofs.Loop.{Left, left-start, left-on}
-use Rattle.solve.proofs.Copying.{startTurn, start-done}
-use Rattle.solve.proofs.copies.load_counts.Statement.{statement}
-use Rattle.solve.proofs.copies.load_counts.Tie as tie
+use Rattle.copies.proofs.Copying.{startTurn, start-done}
+use Rattle.copies.proofs.load_counts.Statement.{statement}
+use Rattle.copies.proofs.load_counts.Tie as tie
 
 abbrev Inv-loop : tie.InvT-loop
 Inv-loop t₀ statistics n k₀ t k = Left (startTurn 0 statistics) k n t (for (startTurn 0 statistics) 0 n t₀)
