@@ -1,4 +1,4 @@
-// One build of a list: its arguments, and the call.
+// One build of a list: its arguments, the call, and its answer.
 use build::Built;
 use lists::least;
 use lists::reading;
@@ -67,7 +67,7 @@ fn sized(text: &[u8], at: usize, sizes: &[u64; 6]) -> Problem {
 }
 
 // The arrays of a build into those that are lent, and the rest of its arguments.
-pub fn read(
+fn read(
     text: &[u8],
     offsets: &mut [u32],
     columns: &mut [u32],
@@ -170,7 +170,7 @@ fn call(
 }
 
 // The build over so much of each array and store as it is to get.
-pub fn run(
+fn run(
     p: Problem,
     offsets: &[u32],
     columns: &[u32],
@@ -199,4 +199,38 @@ pub fn run(
         &mut floats[..f],
         &mut statistics[..g],
     )
+}
+
+// A build that has run: its arguments and its answer.
+pub struct Rebuilt {
+    pub problem: Problem,
+    pub built: Built,
+}
+
+// The build in a text, in stores that are lent. Nobody needs its arrays afterwards.
+pub fn from_text(
+    text: &[u8],
+    words: &mut [u32],
+    floats: &mut [f64],
+    statistics: &mut [u64],
+) -> Rebuilt {
+    let mut offsets = [0u32; 128];
+    let mut columns = [0u32; 128];
+    let mut values = [0.0; 128];
+    let mut weights = [0.0; 128];
+    let p = read(text, &mut offsets, &mut columns, &mut values, &mut weights);
+    let built = run(
+        p,
+        &offsets,
+        &columns,
+        &values,
+        &weights,
+        words,
+        floats,
+        statistics,
+    );
+    Rebuilt {
+        problem: p,
+        built: built,
+    }
 }

@@ -100,40 +100,6 @@ fn agrees(
     told.same & rows.same & (sum == due.value) & (due.next == size)
 }
 
-// A build that has run: its arguments and its answer.
-struct Replayed {
-    problem: Problem,
-    answer: Answer,
-}
-
-// One build in arrays and stores that are lent.
-fn rerun(
-    text: &[u8],
-    offsets: &mut [u32],
-    columns: &mut [u32],
-    values: &mut [f64],
-    weights: &mut [f64],
-    words: &mut [u32],
-    floats: &mut [f64],
-    statistics: &mut [u64],
-) -> Replayed {
-    let p = rebuild::read(text, offsets, columns, values, weights);
-    let built = rebuild::run(
-        p,
-        offsets,
-        columns,
-        values,
-        weights,
-        words,
-        floats,
-        statistics,
-    );
-    Replayed {
-        problem: p,
-        answer: told(built),
-    }
-}
-
 // The build in a text of that size, in stores that are lent: it is counted under its answer.
 fn compare(
     text: &[u8],
@@ -143,22 +109,10 @@ fn compare(
     statistics: &mut [u64],
     counts: &mut [u64; 193],
 ) -> bool {
-    let mut offsets = [0u32; 128];
-    let mut columns = [0u32; 128];
-    let mut values = [0.0; 128];
-    let mut weights = [0.0; 128];
-    let r = rerun(
-        text,
-        &mut offsets,
-        &mut columns,
-        &mut values,
-        &mut weights,
-        words,
-        floats,
-        statistics,
-    );
+    let r = rebuild::from_text(text, words, floats, statistics);
     let p = r.problem;
-    let a = r.answer;
+    let built = r.built;
+    let a = told(built);
     kinds::count(counts, a);
     agrees(text, size, p, a, words, floats, statistics)
 }

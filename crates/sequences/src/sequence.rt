@@ -80,40 +80,6 @@ fn go_on(
     )
 }
 
-// A build that has run: its arguments and its answer.
-struct Rebuilt {
-    problem: Problem,
-    built: Built,
-}
-
-// The build of a sequence, whose arrays nobody needs afterwards.
-fn rebuild_hierarchy(
-    text: &[u8],
-    words: &mut [u32],
-    floats: &mut [f64],
-    statistics: &mut [u64],
-) -> Rebuilt {
-    let mut offsets = [0u32; 128];
-    let mut columns = [0u32; 128];
-    let mut values = [0.0; 128];
-    let mut weights = [0.0; 128];
-    let p = rebuild::read(text, &mut offsets, &mut columns, &mut values, &mut weights);
-    let built = rebuild::run(
-        p,
-        &offsets,
-        &columns,
-        &values,
-        &weights,
-        words,
-        floats,
-        statistics,
-    );
-    Rebuilt {
-        problem: p,
-        built: built,
-    }
-}
-
 // The sequence in a text of that size, in stores that are lent. Where the build refuses there is nothing to call, and that is a difference.
 fn compare(
     text: &[u8],
@@ -123,7 +89,7 @@ fn compare(
     statistics: &mut [u64],
     counts: &mut [u64; 98],
 ) -> Tally {
-    let r = rebuild_hierarchy(text, words, floats, statistics);
+    let r = rebuild::from_text(text, words, floats, statistics);
     let built = r.built;
     match built {
         Built::Made(handle) => {
