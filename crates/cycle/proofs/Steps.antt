@@ -31,7 +31,7 @@ use Rattle.visit.specs.Visit.{InnerOk, rhsAt, xAt, raisedAt, Moved, Downed}
 use Rattle.visit.proofs.Laws.{accepts, not-both, same-accepted}
 use Rattle.cycle.specs.declared.Way.{Way}
 use Rattle.cycle.specs.Cycle.{Cycled, cycled, countOf, swept, iterated, ended}
-use Rattle.cycle.specs.Contract.{levelIn, nextIn, innerAt, PlaceOk, NextOk, LastOk, EndOk, StepOk, Visited, DownDone, endAt, upAt, workOk, workDone}
+use Rattle.cycle.specs.Contract.{levelIn, nextIn, innerAt, PlaceOk, NextOk, LastOk, EndOk, StepOk, Visited, WentDown, DownDone, endAt, upAt, workOk, workDone}
 
 -- ---- the place
 
@@ -79,8 +79,8 @@ visit-ok ok e = rw e (ok .inner)
 module _ (o : MultigridOptions) (w : List ℕ) (depth a b s : ℕ) {g : Inner} (e : g ≡ innerAt w a b s) where
   -- The way down.
   pub down-done : {F G : List Float} {pre : ℕ} {r : Verdict} → pre ≡ preSweepsOf o depth → Downed (o .smoother) w F G g pre r
-      → Downed (o .smoother) w F G (innerAt w a b s) (preSweepsOf o depth) r
-  down-done p d = rw (e, p) at d
+      → WentDown o w F G depth a b s r
+  down-done p d = record { visit = rw (e, p) at d }
 
 -- A sum that stops at the largest number, added, is the sum added.
 pub sum-count : (i a b : ℕ) (t : List ℕ) → countOf i (min (a + b) 18446744073709551615) t ≡ countOf i (a + b) t
@@ -101,18 +101,20 @@ module _ (o : MultigridOptions) (w : List ℕ) {F G : List Float} (t : List ℕ)
 
   -- The way up refuses.
   pub up-no : (u : List ℕ) {q : Refusal} → v ≡ Verdict.Refused q
-      → Visited s (rowsAt w a) (upAt o w F t (innerAt w a b s) depth) F G u (Verdict.Refused q)
+      → Visited s (rowsAt w a) (upAt o w F t depth a b s) F G u (Verdict.Refused q)
+  unfolding upAt
   up-no u {q} told =
-      let out = upAt o w F t (innerAt w a b s) depth in
+      let out = upAt o w F t depth a b s in
       let no = refuses raisedTo (m' .answer) told in
       let all : out ≡ refused q = rw no in
       record { answer = sym (verdict-refused out all); x = λ c y. not-both out all y; counts = λ c y. not-both out all y; floats = m' .floats }
 
   -- The sweeps are counted.
   pub up-yes : {sum : ℕ} {u : List ℕ} → v ≡ Verdict.Passed → sum ≡ min (pre + post) 18446744073709551615 → u ≡ countOf (4 * depth + 2) sum t
-      → Visited s (rowsAt w a) (upAt o w F t (innerAt w a b s) depth) F G u Verdict.Passed
+      → Visited s (rowsAt w a) (upAt o w F t depth a b s) F G u Verdict.Passed
+  unfolding upAt
   up-yes {sum} {u} told f c =
-      let out = upAt o w F t (innerAt w a b s) depth in
+      let out = upAt o w F t depth a b s in
       let yes = accepts raisedTo (m' .answer) told in
       let after = swept depth (preSweepsOf o depth + postSweepsOf o depth) t in
       let counts : u ≡ after = c ∙ ap (λ (k : ℕ). countOf (4 * depth + 2) k t) f ∙ sum-count (4 * depth + 2) pre post t ∙ rw (p, q) in
@@ -184,7 +186,8 @@ visit-of (refused q) counts e x c k = record {
 pub end-done : {w : List ℕ} {F G : List Float} (t : List ℕ) {u : List ℕ} {depth a b s : ℕ} {p : Place} {coupled : ℕ} {k : Terminal} {r : Verdict}
     → EndOk w (length F) depth a b s → p ≡ locate w a b → coupled ≡ idx w (a + 2) → k ≡ parts.terminalIn p coupled
     → Solved k w (p .inverse) s (s + p .rows) (s + 2 * p .rows) F G r → u ≡ countOf (4 * depth + 3) 0 t
-    → Visited s (rowsAt w a) (endAt w F t (locate w a b) s (idx w (a + 2)) depth) F G u r
+    → Visited s (rowsAt w a) (endAt w F t depth a b s) F G u r
+unfolding endAt
 end-done {w} {F} {G} t {u} {depth} {a} {b} {s} {p} {coupled} {k} {r} ok at-p at-c is d c =
     let P = locate w a b in
     let n = rowsAt w a in
@@ -214,15 +217,15 @@ module _ {way : Way} {w : List ℕ} {size depth a b s : ℕ} (ok : workOk way w 
 
 module _ {way : Way} (o : MultigridOptions) (w : List ℕ) {F G : List Float} (t : List ℕ) {u : List ℕ} (depth a b s : ℕ) {r : Verdict} where
   -- What the last level ensures,
-  pub last-told : way ≡ Way.Last → Visited s (rowsAt w a) (endAt w F t (locate w a b) s (idx w (a + 2)) depth) F G u r
+  pub last-told : way ≡ Way.Last → Visited s (rowsAt w a) (endAt w F t depth a b s) F G u r
       → workDone way o w F G t u depth a b s r
   last-told e v = rw e v
 
   -- the way down,
-  pub down-told : way ≡ Way.Down → u ≡ t → Downed (o .smoother) w F G (innerAt w a b s) (preSweepsOf o depth) r
+  pub down-told : way ≡ Way.Down → u ≡ t → WentDown o w F G depth a b s r
       → workDone way o w F G t u depth a b s r
   down-told e c d = rw e (record { down = d; counts = c })
 
   -- and the way up.
-  pub up-told : way ≡ Way.Up → Visited s (rowsAt w a) (upAt o w F t (innerAt w a b s) depth) F G u r → workDone way o w F G t u depth a b s r
+  pub up-told : way ≡ Way.Up → Visited s (rowsAt w a) (upAt o w F t depth a b s) F G u r → workDone way o w F G t u depth a b s r
   up-told e v = rw e v

@@ -265,8 +265,8 @@ module _ (o : MultigridOptions) (w : List ℕ) (F : List Float) (depth a b s : �
   -- The last level ends the cycle.
   cycle-last : (x : List Float)
       → cycleOf o (levelIn w F (locate w a b) true (idx w (a + 2)) ∷ deeper) depth (rhsAt s rows F) x t
-      ≡ endAt w F (visited depth t) (locate w a b) s (idx w (a + 2)) depth
-  unfolding cycleOf endOf
+      ≡ endAt w F (visited depth t) depth a b s
+  unfolding cycleOf endOf endAt
   cycle-last x = refl
 
   -- the deeper levels' outcome, from the residual that y leaves and so many rows
@@ -352,13 +352,13 @@ module _ (o : MultigridOptions) (left : ℕ) (w : List ℕ) (F : List Float) (t 
   }
 
   -- The last level.
-  pub done-last : {G : List Float} {u : List ℕ} {r : Verdict} → left ≡ 1 → Visited s n (endAt w F t₁ P s (idx w (a + 2)) depth) F G u r
+  pub done-last : {G : List Float} {u : List ℕ} {r : Verdict} → left ≡ 1 → Visited s n (endAt w F t₁ depth a b s) F G u r
       → CycleDone o left w F G t u depth a b s r
   done-last {G} {u} {r} one v =
-      let v' : Visited s n (endAt w F (countOf (4 * depth + 1) 1 t) P s (idx w (a + 2)) depth) F G u r = rw ct at v in
+      let v' : Visited s n (endAt w F (countOf (4 * depth + 1) 1 t) depth a b s) F G u r = rw ct at v in
       let rest = levelsAt (left - 1) w F (wordsEnd w a) (floatsEnd w a b) in
       let levels = levels-open left (ok .some) w F a b ∙ ap (λ (l : Level). l ∷ rest) (level-last w F a b (last-is ok one)) in
-      done-as (endAt w F (countOf (4 * depth + 1) 1 t) P s (idx w (a + 2)) depth)
+      done-as (endAt w F (countOf (4 * depth + 1) 1 t) depth a b s)
       (ap (λ (ls : List Level). cycleOf o ls depth (rhsAt s n F) (xAt s n F) t) levels ∙ cycle-last o w F depth a b s rest t (xAt s n F)) v'
 
   module _ (more : left ≡ 1 → ⊥) {D : List Float} {t₂ : List ℕ} {v : Verdict} (d : DownDone o w F D t₁ t₂ depth a b s v) where
@@ -389,14 +389,14 @@ module _ (o : MultigridOptions) (left : ℕ) (w : List ℕ) (F : List Float) (t 
     -- Question 25 before the deeper levels.
     pub done-down : {q : Refusal} → v ≡ Verdict.Refused q → CycleDone o left w F D t t₂ depth a b s (Verdict.Refused q)
     done-down {q} told =
-        let no = refuses out (d .down .moved .answer) told in
-        refused-as t₂ (whole-is ∙ then-refused out (λ y. _>>=_ (deep-out y) (λ c. after y c)) no) (d .down .moved .floats)
+        let no = refuses out (d .down .visit .moved .answer) told in
+        refused-as t₂ (whole-is ∙ then-refused out (λ y. _>>=_ (deep-out y) (λ c. after y c)) no) (d .down .visit .moved .floats)
 
     module _ (told : v ≡ Verdict.Passed) {p : Place} (at : p ≡ locate w a b) {E : List Float} {u : List ℕ} {v' : Verdict}
         (c : CycleDone o (left - 1) w D E t₂ u (depth + 1) (p .positions + p .entries) (p .factor) (s + 5 * p .rows) v') where
       -- x after the way down.
       y-as : (y : List Float) × (out ≡ accepted y)
-      y-as = accepts out (d .down .moved .answer) told
+      y-as = accepts out (d .down .visit .moved .answer) told
 
       -- The deeper cycle at the next level's place.
       c' : CycleDone o (left - 1) w D E (visited depth t) u (depth + 1) (wordsEnd w a) (floatsEnd w a b) (s + 5 * n) v'
@@ -410,14 +410,14 @@ module _ (o : MultigridOptions) (left : ℕ) (w : List ℕ) (F : List Float) (t 
           let fits = walk-to (left - 1) w (depth + 1) (wordsEnd w a) (opened ok .here .words) (opened ok .rest) in
           let image = deep-in ok more .image in
           let room = first-room ok in
-          levels-kept (left - 1) (wordsEnd w a) (floatsEnd w a b) {e = length w} {e' = s} kept-self (kept-less (d .down .moved .floats) (omega arith)) fits
+          levels-kept (left - 1) (wordsEnd w a) (floatsEnd w a b) {e = length w} {e' = s} kept-self (kept-less (d .down .visit .moved .floats) (omega arith)) fits
           (omega (arith, ok .image, image-open left (ok .some) w a b)) (omega arith) (omega arith) .0
 
       -- so the deeper cycle is the definition's.
       same : cycleAt o (left - 1) w D (visited depth t) (depth + 1) (wordsEnd w a) (floatsEnd w a b) (s + 5 * n) ≡ deep-out (y-as .0)
       same =
           let next = next-is ok more in
-          let l = d .down .left (y-as .0) (y-as .1) in
+          let l = d .down .visit .left (y-as .0) (y-as .1) in
           ap (λ (ls : List Level). cycleOf o ls (depth + 1) (part (s + 5 * n) (rowsAt w (wordsEnd w a)) D)
           (part (s + 5 * n + rowsAt w (wordsEnd w a)) (rowsAt w (wordsEnd w a)) D) (visited depth t)) same-levels
           ∙ ap (λ (k : ℕ). cycleOf o deeper (depth + 1) (part (s + 5 * n) k D) (part (s + 5 * n + k) k D) (visited depth t)) (sym next)
@@ -431,7 +431,7 @@ module _ (o : MultigridOptions) (left : ℕ) (w : List ℕ) (F : List Float) (t 
 
       -- Below x nothing changed.
       held : Kept (s + n) F E
-      held = kept-on (d .down .moved .floats) (kept-less (c' .floats) (omega arith))
+      held = kept-on (d .down .visit .moved .floats) (kept-less (c' .floats) (omega arith))
 
       -- A refusal of the deeper levels.
       pub done-deep : {q : Refusal} → v' ≡ Verdict.Refused q → CycleDone o left w F E t u depth a b s (Verdict.Refused q)
@@ -440,13 +440,14 @@ module _ (o : MultigridOptions) (left : ℕ) (w : List ℕ) (F : List Float) (t 
           refused-as u (whole-deep ∙ then-refused (deep-out (y-as .0)) (λ z. after (y-as .0) z) no) held
 
       module _ (passed-on : v' ≡ Verdict.Passed) {G : List Float} {u' : List ℕ} {r : Verdict}
-          (h : Visited s n (upAt o w E u g depth) E G u' r) where
+          (h : Visited s n (upAt o w E u depth a b s) E G u' r) where
         -- What the deeper levels gave.
         z-as : (z : Cycled) × (deep-out (y-as .0) ≡ accepted z)
         z-as = accepts (deep-out (y-as .0)) (c' .answer ∙ ap verdictOf same) passed-on
 
         -- the way up reads what the way down and the deeper levels left
-        up-is : upAt o w E u g depth ≡ after (y-as .0) (z-as .0)
+        up-is : upAt o w E u depth a b s ≡ after (y-as .0) (z-as .0)
+        unfolding upAt
         up-is =
             let y = y-as .0 in
             let z = z-as .0 in
@@ -456,10 +457,10 @@ module _ (o : MultigridOptions) (left : ℕ) (w : List ℕ) (F : List Float) (t 
             let kernel : matrixAt w E g ≡ matrixAt w F g = kernel-same (ok' .kernel) low in
             let dic : part (P .dic) n E ≡ part (P .dic) n F = kept-part low (P .dic) n (ok' .dics) in
             let rhs : rhsAt s n E ≡ rhsAt s n F = kept-part held s n (omega arith) in
-            let l = d .down .left y (y-as .1) in
+            let l = d .down .visit .left y (y-as .1) in
             let res : residualAt s n pre' E ≡ visit.residualIn w F g pre' y =
             kept-part (c' .floats) (residualPlace s n pre') n (omega (arith, residual-ends s n pre')) ∙ l .residual in
-            let xs : xAt s n E ≡ y = kept-part (c' .floats) (s + n) n (omega arith) ∙ d .down .moved .x y (y-as .1) in
+            let xs : xAt s n E ≡ y = kept-part (c' .floats) (s + n) n (omega arith) ∙ d .down .visit .moved .x y (y-as .1) in
             let cx : part (s + 5 * n + N) N E ≡ z .x =
             ap (λ (k : ℕ). part (s + 5 * n + k) k E) (next-is ok more) ∙ c' .x z (same ∙ z-as .1) in
             let cu : u ≡ z .counts = c' .counts z (same ∙ z-as .1) in
@@ -468,6 +469,6 @@ module _ (o : MultigridOptions) (left : ℕ) (w : List ℕ) (F : List Float) (t 
         -- The way up.
         pub done-up : CycleDone o left w F G t u' depth a b s r
         done-up =
-            done-as (upAt o w E u g depth)
+            done-as (upAt o w E u depth a b s)
             (whole-deep ∙ then-accepted (deep-out (y-as .0)) (λ z. after (y-as .0) z) (z-as .1) ∙ sym up-is)
             (record { answer = h .answer; x = h .x; counts = h .counts; floats = kept-on held (h .floats) })

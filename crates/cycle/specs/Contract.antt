@@ -108,20 +108,24 @@ pub record StepOk (w : List ℕ) (size depth a b s : ℕ) : Type 0 where
   pub deep : depth < 128
 
 -- the last level's x, and no iteration counted
-abbrev pub endAt : List ℕ → List Float → List ℕ → Place → ℕ → ℕ → ℕ → Outcome Cycled
-endAt w F t p s coupled depth = do
-  x ← ended (levelIn w F p true coupled) (rhsAt s (p .rows) F)
+unfoldable pub endAt : List ℕ → List Float → List ℕ → ℕ → ℕ → ℕ → ℕ → Outcome Cycled
+endAt w F t depth a b s = do
+  x ← ended (levelIn w F (locate w a b) true (idx w (a + 2))) (rhsAt s (rowsAt w a) F)
   accepted (cycled x (iterated depth 0 t))
 
--- x after the way up of the level at g, and the sweeps counted
-abbrev pub upAt : MultigridOptions → List ℕ → List Float → List ℕ → Inner → ℕ → Outcome Cycled
-upAt o w F t g depth = do
-  z ← raisedAt w F g (o .smoother) (o .«scale_correction») (preSweepsOf o depth) (postSweepsOf o depth)
+-- x after the way up of another level, and the sweeps counted
+unfoldable pub upAt : MultigridOptions → List ℕ → List Float → List ℕ → ℕ → ℕ → ℕ → ℕ → Outcome Cycled
+upAt o w F t depth a b s = do
+  z ← raisedAt w F (innerAt w a b s) (o .smoother) (o .«scale_correction») (preSweepsOf o depth) (postSweepsOf o depth)
   accepted (cycled z (swept depth (preSweepsOf o depth + postSweepsOf o depth) t))
 
--- The way down of a level, which counts nothing.
+-- The way down of a level with the sweeps of the controls.
+pub record WentDown (o : MultigridOptions) (w : List ℕ) (F G : List Float) (depth a b s : ℕ) (r : Verdict) : Type 0 where
+  pub visit : Downed (o .smoother) w F G (innerAt w a b s) (preSweepsOf o depth) r
+
+-- It counts nothing.
 pub record DownDone (o : MultigridOptions) (w : List ℕ) (F G : List Float) (t u : List ℕ) (depth a b s : ℕ) (r : Verdict) : Type 0 where
-  pub down : Downed (o .smoother) w F G (innerAt w a b s) (preSweepsOf o depth) r
+  pub down : WentDown o w F G depth a b s r
   pub counts : u ≡ t
 
 -- what the work at a level requires, by the way that is gone there
@@ -132,6 +136,6 @@ workOk Way.Up w size depth a b s = StepOk w size depth a b s
 
 -- and what it ensures
 abbrev pub workDone : Way → MultigridOptions → List ℕ → List Float → List Float → List ℕ → List ℕ → ℕ → ℕ → ℕ → ℕ → Verdict → Type 0
-workDone Way.Last o w F G t u depth a b s r = Visited s (rowsAt w a) (endAt w F t (locate w a b) s (idx w (a + 2)) depth) F G u r
+workDone Way.Last o w F G t u depth a b s r = Visited s (rowsAt w a) (endAt w F t depth a b s) F G u r
 workDone Way.Down o w F G t u depth a b s r = DownDone o w F G t u depth a b s r
-workDone Way.Up o w F G t u depth a b s r = Visited s (rowsAt w a) (upAt o w F t (innerAt w a b s) depth) F G u r
+workDone Way.Up o w F G t u depth a b s r = Visited s (rowsAt w a) (upAt o w F t depth a b s) F G u r

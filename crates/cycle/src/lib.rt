@@ -5,12 +5,9 @@ ghost use Prim.Native.Nat.{_+_, _*_, _<_};
 ghost use lib.ListN.{length};
 ghost use Rattle.layout.specs.Layout.{rowsAt, locate};
 ghost use Rattle.layout.specs.Parts.{terminalIn};
-ghost use Rattle.visit.specs.Visit.{Downed};
-ghost use Rattle.options.specs.Counts.{preSweepsOf};
-ghost use Rattle.store.specs.Region.{idx};
 ghost use Rattle.cycle.specs.Cycle.{countOf};
 ghost use Rattle.cycle.specs.Contract.{CycleOk, CycleDone, PlaceOk, NextOk, innerAt, EndOk, StepOk};
-ghost use Rattle.cycle.specs.Contract.{Visited, endAt, upAt, workOk, workDone};
+ghost use Rattle.cycle.specs.Contract.{Visited, WentDown, endAt, upAt, workOk, workDone};
 use cholesky::Terminal;
 use layout::Place;
 use options::MultigridOptions;
@@ -71,7 +68,7 @@ fn end(
     s: usize,
 ) -> Verdict
     requires { ⌜ EndOk (now w) (length (now f)) depth a b s ⌝ }
-    ensures { λ r. ⌜ Visited s (rowsAt (now (w .entry)) a) (endAt (now (w .entry)) (now (f .entry)) (now (t .entry)) (locate (now (w .entry)) a b) s (idx (now (w .entry)) (a + 2)) depth) (now (f .entry)) (now (f .exit)) (now (t .exit)) r ⌝ }
+    ensures { λ r. ⌜ Visited s (rowsAt (now (w .entry)) a) (endAt (now (w .entry)) (now (f .entry)) (now (t .entry)) depth a b s) (now (f .entry)) (now (f .exit)) (now (t .exit)) r ⌝ }
 {
     let p = level_place(w, a, b);
     let terminal = terminal_in(p, store::wide(w[a + 2]));
@@ -109,7 +106,7 @@ fn down(
     s: usize,
 ) -> Verdict
     requires { ⌜ StepOk (now w) (length (now f)) depth a b s ⌝ }
-    ensures { λ r. ⌜ Downed (o .smoother) (now (w .entry)) (now (f .entry)) (now (f .exit)) (innerAt (now (w .entry)) a b s) (preSweepsOf o depth) r ⌝ }
+    ensures { λ r. ⌜ WentDown o (now (w .entry)) (now (f .entry)) (now (f .exit)) depth a b s r ⌝ }
 {
     let g = inner_at(w, a, b, s);
     let kind = o.smoother;
@@ -128,7 +125,7 @@ fn up(
     s: usize,
 ) -> Verdict
     requires { ⌜ StepOk (now w) (length (now f)) depth a b s ⌝ }
-    ensures { λ r. ⌜ Visited s (rowsAt (now (w .entry)) a) (upAt o (now (w .entry)) (now (f .entry)) (now (t .entry)) (innerAt (now (w .entry)) a b s) depth) (now (f .entry)) (now (f .exit)) (now (t .exit)) r ⌝ }
+    ensures { λ r. ⌜ Visited s (rowsAt (now (w .entry)) a) (upAt o (now (w .entry)) (now (f .entry)) (now (t .entry)) depth a b s) (now (f .entry)) (now (f .exit)) (now (t .exit)) r ⌝ }
 {
     let g = inner_at(w, a, b, s);
     let kind = o.smoother;

@@ -48,7 +48,7 @@ cycle-work-requires : (t : ℕ) → cycle-lts.Need-work-requires (calls t) (cycl
 cycle-work-requires t c κs =
     let at-if1 = c .before .before in
     let start = at-if1 .before .before .before .before .before in
-    end-ok (start .pre .1) (at-if1 .if1 .taken) (search needs)
+    end-ok (start .pre .1) (at-if1 .if1 .taken) (omega (arith, start .fits))
 
 cycle-returns : (t : ℕ) → cycle-lts.Need-returns (calls t) (cycle-at t) cycle.Post
 cycle-returns t c =
@@ -62,12 +62,12 @@ cycle-work-requires-2 : (t : ℕ) → cycle-lts.Need-work-requires-2 (calls t) (
 cycle-work-requires-2 t c κs =
     let at-if1 = c .before .before in
     let start = at-if1 .before .before .before .before .before in
-    step-ok (start .pre .1) (at-if1 .if1 .left) (search needs)
+    step-ok (start .pre .1) (at-if1 .if1 .left) (omega (arith, start .fits))
 
 cycle-level-place-requires : (t : ℕ) → cycle-lts.Need-level-place-requires (calls t) (cycle-at t) cycle.Post
 cycle-level-place-requires t c κs =
     let start = c .before .before .before .before .before .before .before .before .before .before .before .before in
-    place-ok (start .pre .1) (search needs)
+    place-ok (start .pre .1) (omega (arith, start .fits))
 
 cycle-add-deeper : (t : ℕ) → cycle-lts.Need-add-deeper (calls t) (cycle-at t) cycle.Post
 cycle-add-deeper t c =
@@ -106,7 +106,7 @@ cycle-cycle-requires t c κs =
     let at-work2 = at-level-place .before .before .before .before .before in
     let at-if1 = at-work2 .before .before .before in
     let start = at-if1 .before .before .before .before .before in
-    (omega (arith, start .pre .0, start .pre .1 .some), deep-on (start .pre .1) (at-if1 .if1 .left) (at-level-place .level-place .ensures) (at-work2 .work2 .ensures .down .moved .floats .size))
+    (omega (arith, start .pre .0, start .pre .1 .some), deep-on (start .pre .1) (at-if1 .if1 .left) (at-level-place .level-place .ensures) (at-work2 .work2 .ensures .down .visit .moved .floats .size))
 
 cycle-work-requires-3 : (t : ℕ) → cycle-lts.Need-work-requires-3 (calls t) (cycle-at t) cycle.Post
 cycle-work-requires-3 t c κs =
@@ -114,7 +114,7 @@ cycle-work-requires-3 t c κs =
     let at-work2 = at-cycle .before .before .before .before .before .before .before .before .before .before in
     let at-if1 = at-work2 .before .before .before in
     let start = at-if1 .before .before .before .before .before in
-    step-on (start .pre .1) (at-if1 .if1 .left) (omega (arith, start .fits)) (at-cycle .cycle .ensures .floats .size ∙ at-work2 .work2 .ensures .down .moved .floats .size)
+    step-on (start .pre .1) (at-if1 .if1 .left) (omega (arith, start .fits)) (at-cycle .cycle .ensures .floats .size ∙ at-work2 .work2 .ensures .down .visit .moved .floats .size)
 
 cycle-returns-2 : (t : ℕ) → cycle-lts.Need-returns-2 (calls t) (cycle-at t) cycle.Post
 cycle-returns-2 t c =
