@@ -29,6 +29,7 @@ const LIBRARY: Texts = Texts {
         include_str!("../../crates/multigrid_c/src/by_values.rt"),
         include_str!("../../crates/multigrid_c/src/by_weights.rt"),
         include_str!("../../crates/multigrid_c/src/calls.rt"),
+        include_str!("../../crates/multigrid_c/src/counts.rt"),
     ],
     rust: include_str!("../../rust/src/calls.rs"),
     header: include_str!("../../include/multigrid.h"),
