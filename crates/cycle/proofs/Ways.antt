@@ -1,7 +1,7 @@
 -- The cycle over the levels: what its calls require, and a law for each way out.
 -- Assumes nothing.
 use mathlib.Core.Path.{_≡_, refl, sym, ap, _∙_, subst}
-use mathlib.Core.Bool.{true, false}
+use mathlib.Core.Bool.{Bool, true, false}
 use mathlib.Core.List.{List, _∷_}
 use Prim.Native.Nat.{ℕ, zero, suc, _+_, _*_, _-_, _≤_, _<_}
 use native.Mathlib.Omega.{arith}
@@ -34,7 +34,7 @@ use Rattle.visit.specs.Visit.{InnerOk, rhsAt, xAt, residualAt, residualPlace, m
 use Rattle.visit.proofs.Laws.{accepts, not-both, kernel-same, residual-ends}
 use Rattle.cycle.specs.Cycle.{Cycled, cycled, countOf, visited, swept, rowsFirst, residualIn, correctedOf, endOf, upOf, cycleOf}
 use Rattle.cycle.specs.Contract.{cycleAt, CycleOk, CycleDone, levelIn, innerIn, nextIn, innerAt, PlaceOk, NextOk, EndOk, StepOk, LastOk}
-use Rattle.cycle.specs.Contract.{Visited, DownDone, endAt, upAt}
+use Rattle.cycle.specs.Contract.{Visited, DownDone, endAt, upAt, passedOf}
 
 -- ---- the levels, the first apart
 
@@ -316,6 +316,16 @@ up-chain o w F depth a b s r x d =
 
 -- ---- the ways out
 
+-- A verdict that passed,
+passed-told : (v : Verdict) {c : Bool} → c ≡ passedOf v → c ≡ true → v ≡ Verdict.Passed
+passed-told Verdict.Passed e f = refl
+passed-told (Verdict.Refused q) e f = let no : _≡_ {A = ℕ} 0 1 = cc in absurd (omega arith)
+
+-- and one that did not.
+refused-told : (v : Verdict) {c : Bool} → c ≡ passedOf v → c ≡ false → (q : Refusal) × (v ≡ Verdict.Refused q)
+refused-told Verdict.Passed e f = let no : _≡_ {A = ℕ} 0 1 = cc in absurd (omega arith)
+refused-told (Verdict.Refused q) e f = (q, refl)
+
 module _ (o : MultigridOptions) (left : ℕ) (w : List ℕ) (F : List Float) (t : List ℕ) {t₁ : List ℕ} (depth a b s : ℕ)
     (ok : CycleOk left w (length F) depth a b s) (ct : t₁ ≡ countOf (4 * depth + 1) 1 t) where
   -- the level's place and as its visit has it, and its rows
@@ -387,13 +397,20 @@ module _ (o : MultigridOptions) (left : ℕ) (w : List ℕ) (F : List Float) (t 
         ∙ ap (innerOf o w F depth a b s deeper t) (first-rows (left - 1) (two ok more) w F (wordsEnd w a) (floatsEnd w a b) ∙ sym (next-is ok more))
 
     -- Question 25 before the deeper levels.
-    pub done-down : {q : Refusal} → v ≡ Verdict.Refused q → CycleDone o left w F D t t₂ depth a b s (Verdict.Refused q)
+    done-down : {q : Refusal} → v ≡ Verdict.Refused q → CycleDone o left w F D t t₂ depth a b s (Verdict.Refused q)
     done-down {q} told =
         let no = refuses out (d .down .visit .moved .answer) told in
         refused-as t₂ (whole-is ∙ then-refused out (λ y. _>>=_ (deep-out y) (λ c. after y c)) no) (d .down .visit .moved .floats)
 
-    module _ (told : v ≡ Verdict.Passed) {p : Place} (at : p ≡ locate w a b) {E : List Float} {u : List ℕ} {v' : Verdict}
+    pub stop-down : {c : Bool} → c ≡ passedOf v → c ≡ false → CycleDone o left w F D t t₂ depth a b s v
+    stop-down e f = let told = refused-told v e f .1 in rw told (done-down told)
+
+    module _ {g₁ : Bool} (went : g₁ ≡ passedOf v) (on : g₁ ≡ true) {p : Place} (at : p ≡ locate w a b) {E : List Float} {u : List ℕ} {v' : Verdict}
         (c : CycleDone o (left - 1) w D E t₂ u (depth + 1) (p .positions + p .entries) (p .factor) (s + 5 * p .rows) v') where
+      -- The way down passed.
+      told : v ≡ Verdict.Passed
+      told = passed-told v went on
+
       -- x after the way down.
       y-as : (y : List Float) × (out ≡ accepted y)
       y-as = accepts out (d .down .visit .moved .answer) told
@@ -434,13 +451,20 @@ module _ (o : MultigridOptions) (left : ℕ) (w : List ℕ) (F : List Float) (t 
       held = kept-on (d .down .visit .moved .floats) (kept-less (c' .floats) (omega arith))
 
       -- A refusal of the deeper levels.
-      pub done-deep : {q : Refusal} → v' ≡ Verdict.Refused q → CycleDone o left w F E t u depth a b s (Verdict.Refused q)
+      done-deep : {q : Refusal} → v' ≡ Verdict.Refused q → CycleDone o left w F E t u depth a b s (Verdict.Refused q)
       done-deep {q} q-told =
           let no = refuses (deep-out (y-as .0)) (c' .answer ∙ ap verdictOf same) q-told in
           refused-as u (whole-deep ∙ then-refused (deep-out (y-as .0)) (λ z. after (y-as .0) z) no) held
 
-      module _ (passed-on : v' ≡ Verdict.Passed) {G : List Float} {u' : List ℕ} {r : Verdict}
+      pub stop-deep : {c : Bool} → c ≡ passedOf v' → c ≡ false → CycleDone o left w F E t u depth a b s v'
+      stop-deep e f = let no = refused-told v' e f .1 in rw no (done-deep no)
+
+      module _ {g₂ : Bool} (came : g₂ ≡ passedOf v') (up : g₂ ≡ true) {G : List Float} {u' : List ℕ} {r : Verdict}
           (h : Visited s n (upAt o w E u depth a b s) E G u' r) where
+        -- They passed.
+        passed-on : v' ≡ Verdict.Passed
+        passed-on = passed-told v' came up
+
         -- What the deeper levels gave.
         z-as : (z : Cycled) × (deep-out (y-as .0) ≡ accepted z)
         z-as = accepts (deep-out (y-as .0)) (c' .answer ∙ ap verdictOf same) passed-on

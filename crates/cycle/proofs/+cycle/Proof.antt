@@ -1,9 +1,10 @@
 -- `cycle::cycle` meets its contract. The measure is the number of levels left.
 -- Assumes nothing.
 use mathlib.Core.Path.{_∙_}
+use borrow.Author.Tests.{not-true, not-false}
 use native.Mathlib.Omega.{arith}
 use Rattle.cycle.proofs.Ways.{place-ok, deep-enough, end-ok, step-ok, after-within, scratch-within, deep-on, step-on}
-use Rattle.cycle.proofs.Ways.{done-last, done-down, done-deep, done-up}
+use Rattle.cycle.proofs.Ways.{done-last, stop-down, stop-deep, done-up}
 use borrow.Author.Needs.{needs}
 use Prim.Native.Nat.{ℕ, _<_}
 use borrow.Fn.Kinds.{In}
@@ -13,6 +14,7 @@ use Rattle.cycle.proofs.cycle.Kinds as cycle-kinds
 use Rattle.cycle.proofs.+cycle.Lts-cycle as cycle-lts
 use Rattle.cycle.proofs.count.Reads as count-reads
 use Rattle.cycle.proofs.level_place.Reads as level-place-reads
+use Rattle.cycle.proofs.passed.Reads as passed-reads
 use Rattle.cycle.proofs.work.Reads as work-reads
 use Rattle.cycle.proofs.+cycle.{statement}
 use Rattle.cycle.proofs.+cycle.Tie.{close}
@@ -33,6 +35,8 @@ calls t = (
   count-reads.Learnt,
   work-reads.Asked,
   work-reads.Learnt,
+  passed-reads.Asked,
+  passed-reads.Learnt,
   level-place-reads.Asked,
   level-place-reads.Learnt,
   cycle-below t,
@@ -78,24 +82,24 @@ cycle-add-deeper t c =
 
 cycle-sub-cycle : (t : ℕ) → cycle-lts.Need-sub-cycle (calls t) (cycle-at t) cycle.Post
 cycle-sub-cycle t c =
-    let start = c .before .before .before .before .before .before .before .before .before .before .before .before .before .before .before .before in
+    let start = c .before .before .before .before .before .before .before .before .before .before .before .before .before .before .before .before .before in
     omega (arith, start .pre .1 .some)
 
 cycle-add-cycle : (t : ℕ) → cycle-lts.Need-add-cycle (calls t) (cycle-at t) cycle.Post
 cycle-add-cycle t c =
-    let start = c .before .before .before .before .before .before .before .before .before .before .before .before .before .before .before .before in
+    let start = c .before .before .before .before .before .before .before .before .before .before .before .before .before .before .before .before .before in
     omega (arith, deep-enough (start .pre .1))
 
-cycle-mul-cycle : (t : ℕ) → cycle-lts.Need-mul-cycle (calls t) (cycle-at t) cycle.Post
-cycle-mul-cycle t c =
-    let at-level-place = c .before .before .before .before in
+cycle-mul-scratch : (t : ℕ) → cycle-lts.Need-mul-scratch (calls t) (cycle-at t) cycle.Post
+cycle-mul-scratch t c =
+    let at-level-place = c .before .before in
     let at-if1 = at-level-place .before .before .before .before .before .before .before .before in
     let start = at-if1 .before .before .before .before .before in
     omega (arith, start .good, scratch-within (start .pre .1) (at-if1 .if1 .left) (at-level-place .level-place .ensures))
 
-cycle-add-cycle-2 : (t : ℕ) → cycle-lts.Need-add-cycle-2 (calls t) (cycle-at t) cycle.Post
-cycle-add-cycle-2 t c =
-    let at-level-place = c .before .before .before .before in
+cycle-add-scratch : (t : ℕ) → cycle-lts.Need-add-scratch (calls t) (cycle-at t) cycle.Post
+cycle-add-scratch t c =
+    let at-level-place = c .before .before in
     let at-if1 = at-level-place .before .before .before .before .before .before .before .before in
     let start = at-if1 .before .before .before .before .before in
     omega (arith, start .good, scratch-within (start .pre .1) (at-if1 .if1 .left) (at-level-place .level-place .ensures))
@@ -118,37 +122,40 @@ cycle-work-requires-3 t c κs =
 
 cycle-returns-2 : (t : ℕ) → cycle-lts.Need-returns-2 (calls t) (cycle-at t) cycle.Post
 cycle-returns-2 t c =
-    let at-q = c .before in
-    let at-work2 = at-q .before .before .before .before in
+    let at-passed = c .before in
+    let at-work2 = at-passed .before .before .before in
     let at-if1 = at-work2 .before .before .before in
     let at-count = at-if1 .before in
     let start = at-count .before .before .before .before in
-    done-down _ _ _ _ _ _ _ _ _ (start .pre .1) (at-count .count .ensures) (at-if1 .if1 .left) (at-work2 .work2 .ensures) (at-q .q .given .1)
+    stop-down _ _ _ _ _ _ _ _ _ (start .pre .1) (at-count .count .ensures) (at-if1 .if1 .left) (at-work2 .work2 .ensures) (at-passed .passed .ensures) (not-true (at-passed .passed .result) (c .if2 .taken))
 
 cycle-returns-3 : (t : ℕ) → cycle-lts.Need-returns-3 (calls t) (cycle-at t) cycle.Post
 cycle-returns-3 t c =
-    let at-q2 = c .before in
-    let at-cycle = at-q2 .before .before .before .before in
+    let at-passed2 = c .before in
+    let at-cycle = at-passed2 .before .before .before in
     let at-level-place = at-cycle .before .before .before .before .before in
-    let at-enum-told = at-level-place .before in
-    let at-work2 = at-enum-told .before .before .before .before in
+    let at-if2 = at-level-place .before in
+    let at-passed = at-if2 .before in
+    let at-work2 = at-passed .before .before .before in
     let at-if1 = at-work2 .before .before .before in
     let at-count = at-if1 .before in
     let start = at-count .before .before .before .before in
-    done-deep _ _ _ _ _ _ _ _ _ (start .pre .1) (at-count .count .ensures) (at-if1 .if1 .left) (at-work2 .work2 .ensures) (at-enum-told .enum-told .given .1) (at-level-place .level-place .ensures) (at-cycle .cycle .ensures) (at-q2 .q2 .given .1)
+    stop-deep _ _ _ _ _ _ _ _ _ (start .pre .1) (at-count .count .ensures) (at-if1 .if1 .left) (at-work2 .work2 .ensures) (at-passed .passed .ensures) (not-false (at-passed .passed .result) (at-if2 .if2 .left)) (at-level-place .level-place .ensures) (at-cycle .cycle .ensures) (at-passed2 .passed2 .ensures) (not-true (at-passed2 .passed2 .result) (c .if3 .taken))
 
 cycle-returns-4 : (t : ℕ) → cycle-lts.Need-returns-4 (calls t) (cycle-at t) cycle.Post
 cycle-returns-4 t c =
     let at-work3 = c .before .before in
-    let at-enum-told2 = at-work3 .before .before .before in
-    let at-cycle = at-enum-told2 .before .before .before .before in
+    let at-if3 = at-work3 .before .before .before in
+    let at-passed2 = at-if3 .before in
+    let at-cycle = at-passed2 .before .before .before in
     let at-level-place = at-cycle .before .before .before .before .before in
-    let at-enum-told = at-level-place .before in
-    let at-work2 = at-enum-told .before .before .before .before in
+    let at-if2 = at-level-place .before in
+    let at-passed = at-if2 .before in
+    let at-work2 = at-passed .before .before .before in
     let at-if1 = at-work2 .before .before .before in
     let at-count = at-if1 .before in
     let start = at-count .before .before .before .before in
-    done-up _ _ _ _ _ _ _ _ _ (start .pre .1) (at-count .count .ensures) (at-if1 .if1 .left) (at-work2 .work2 .ensures) (at-enum-told .enum-told .given .1) (at-level-place .level-place .ensures) (at-cycle .cycle .ensures) (at-enum-told2 .enum-told2 .given .1) (at-work3 .work3 .ensures)
+    done-up _ _ _ _ _ _ _ _ _ (start .pre .1) (at-count .count .ensures) (at-if1 .if1 .left) (at-work2 .work2 .ensures) (at-passed .passed .ensures) (not-false (at-passed .passed .result) (at-if2 .if2 .left)) (at-level-place .level-place .ensures) (at-cycle .cycle .ensures) (at-passed2 .passed2 .ensures) (not-false (at-passed2 .passed2 .result) (at-if3 .if3 .left)) (at-work3 .work3 .ensures)
 
 pub +cycle-spec : {M : Type 1} → statement M
 +cycle-spec = close μ-cycle λ t. cycle-lts.spec (calls t)
@@ -159,21 +166,19 @@ pub +cycle-spec : {M : Type 1} → statement M
     (λ c. search needs)
     (cycle-returns t)
     (cycle-work-requires-2 t)
-    (λ c. search needs)
-    (λ c. search needs)
-    (cycle-level-place-requires t)
-    (cycle-add-deeper t)
-    (cycle-sub-cycle t)
-    (cycle-add-cycle t)
-    (cycle-mul-cycle t)
-    (cycle-add-cycle-2 t)
-    (cycle-cycle-requires t)
-    (λ c. search needs)
-    (λ c. search needs)
-    (cycle-work-requires-3 t)
+    (λ c κs. search needs)
     (λ c. search needs)
     (cycle-returns-2 t)
+    (cycle-level-place-requires t)
+    (cycle-add-deeper t)
+    (cycle-mul-scratch t)
+    (cycle-add-scratch t)
+    (cycle-sub-cycle t)
+    (cycle-add-cycle t)
+    (cycle-cycle-requires t)
+    (λ c κs. search needs)
     (λ c. search needs)
     (cycle-returns-3 t)
+    (cycle-work-requires-3 t)
     (λ c. search needs)
     (cycle-returns-4 t)
