@@ -9,6 +9,7 @@ use lib.Ieee.{Float, ne}
 use lib.ListN.{length}
 use Rattle.float.specs.Float.{zero64}
 use Rattle.refusal.specs.declared.Refusal.{Refusal}
+use Rattle.refusal.specs.Refusal.{badDotProduct, zeroImage, badDirection}
 use Rattle.refusal.specs.declared.Verdict.{Verdict}
 use Rattle.refusal.specs.Outcome.{Outcome, accepted, refused}
 use Rattle.store.specs.Region.{Clear, part, Wrote}
@@ -55,14 +56,14 @@ module _ {F : List Float} {n p q direction image : ℕ} {d : Product} (ok : Norm
     (e : d ≡ normOf n (part image n F)) where
   -- 28: the norm is not finite.
   pub normal-no : d ≡ NotFinite
-      → Normal n p q (normalOf n (pairAt n direction image F)) F F (Verdict.Refused Refusal.BadDotProduct)
+      → Normal n p q (normalOf n (pairAt n direction image F)) F F (Verdict.Refused badDotProduct)
   unfolding normalOf
   normal-no t = let told = sym e ∙ t in normal-refused (rw told) (λ a m _ _. refl) refl
 
   module _ {norm : Float} (t : d ≡ Finite norm) where
     -- 29: it is zero.
     pub normal-zero : ne norm zero64 ≡ false
-        → Normal n p q (normalOf n (pairAt n direction image F)) F F (Verdict.Refused Refusal.ZeroImage)
+        → Normal n p q (normalOf n (pairAt n direction image F)) F F (Verdict.Refused zeroImage)
     unfolding normalOf
     normal-zero z = let told = sym e ∙ t in normal-refused (rw (told, z)) (λ a m _ _. refl) refl
 
@@ -87,7 +88,7 @@ module _ {F : List Float} {n p q direction image : ℕ} {d : Product} (ok : Norm
 
       -- 30: an element is not finite.
       pub normal-bad : b ≡ false
-          → Normal n p q (normalOf n (pairAt n direction image F)) F H (Verdict.Refused Refusal.BadDirection)
+          → Normal n p q (normalOf n (pairAt n direction image F)) F H (Verdict.Refused badDirection)
       unfolding normalOf
       normal-bad y =
           let told = sym e ∙ t in

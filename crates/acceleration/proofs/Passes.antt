@@ -8,7 +8,7 @@ use native.Mathlib.Nat.{suc-mul}
 use native.Mathlib.Omega.{arith}
 use lib.Ieee.{Float}
 use lib.ListN.{length}
-use Rattle.refusal.specs.declared.Refusal.{Refusal}
+use Rattle.refusal.specs.Refusal.{badDotProduct}
 use Rattle.refusal.specs.Outcome.{accepted, refused, ask}
 use Rattle.store.specs.Region.{part, Wrote}
 use Rattle.store.proofs.Region.{wrote-at, wrote-off}
@@ -120,7 +120,7 @@ module _ {F G : List Float} {n used index p₀ q₀ p q direction image : ℕ}
   opened k e = rw e at (s .left)
 
   module _ {H : List Float} {r : Bool} (d : Stepped n direction image (stepOf n (pairAt n p q G) (pairAt n direction image G)) G H r) where
-    stepped : ask r Refusal.BadDotProduct (accepted (pairAt n direction image H)) ≡ stepOf n (pairAt n p q F) (pairAt n direction image G)
+    stepped : ask r badDotProduct (accepted (pairAt n direction image H)) ≡ stepOf n (pairAt n p q F) (pairAt n direction image G)
     stepped = d .is ∙ rw (s .frame .below p n (passing-ok .ps), s .frame .below q n (passing-ok .qs))
 
     -- A pair that passes.
@@ -142,7 +142,7 @@ module _ {F G : List Float} {n used index p₀ q₀ p q direction image : ℕ}
         → Stepped n direction image (passOf n (memoryAt used n p₀ q₀ F) (pairAt n direction image F)) F H false
     unfolding passOf
     passing-no t =
-        let e : refused Refusal.BadDotProduct ≡ stepOf n (pairAt n p q F) (pairAt n direction image G) = rw t at stepped in
+        let e : refused badDotProduct ≡ stepOf n (pairAt n p q F) (pairAt n direction image G) = rw t at stepped in
         record { is = rw (← e) at (opened (used - (index + 1)) next); frame = between-on (s .frame) (d .frame) }
 
 -- At the end nothing is left.
@@ -186,5 +186,5 @@ module _ {F G : List Float} {n used p q direction image : ℕ} {r : Bool} (ok : 
   pub twice-no : r ≡ false → Stepped n direction image (twiceOf n (memoryAt used n p q F) (pairAt n direction image F)) F G false
   unfolding twiceOf
   twice-no t =
-      let e : refused Refusal.BadDotProduct ≡ passOf n (memoryAt used n p q F) (pairAt n direction image F) = rw t at (d .is) in
+      let e : refused badDotProduct ≡ passOf n (memoryAt used n p q F) (pairAt n direction image F) = rw t at (d .is) in
       record { is = rw (← e); frame = d .frame }

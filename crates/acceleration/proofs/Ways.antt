@@ -13,6 +13,7 @@ use lib.Dec.{eqb}
 use lib.Ieee.{Float}
 use lib.ListN.{length, length-append}
 use Rattle.refusal.specs.declared.Refusal.{Refusal}
+use Rattle.refusal.specs.Refusal.{badDotProduct}
 use Rattle.refusal.specs.declared.Verdict.{Verdict}
 use Rattle.refusal.specs.Outcome.{Outcome, accepted, refused}
 use Rattle.refusal.proofs.Outcome.{refuses}
@@ -87,11 +88,11 @@ module _ (F : List Float) {n krylov used solution directions images residual dir
   module _ {G : List Float} {r : Bool}
       (d : Stepped n direction image (twiceOf n (memoryAt k n directions images F) (pairAt n direction image F)) F G r) where
     -- 28, in a pass.
-    pub correct-first : r ≡ false → By G (Corrected.Refused Refusal.BadDotProduct)
+    pub correct-first : r ≡ false → By G (Corrected.Refused badDotProduct)
     unfolding correctOf
     correct-first t =
-        let e : refused Refusal.BadDotProduct ≡ twiceOf n (memoryAt k n directions images F) (pairAt n direction image F) = rw t at (d .is) in
-        let o : outcome ≡ refused Refusal.BadDotProduct = rw (← kept-is, ← e) in
+        let e : refused badDotProduct ≡ twiceOf n (memoryAt k n directions images F) (pairAt n direction image F) = rw t at (d .is) in
+        let o : outcome ≡ refused badDotProduct = rw (← kept-is, ← e) in
         record {
           answer = rw o;
           fits = λ j u. let z : _≡_ {A = ℕ} 0 1 = cc in absurd (omega arith);
@@ -166,12 +167,12 @@ module _ (F : List Float) {n krylov used solution directions images residual dir
         solution-is = low solution n (ok .solutions)
 
         -- 28, in the step along the new direction.
-        pub correct-last : b ≡ false → By I (Corrected.Refused Refusal.BadDotProduct)
+        pub correct-last : b ≡ false → By I (Corrected.Refused badDotProduct)
         unfolding correctOf
         correct-last z =
             let e = c .pair y in
-            let f : refused Refusal.BadDotProduct ≡ advanceOf n (part residual n H) (pairAt n (directions + k * n) (images + k * n) H) (part solution n H) = rw z at (x .is) in
-            let o : outcome ≡ refused Refusal.BadDotProduct = rw (← kept-is, orthogonal, e, ← residual-is, ← solution-is, ← f) in
+            let f : refused badDotProduct ≡ advanceOf n (part residual n H) (pairAt n (directions + k * n) (images + k * n) H) (part solution n H) = rw z at (x .is) in
+            let o : outcome ≡ refused badDotProduct = rw (← kept-is, orthogonal, e, ← residual-is, ← solution-is, ← f) in
             let m = next-fits ok s in
             record {
               answer = rw o;

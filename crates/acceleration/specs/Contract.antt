@@ -7,6 +7,7 @@ use lib.Dec.{eqb}
 use lib.Ieee.{Float}
 use lib.ListN.{length}
 use Rattle.refusal.specs.declared.Refusal.{Refusal}
+use Rattle.refusal.specs.Refusal.{badDotProduct}
 use Rattle.refusal.specs.declared.Verdict.{Verdict}
 use Rattle.refusal.specs.Outcome.{Outcome, accepted, refused, ask, verdictOf}
 use Rattle.store.specs.Region.{part, Clear}
@@ -37,7 +38,7 @@ pub record StepOk (size n p q direction image : ℕ) : Type 0 where
 
 -- r tells whether `outcome` is accepted, with the new pair left in G; nothing else has changed
 pub record Stepped (n direction image : ℕ) (outcome : Outcome Pair) (F G : List Float) (r : Bool) : Type 0 where
-  pub is : ask r Refusal.BadDotProduct (accepted (pairAt n direction image G)) ≡ outcome
+  pub is : ask r badDotProduct (accepted (pairAt n direction image G)) ≡ outcome
   pub frame : Between direction (image + n) F G
 
 -- `used` stored pairs below the new one
@@ -76,7 +77,7 @@ pub record AdvanceOk (size n solution p q residual : ℕ) : Type 0 where
 
 -- r tells whether `outcome` is accepted, with the solution left in G; nothing else has changed
 pub record Advanced (n solution : ℕ) (outcome : Outcome (List Float)) (F G : List Float) (r : Bool) : Type 0 where
-  pub is : ask r Refusal.BadDotProduct (accepted (part solution n G)) ≡ outcome
+  pub is : ask r badDotProduct (accepted (part solution n G)) ≡ outcome
   pub still : r ≡ false → part solution n G ≡ part solution n F
   pub off : (a m : ℕ) → Clear a m solution n → part a m G ≡ part a m F
   pub size : length G ≡ length F

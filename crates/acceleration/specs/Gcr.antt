@@ -6,7 +6,7 @@ use lib.Dec.{eqb}
 use lib.Ieee.{Float, ne}
 use lib.ListN.{length}
 use Rattle.float.specs.Float.{add64, sub64, mul64, div64, zero64}
-use Rattle.refusal.specs.declared.Refusal.{Refusal}
+use Rattle.refusal.specs.Refusal.{badDotProduct, zeroImage, badDirection}
 use Rattle.refusal.specs.Outcome.{Outcome, accepted, refused, ask, _>>=_, _>>_}
 use Rattle.store.specs.Region.{at}
 use Rattle.store.specs.Vector.{tab}
@@ -39,7 +39,7 @@ overOf n a x = tab (λ row. div64 (at x row) a) n
 -- question 28: `dot(..)?` and `norm_l2(..)?`
 abbrev pub finiteOf : Product → Outcome Float
 finiteOf (Finite x) = accepted x
-finiteOf NotFinite = refused Refusal.BadDotProduct
+finiteOf NotFinite = refused badDotProduct
 
 -- a stored pair out of the new one: `beta` times each
 unfoldable pub stepOf : ℕ → Pair → Pair → Outcome Pair
@@ -67,8 +67,8 @@ twiceOf n memory s = do
 unfoldable pub normalOf : ℕ → Pair → Outcome Pair
 normalOf n s = do
   norm ← finiteOf (normOf n (s .image))
-  ask (ne norm zero64) Refusal.ZeroImage
-  ask (allFinite n (overOf n norm (s .direction)) && allFinite n (overOf n norm (s .image))) Refusal.BadDirection
+  ask (ne norm zero64) zeroImage
+  ask (allFinite n (overOf n norm (s .direction)) && allFinite n (overOf n norm (s .image))) badDirection
   accepted (record { direction = overOf n norm (s .direction); image = overOf n norm (s .image) })
 
 -- the solution, moved along the new direction by `alpha`

@@ -153,13 +153,13 @@ fn normalize(f: &mut [f64], n: usize, p: usize, q: usize, direction: usize, imag
                 if both_finite(f, n, p, q) {
                     Verdict::Passed
                 } else {
-                    Verdict::Refused(Refusal::BadDirection)
+                    Verdict::Refused(refusal::BAD_DIRECTION)
                 }
             } else {
-                Verdict::Refused(Refusal::ZeroImage)
+                Verdict::Refused(refusal::ZERO_IMAGE)
             }
         }
-        Product::NotFinite => Verdict::Refused(Refusal::BadDotProduct),
+        Product::NotFinite => Verdict::Refused(refusal::BAD_DOT_PRODUCT),
     }
 }
 
@@ -233,12 +233,12 @@ pub fn correct(
                 if advance(f, n, solution, p, q, residual) {
                     Corrected::Used(kept + 1)
                 } else {
-                    Corrected::Refused(Refusal::BadDotProduct)
+                    Corrected::Refused(refusal::BAD_DOT_PRODUCT)
                 }
             }
             Verdict::Refused(reason) => Corrected::Refused(reason),
         }
     } else {
-        Corrected::Refused(Refusal::BadDotProduct)
+        Corrected::Refused(refusal::BAD_DOT_PRODUCT)
     }
 }

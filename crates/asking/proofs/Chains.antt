@@ -11,6 +11,7 @@ use lib.Ieee.{Float}
 use borrow.Author.Tests.{le-leb, lt-leb}
 use Rattle.options.specs.declared.MultigridOptions.{MultigridOptions}
 use Rattle.refusal.specs.declared.Refusal.{Refusal}
+use Rattle.refusal.specs.Refusal.{noRows, storeTooSmall}
 use Rattle.refusal.specs.declared.Verdict.{Verdict}
 use Rattle.options.specs.Options.{controlsAsked}
 use Rattle.refusal.specs.Outcome.{Outcome, accepted, refused, passed, ask, verdictOf, _>>=_}
@@ -73,7 +74,7 @@ module _ (x : Input) {v : Verdict} (a : v ≡ verdictOf (matrixAsked (x .rows) (
 
 -- three questions, the last two with one refusal
 abbrev three : Bool → Bool → Bool → Outcome Unit
-three a b c = ask a Refusal.NoRows (ask b Refusal.StoreTooSmall (ask c Refusal.StoreTooSmall passed))
+three a b c = ask a noRows (ask b storeTooSmall (ask c storeTooSmall passed))
 
 module _ (rows entries : ℕ) (o : MultigridOptions) (words floats records : ℕ) {v q : ℕ} (vectors : Vectors rows (o .«krylov_dimension») v)
     (factor : Squared (o .«coarsest_cells») q) where
@@ -88,27 +89,27 @@ module _ (rows entries : ℕ) (o : MultigridOptions) (words floats records : ℕ
   unfolding roomAsked
   room-is = rw (vectors .is, factor .is)
 
-  pub room-empty : rows ≡ 0 → RoomAsked rows entries o (lending words floats records) (Verdict.Refused Refusal.NoRows)
+  pub room-empty : rows ≡ 0 → RoomAsked rows entries o (lending words floats records) (Verdict.Refused noRows)
   room-empty e = record { answer = sym (ap verdictOf room-is ∙ none (leb 1 rows) paid finest (lt-leb 1 rows (omega arith))) }
     where
-      none : (a b c : Bool) → a ≡ false → verdictOf (three a b c) ≡ Verdict.Refused Refusal.NoRows
+      none : (a b c : Bool) → a ≡ false → verdictOf (three a b c) ≡ Verdict.Refused noRows
       none a b c e = rw e
 
   module _ (some : rows ≡ 0 → ⊥) where
     one : leb 1 rows ≡ true
     one = le-leb 1 rows (omega (arith, some))
 
-    pub room-short : paid ≡ false → RoomAsked rows entries o (lending words floats records) (Verdict.Refused Refusal.StoreTooSmall)
+    pub room-short : paid ≡ false → RoomAsked rows entries o (lending words floats records) (Verdict.Refused storeTooSmall)
     room-short e = record { answer = sym (ap verdictOf room-is ∙ none (leb 1 rows) paid finest one e) }
       where
-        none : (a b c : Bool) → a ≡ true → b ≡ false → verdictOf (three a b c) ≡ Verdict.Refused Refusal.StoreTooSmall
+        none : (a b c : Bool) → a ≡ true → b ≡ false → verdictOf (three a b c) ≡ Verdict.Refused storeTooSmall
         none a b c d e = rw (d, e)
 
     pub room-shorter : paid ≡ true → finest ≡ false
-        → RoomAsked rows entries o (lending words floats records) (Verdict.Refused Refusal.StoreTooSmall)
+        → RoomAsked rows entries o (lending words floats records) (Verdict.Refused storeTooSmall)
     room-shorter e f = record { answer = sym (ap verdictOf room-is ∙ none (leb 1 rows) paid finest one e f) }
       where
-        none : (a b c : Bool) → a ≡ true → b ≡ true → c ≡ false → verdictOf (three a b c) ≡ Verdict.Refused Refusal.StoreTooSmall
+        none : (a b c : Bool) → a ≡ true → b ≡ true → c ≡ false → verdictOf (three a b c) ≡ Verdict.Refused storeTooSmall
         none a b c d e f = rw (d, e, f)
 
     pub room-enough : paid ≡ true → finest ≡ true → RoomAsked rows entries o (lending words floats records) Verdict.Passed

@@ -10,7 +10,7 @@ use lib.Ieee.{Float}
 use borrow.Author.Tests.{leb-true}
 use Rattle.store.proofs.Each.{both-l, both-r}
 use Rattle.options.specs.declared.MultigridOptions.{MultigridOptions}
-use Rattle.refusal.specs.declared.Refusal.{Refusal}
+use Rattle.refusal.specs.Refusal.{invalidControls, notCholesky, noRows, storeTooSmall}
 use Rattle.refusal.specs.declared.Verdict.{Verdict}
 use Rattle.options.specs.Options.{within, tolerable, validOf, isCholesky, controlsAsked}
 use Rattle.refusal.specs.Outcome.{passed, ask, verdictOf}
@@ -65,8 +65,8 @@ arrays-fit x e =
     let a = then-passed (matrixAsked (x .rows) (x .offsets) (x .columns) (x .values))
     (weighedAsked (length (x .columns)) (x .given) (x .weights) (x .options)) e in
     let b = then-passed (cond (x .given) (weightsAsked (length (x .columns)) (x .weights)) passed) (controlsAsked (x .options)) (a .1) in
-    let c = asked-yes (validOf (x .options)) Refusal.InvalidControls
-    (ask (isCholesky (x .options .«coarse_solver»)) Refusal.NotCholesky passed) (b .1) in
+    let c = asked-yes (validOf (x .options)) invalidControls
+    (ask (isCholesky (x .options .«coarse_solver»)) notCholesky passed) (b .1) in
     record {
       valid = matrix-valid (x .rows) (x .offsets) (x .columns) (x .values) (a .0);
       rising = matrix-rising (x .rows) (x .offsets) (x .columns) (x .values) (a .0);
@@ -93,11 +93,11 @@ fitting {words} {floats} {records} {x} a p =
     let all = charge (fixed .words + (5 * rows + 4 * entries + 8)) (fixed .floats + (20 * rows + 4 * entries)) in
     let l = lending words floats records in
     let s = then-passed (arraysAsked x) (roomAsked o l rows entries) (sym (a .answer) ∙ p) in
-    let c = ask (holds (l .stores) all) Refusal.StoreTooSmall passed in
-    let b = ask (holds (l .stores) fixed && leb (o .«max_levels») records) Refusal.StoreTooSmall c in
-    let t = asked-yes (leb 1 rows) Refusal.NoRows b (s .1) in
-    let u = asked-yes (holds (l .stores) fixed && leb (o .«max_levels») records) Refusal.StoreTooSmall c (t .1) in
-    let z = asked-yes (holds (l .stores) all) Refusal.StoreTooSmall passed (u .1) in
+    let c = ask (holds (l .stores) all) storeTooSmall passed in
+    let b = ask (holds (l .stores) fixed && leb (o .«max_levels») records) storeTooSmall c in
+    let t = asked-yes (leb 1 rows) noRows b (s .1) in
+    let u = asked-yes (holds (l .stores) fixed && leb (o .«max_levels») records) storeTooSmall c (t .1) in
+    let z = asked-yes (holds (l .stores) all) storeTooSmall passed (u .1) in
     record {
       arrays = arrays-fit x (s .0);
       heldwords = leb-true (all .words) words (both-l (leb (all .words) words) (leb (all .floats) floats) (z .0));

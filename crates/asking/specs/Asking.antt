@@ -7,7 +7,7 @@ use lib.Dec.{leb}
 use lib.ListN.{length}
 use lib.Ieee.{Float}
 use Rattle.options.specs.declared.MultigridOptions.{MultigridOptions}
-use Rattle.refusal.specs.declared.Refusal.{Refusal}
+use Rattle.refusal.specs.Refusal.{noRows, storeTooSmall}
 use Rattle.refusal.specs.declared.Verdict.{Verdict}
 use Rattle.options.specs.Options.{controlsAsked}
 use Rattle.refusal.specs.Outcome.{Outcome, passed, ask, verdictOf, _>>=_, _>>_}
@@ -48,9 +48,9 @@ arraysAsked x = do
 unfoldable pub roomAsked : MultigridOptions → Lent → ℕ → ℕ → Outcome Unit
 roomAsked o l rows entries = do
   let fixed = fixedCharge o rows entries
-  ask (leb 1 rows) Refusal.NoRows
-  ask (holds (l .stores) fixed && leb (o .«max_levels») (l .records)) Refusal.StoreTooSmall
-  ask (holds (l .stores) (charge (fixed .words + (5 * rows + 4 * entries + 8)) (fixed .floats + (20 * rows + 4 * entries)))) Refusal.StoreTooSmall
+  ask (leb 1 rows) noRows
+  ask (holds (l .stores) fixed && leb (o .«max_levels») (l .records)) storeTooSmall
+  ask (holds (l .stores) (charge (fixed .words + (5 * rows + 4 * entries + 8)) (fixed .floats + (20 * rows + 4 * entries)))) storeTooSmall
   passed
 
 -- questions 1 to 9

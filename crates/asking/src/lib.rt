@@ -1,7 +1,6 @@
 // Questions 1 to 9 of a build, in order, of the arrays and the stores' sizes.
 ghost use Rattle.asking.specs.Asking.{inputOf, lending, WeightsAsked, ArraysAsked, ChargeOk, RoomAsked, Asked};
 use options::MultigridOptions;
-use refusal::Refusal;
 use refusal::Verdict;
 
 pub mod space;
@@ -55,7 +54,7 @@ fn room_asked(
     let factor = space::square(o.coarsest_cells as usize);
     let numbers = vectors + 8 * entries + factor;
     if rows == 0 {
-        return Verdict::Refused(Refusal::NoRows);
+        return Verdict::Refused(refusal::NO_ROWS);
     }
     if (fixed <= words) & (numbers <= floats) & (o.max_levels as usize <= records) {
         if (fixed + (5 * rows + 4 * entries + 8) <= words)
@@ -63,9 +62,9 @@ fn room_asked(
         {
             return Verdict::Passed;
         }
-        return Verdict::Refused(Refusal::StoreTooSmall);
+        return Verdict::Refused(refusal::STORE_TOO_SMALL);
     }
-    Verdict::Refused(Refusal::StoreTooSmall)
+    Verdict::Refused(refusal::STORE_TOO_SMALL)
 }
 
 // Questions 1 to 9.

@@ -5,6 +5,7 @@ use mathlib.Core.Bool.{Bool, true, false, cond, _&&_}
 use lib.Dec.{leb}
 use lib.ListN.{length}
 use Rattle.refusal.specs.declared.Refusal.{Refusal}
+use Rattle.refusal.specs.Refusal.{noRows, storeTooSmall}
 use Rattle.options.specs.Options.{controlsAsked}
 use Rattle.refusal.specs.Outcome.{Outcome, accepted, refused, passed, ask, _>>=_}
 use Rattle.csr.specs.Questions.{matrixAsked, weightsAsked}
@@ -36,5 +37,5 @@ build-asked l x =
     (leb 1 (x .rows))
     (holds (l .stores) fixed && leb (o .«max_levels») (l .records))
     (holds (l .stores) (andLevel p fixed))
-    Refusal.NoRows Refusal.StoreTooSmall Refusal.StoreTooSmall
+    noRows storeTooSmall storeTooSmall
     (restOf (l .stores) x)

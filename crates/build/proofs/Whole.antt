@@ -16,6 +16,7 @@ use Rattle.store.proofs.Vector.{length-tab}
 use Rattle.options.specs.declared.MultigridOptions.{MultigridOptions}
 use Rattle.options.specs.declared.Handle.{Handle}
 use Rattle.refusal.specs.declared.Refusal.{Refusal}
+use Rattle.refusal.specs.Refusal.{unequalMirrors}
 use Rattle.refusal.specs.declared.Verdict.{Verdict}
 use Rattle.refusal.specs.Outcome.{Outcome, accepted, refused, ask, _>>=_}
 use Rattle.values.specs.Mirrors.{mirrorsEqual}
@@ -292,18 +293,18 @@ module _ {words floats : ℕ} {x : Input} {t : Workspace} (fit : Fitting words f
           (andLevel (patternIn x) (fixedCharge (x .options) (x .rows) (length (x .columns)))) (meshIn x)
       grow-is = grow-same (x .options) (x .given) (x .options .«max_levels» - 1) stores-is used-is mesh-is
 
-      pub begun-asymmetric : r ≡ false → Begun w y F G x (Built.Refused Refusal.UnequalMirrors)
+      pub begun-asymmetric : r ≡ false → Begun w y F G x (Built.Refused unequalMirrors)
       unfolding restOf
       begun-asymmetric fails =
           refusing (restOf (charge (length w) (length F)) x)
-          (ask-no (symmetricOf (patternIn x) (x .values)) Refusal.UnequalMirrors _ (sym answer-is ∙ fails))
+          (ask-no (symmetricOf (patternIn x) (x .values)) unequalMirrors _ (sym answer-is ∙ fails))
           (asked .words .size ∙ load .wordsize) (load .floatsize)
 
       rest-is : r ≡ true → restOf (charge (length w) (length F)) x
           ≡ _>>=_ (growAt (x .options) (x .given) y G t (finestOf (x .options) t)) (λ ls. accepted (withSums (x .options) ls))
       unfolding restOf
       rest-is holds =
-          ask-yes (symmetricOf (patternIn x) (x .values)) Refusal.UnequalMirrors _ (sym answer-is ∙ holds)
+          ask-yes (symmetricOf (patternIn x) (x .values)) unequalMirrors _ (sym answer-is ∙ holds)
           ∙ ap (λ (out : Outcome (List Level)). _>>=_ out (λ ls. accepted (withSums (x .options) ls))) (sym grow-is)
 
       pub begun-levels : r ≡ true → {v : List ℕ} {H : List Float} {b : Built} → LevelsDone y v G H (x .options) (x .given) t b

@@ -9,6 +9,7 @@ use Rattle.float.specs.Float.{zero64}
 use Rattle.store.specs.Vector.{filled}
 use Rattle.options.specs.declared.MultigridOptions.{MultigridOptions}
 use Rattle.refusal.specs.declared.Refusal.{Refusal}
+use Rattle.refusal.specs.Refusal.{unequalMirrors}
 use Rattle.refusal.specs.Outcome.{Outcome, accepted, refused, ask, _>>=_, _>>_}
 use Rattle.hierarchy.specs.Level.{Level, Hierarchy}
 use Rattle.hierarchy.specs.Refresh.{withSums}
@@ -27,7 +28,7 @@ pub use Rattle.asking.specs.Asking.{inputOf}
 unfoldable pub restOf : Charge → Input → Outcome Hierarchy
 restOf stores x = do
   let fixed = fixedCharge (x .options) (x .rows) (length (x .columns))
-  ask (symmetricOf (patternIn x) (x .values)) Refusal.UnequalMirrors
+  ask (symmetricOf (patternIn x) (x .values)) unequalMirrors
   levels ← growOf (x .options) (x .given) stores (x .options .«max_levels» - 1) 0 0 (andLevel (patternIn x) fixed) (meshIn x)
   accepted (withSums (x .options) levels)
 

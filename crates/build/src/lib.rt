@@ -63,7 +63,7 @@ fn begin(
     if finest::symmetric(w, values, t) {
         return levels(w, f, o, given, t);
     }
-    Built::Refused(Refusal::UnequalMirrors)
+    Built::Refused(refusal::UNEQUAL_MIRRORS)
 }
 
 // The whole build; where it refuses nothing is said of what the stores hold.

@@ -10,7 +10,7 @@ use lib.Ieee.{Float, nan}
 use lib.ListN.{length, set, length-set}
 use Rattle.float.specs.Float.{div64, zero64}
 use Rattle.float.specs.Sqrt.{sqrtOf}
-use Rattle.refusal.specs.declared.Refusal.{Refusal}
+use Rattle.refusal.specs.Refusal.{badPivot}
 use Rattle.refusal.specs.declared.Verdict.{Verdict}
 use Rattle.refusal.specs.Outcome.{accepted, refused, ask}
 use Rattle.store.specs.Loop.{for}
@@ -153,7 +153,7 @@ module _ {F G : List Float} {t : Terminal} {w : List ℕ} {row start : ℕ} {val
 
   -- A good pivot: its root ends the row.
   pub row-good : {root : Float} → b ≡ true → root ≡ sqrtOf value
-      → RowDone t (Refusal.BadPivot level (idx (coupledAt t w) row)) (rowOf level (coupledAt t w) (entryAt t w F) row (factorAt t F)) F (set G (t .factor + start + row) root) true
+      → RowDone t (badPivot level (idx (coupledAt t w) row)) (rowOf level (coupledAt t w) (entryAt t w F) row (factorAt t F)) F (set G (t .factor + start + row) root) true
   unfolding rowOf
   row-good {root} y s =
       let good = sym p ∙ y in
@@ -167,7 +167,7 @@ module _ {F G : List Float} {t : Terminal} {w : List ℕ} {row start : ℕ} {val
 
   -- A bad one: the row is refused.
   pub row-bad : b ≡ false
-      → RowDone t (Refusal.BadPivot level (idx (coupledAt t w) row)) (rowOf level (coupledAt t w) (entryAt t w F) row (factorAt t F)) F G false
+      → RowDone t (badPivot level (idx (coupledAt t w) row)) (rowOf level (coupledAt t w) (entryAt t w F) row (factorAt t F)) F G false
   unfolding rowOf
   row-bad y = let bad = sym p ∙ y in record { is = rw (← value-is, bad); frame = rw factor-is g }
 
@@ -175,7 +175,7 @@ module _ {F G : List Float} {t : Terminal} {w : List ℕ} {row start : ℕ} {val
 
 -- The row that a refusal names.
 pub pivot-told : {w : List ℕ} {t : Terminal} {row own : ℕ} (level : ℕ) → PivotOk w t row → own ≡ idx w (t .coupled + row)
-    → Verdict.Refused (Refusal.BadPivot level own) ≡ Verdict.Refused (Refusal.BadPivot level (idx (coupledAt t w) row))
+    → Verdict.Refused (badPivot level own) ≡ Verdict.Refused (badPivot level (idx (coupledAt t w) row))
 pivot-told {w} {t} {row} level ok e = rw (e, getD-part (t .coupled) (t .size) w row 0 (ok .within))
 
 -- What `bad_pivot` requires.
@@ -199,12 +199,12 @@ module _ {t : Terminal} {w : List ℕ} {level row : ℕ} {F G : List Float} (ok 
   pub factoring-ok : TerminalOk w (length G) t
   factoring-ok = rw (s .frame .size) ok
 
-  module _ {H : List Float} {r : Bool} (h : row < t .size) (d : RowDone t (Refusal.BadPivot level (idx (coupledAt t w) row))
+  module _ {H : List Float} {r : Bool} (h : row < t .size) (d : RowDone t (badPivot level (idx (coupledAt t w) row))
       (rowOf level (coupledAt t w) (entryAt t w G) row (factorAt t G)) G H r) where
     next : t .size - row ≡ suc (t .size - (row + 1))
     next = omega arith
 
-    done : ask r (Refusal.BadPivot level (idx (coupledAt t w) row)) (accepted (factorAt t H)) ≡ rowOf level (coupledAt t w) (entryAt t w F) row (factorAt t G)
+    done : ask r (badPivot level (idx (coupledAt t w) row)) (accepted (factorAt t H)) ≡ rowOf level (coupledAt t w) (entryAt t w F) row (factorAt t G)
     done = rw (wrote-off (s .frame) (t .values) (t .entries) (omega (arith, ok .values))) at (d .is)
 
     -- A row that passes.
@@ -215,12 +215,12 @@ module _ {t : Terminal} {w : List ℕ} {level row : ℕ} {F G : List Float} (ok 
         record { left = rw (next, ← e) at (s .left); frame = wrote-again (s .frame) (d .frame) }
 
     -- A row that is refused ends the factor.
-    pub factoring-no : {v : Verdict} → r ≡ false → v ≡ Verdict.Refused (Refusal.BadPivot level (idx (coupledAt t w) row))
+    pub factoring-no : {v : Verdict} → r ≡ false → v ≡ Verdict.Refused (badPivot level (idx (coupledAt t w) row))
         → Factored t (rowsOf level (coupledAt t w) (entryAt t w F) (t .size) 0 (factorAt t F)) F H v
     unfolding rowsOf
     factoring-no y x =
-        let e : refused (Refusal.BadPivot level (idx (coupledAt t w) row)) ≡ rowOf level (coupledAt t w) (entryAt t w F) row (factorAt t G) = rw y at done in
-        let o : refused (Refusal.BadPivot level (idx (coupledAt t w) row)) ≡ rowsOf level (coupledAt t w) (entryAt t w F) (t .size) 0 (factorAt t F) = rw (next, ← e) at (s .left) in
+        let e : refused (badPivot level (idx (coupledAt t w) row)) ≡ rowOf level (coupledAt t w) (entryAt t w F) row (factorAt t G) = rw y at done in
+        let o : refused (badPivot level (idx (coupledAt t w) row)) ≡ rowsOf level (coupledAt t w) (entryAt t w F) (t .size) 0 (factorAt t F) = rw (next, ← e) at (s .left) in
         record {
           answer = rw (← o) x;
           factor = λ z. let n : _≡_ {A = ℕ} 0 1 = cc in absurd (omega arith);

@@ -7,7 +7,7 @@ use lib.Ieee.{Float, lt}
 use lib.ListN.{set}
 use Rattle.float.specs.Float.{div64, zero64, isFinite}
 use Rattle.float.specs.Sqrt.{sqrtOf}
-use Rattle.refusal.specs.declared.Refusal.{Refusal}
+use Rattle.refusal.specs.Refusal.{badPivot}
 use Rattle.refusal.specs.Outcome.{Outcome, accepted, ask, _>>=_}
 use Rattle.store.specs.Loop.{for}
 use Rattle.store.specs.Region.{at, idx}
@@ -56,7 +56,7 @@ module _ (level : ℕ) (coupled : List ℕ) (entry : ℕ → ℕ → Float) wher
   rowOf row l =
       let lower = columnsOf entry row l in
       let value = restOf entry row row lower in
-      ask (goodPivot value) (Refusal.BadPivot level (idx coupled row)) (accepted (set lower (tri row + row) (sqrtOf value)))
+      ask (goodPivot value) (badPivot level (idx coupled row)) (accepted (set lower (tri row + row) (sqrtOf value)))
 
   -- so many rows from `row` on
   unfoldable pub rowsOf : ℕ → ℕ → List Float → Outcome (List Float)

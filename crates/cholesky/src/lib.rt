@@ -8,6 +8,7 @@ ghost use Rattle.packed.specs.Triangle.{tri, RowAt};
 ghost use Rattle.cholesky.specs.Factor.{seekOf, columnsOf, restOf, goodPivot, rowOf, rowsOf, choleskyOf};
 ghost use Rattle.cholesky.specs.Contract.{csrAt, coupledAt, factorAt, entryAt, TerminalOk, SeekOk, PivotOk, RowDone, Factored};
 ghost use Rattle.refusal.specs.declared.Refusal.{Refusal};
+ghost use Rattle.refusal.specs.Refusal.{badPivot};
 ghost use Rattle.refusal.specs.declared.Verdict.{Verdict};
 use refusal::Refusal;
 use refusal::Verdict;
@@ -103,7 +104,7 @@ fn one_row(w: &[u32], f: &mut [f64], t: Terminal, level: u64, row: usize, start:
     requires { ⌜ TerminalOk (now w) (length (now f)) t ⌝ }
     requires { ⌜ RowAt (t .size) row start ⌝ }
     ensures { λ r. ⌜
-        RowDone t (Refusal.BadPivot level (idx (coupledAt t (now (w .entry))) row))
+        RowDone t (badPivot level (idx (coupledAt t (now (w .entry))) row))
         (rowOf level (coupledAt t (now (w .entry))) (entryAt t (now (w .entry)) (now (f .entry))) row
         (factorAt t (now (f .entry))))
         (now (f .entry)) (now (f .exit)) r
@@ -124,11 +125,12 @@ fn one_row(w: &[u32], f: &mut [f64], t: Terminal, level: u64, row: usize, start:
 // The refusal of a pivot names its row of the level.
 fn bad_pivot(w: &[u32], t: Terminal, level: u64, row: usize) -> Verdict
     requires { ⌜ PivotOk (now w) t row ⌝ }
-    ensures { λ v. ⌜ v ≡ Verdict.Refused (Refusal.BadPivot level (idx (coupledAt t (now (w .entry))) row)) ⌝ }
+    ensures { λ v. ⌜ v ≡ Verdict.Refused (badPivot level (idx (coupledAt t (now (w .entry))) row)) ⌝ }
 {
     let coupled = t.coupled;
     let own = store::wide(w[coupled + row]);
-    Verdict::Refused(Refusal::BadPivot {
+    Verdict::Refused(Refusal {
+        number: refusal::BAD_PIVOT,
         level: level,
         row: own as u64,
     })

@@ -8,7 +8,7 @@ use native.Mathlib.Omega.{arith}
 use lib.Ieee.{Float, nan}
 use lib.ListN.{length, set, length-set}
 use Rattle.float.specs.Float.{mul64}
-use Rattle.refusal.specs.declared.Refusal.{Refusal}
+use Rattle.refusal.specs.Refusal.{badCoarseSolution}
 use Rattle.refusal.specs.declared.Verdict.{Verdict}
 use Rattle.store.specs.Loop.{for}
 use Rattle.store.specs.Region.{at, idx, part, splice, Wrote}
@@ -185,6 +185,6 @@ module _ {w : List ℕ} {F G : List Float} {inverse rhs x work : ℕ} {t : Termi
     solve-yes y = let z = rw solution-is at (sym e ∙ y) in record { answer = rw z; solution = solution-is; frame = frame }
 
     -- 24 refused.
-    pub solve-no : r ≡ false → Solved t w inverse rhs x work F H (Verdict.Refused Refusal.BadCoarseSolution)
+    pub solve-no : r ≡ false → Solved t w inverse rhs x work F H (Verdict.Refused badCoarseSolution)
     unfolding terminalOf
     solve-no y = let z = rw solution-is at (sym e ∙ y) in record { answer = rw z; solution = solution-is; frame = frame }

@@ -4,7 +4,7 @@ use Prim.Native.Nat.{ℕ}
 use lib.Ieee.{Float}
 use lib.ListN.{set}
 use Rattle.float.specs.Float.{mul64}
-use Rattle.refusal.specs.declared.Refusal.{Refusal}
+use Rattle.refusal.specs.Refusal.{badCoarseSolution}
 use Rattle.refusal.specs.Outcome.{Outcome, accepted, ask}
 use Rattle.store.specs.Loop.{for}
 use Rattle.store.specs.Region.{at, idx}
@@ -33,4 +33,4 @@ solutionOf n inverse size coupled factor rhs =
 unfoldable pub terminalOf : ℕ → List Float → ℕ → List ℕ → List Float → List Float → Outcome (List Float)
 terminalOf n inverse size coupled factor rhs =
     let x = solutionOf n inverse size coupled factor rhs in
-    ask (allFinite n x) Refusal.BadCoarseSolution (accepted x)
+    ask (allFinite n x) badCoarseSolution (accepted x)

@@ -8,7 +8,6 @@ ghost use Rattle.coarse.specs.Factor.{solveFactorOf};
 ghost use Rattle.coarse.specs.Terminal.{diagonalOf, gatherOf, scatterOf};
 ghost use Rattle.coarse.specs.Contract.{SolveOk, Lowered, High, Raised, DiagonalOk, SpreadOk, CoupledOk, CoupledSolved, SolutionOk, Solved};
 use cholesky::Terminal;
-use refusal::Refusal;
 use refusal::Verdict;
 
 // Forward substitution in place. It returns where the factor ends.
@@ -158,6 +157,6 @@ pub fn solve(
     if vector::all_finite(f, n, x) {
         Verdict::Passed
     } else {
-        Verdict::Refused(Refusal::BadCoarseSolution)
+        Verdict::Refused(refusal::BAD_COARSE_SOLUTION)
     }
 }

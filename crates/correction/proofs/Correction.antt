@@ -9,7 +9,7 @@ use borrow.Author.Tests.{not-true, not-false}
 use lib.ListN.{length, set}
 use lib.Ieee.{Float, nan}
 use Rattle.float.specs.Float.{add64, sub64, mul64, isFinite}
-use Rattle.refusal.specs.declared.Refusal.{Refusal}
+use Rattle.refusal.specs.Refusal.{badCorrectionProduct, badCorrectionScale}
 use Rattle.store.specs.Loop.{for}
 use Rattle.store.specs.Region.{at, part, splice, Clear, Wrote, CopyOk}
 use Rattle.store.proofs.Loop.{Left, left-end}
@@ -105,7 +105,7 @@ products-on correction residual product n F row numerator denominator h = simp g
 
 -- The three ways out of `scale`: a and b are the answers to question 26's tests, q is the quotient, r is question 27's.
 module _ (numerator denominator : Float) (a b : Bool) (first : a ≡ isFinite numerator) (second : b ≡ isFinite denominator) where
-  pub scale-bad : not (a && b) ≡ true → Factor.Refused Refusal.BadCorrectionProduct ≡ factorOf (scaleOf numerator denominator)
+  pub scale-bad : not (a && b) ≡ true → Factor.Refused badCorrectionProduct ≡ factorOf (scaleOf numerator denominator)
   unfolding scaleOf
   scale-bad t = rw (← first, ← second, not-true (a && b) t)
 
@@ -114,7 +114,7 @@ module _ (numerator denominator : Float) (a b : Bool) (first : a ≡ isFinite nu
     unfolding scaleOf
     scale-good e = rw (← first, ← second, not-false (a && b) t, ← is, ← asked, e)
 
-    pub scale-wide : r ≡ false → Factor.Refused Refusal.BadCorrectionScale ≡ factorOf (scaleOf numerator denominator)
+    pub scale-wide : r ≡ false → Factor.Refused badCorrectionScale ≡ factorOf (scaleOf numerator denominator)
     unfolding scaleOf
     scale-wide e = rw (← first, ← second, not-false (a && b) t, ← is, ← asked, e)
 

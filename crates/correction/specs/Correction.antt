@@ -4,7 +4,7 @@ use mathlib.Core.List.{List}
 use Prim.Native.Nat.{ℕ, _+_, _≤_}
 use lib.Ieee.{Float, lt}
 use Rattle.float.specs.Float.{add64, sub64, mul64, div64, zero64, isFinite}
-use Rattle.refusal.specs.declared.Refusal.{Refusal}
+use Rattle.refusal.specs.Refusal.{badCorrectionProduct, badCorrectionScale}
 use Rattle.refusal.specs.Outcome.{Outcome, accepted, refused, ask, _>>_}
 use Rattle.store.specs.Loop.{for}
 use Rattle.store.specs.Region.{at, Clear}
@@ -37,8 +37,8 @@ quotientOf numerator denominator = cond (lt zero64 denominator) (div64 numerator
 -- questions 26 and 27, and the factor
 unfoldable pub scaleOf : Float → Float → Outcome Float
 scaleOf numerator denominator = do
-  ask (isFinite numerator && isFinite denominator) Refusal.BadCorrectionProduct
-  ask (isFinite (quotientOf numerator denominator)) Refusal.BadCorrectionScale
+  ask (isFinite numerator && isFinite denominator) badCorrectionProduct
+  ask (isFinite (quotientOf numerator denominator)) badCorrectionScale
   accepted (quotientOf numerator denominator)
 
 -- the factor that scales a correction of n rows

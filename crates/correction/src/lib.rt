@@ -74,13 +74,13 @@ fn scale(numerator: f64, denominator: f64) -> Factor
     ensures { λ r. ⌜ r ≡ factorOf (scaleOf numerator denominator) ⌝ }
 {
     if !(float::is_finite(numerator) & float::is_finite(denominator)) {
-        return Factor::Refused(Refusal::BadCorrectionProduct);
+        return Factor::Refused(refusal::BAD_CORRECTION_PRODUCT);
     }
     let factor = quotient(numerator, denominator);
     if float::is_finite(factor) {
         Factor::Factor(factor)
     } else {
-        Factor::Refused(Refusal::BadCorrectionScale)
+        Factor::Refused(refusal::BAD_CORRECTION_SCALE)
     }
 }
 

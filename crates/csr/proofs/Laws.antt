@@ -10,6 +10,7 @@ use lib.ListN.{length}
 use borrow.Author.Tests.{eqb-true, le-leb}
 use Rattle.store.specs.Region.{idx}
 use Rattle.refusal.specs.declared.Refusal.{Refusal}
+use Rattle.refusal.specs.Refusal.{tooLarge, badOffsets, badColumns, weightCount, badWeight}
 use Rattle.refusal.specs.declared.Verdict.{Verdict}
 use Rattle.refusal.specs.Outcome.{Outcome, passed, ask, verdictOf}
 use Rattle.pattern.specs.Pattern.{Pattern, rowOf, Valid, Rising}
@@ -28,11 +29,11 @@ module _ (rows : ℕ) (offsets columns : List ℕ) (values : List Float) where
   matrix-holds : verdictOf (matrixAsked rows offsets columns values) ≡ Verdict.Passed
       → (sizeOk rows columns ≡ true) × (offsetsOk rows offsets columns values ≡ true) × (columnsOk rows offsets columns ≡ true)
   matrix-holds v =
-      let a = asked-yes (sizeOk rows columns) Refusal.TooLarge
-      (ask (offsetsOk rows offsets columns values) Refusal.BadOffsets (ask (columnsOk rows offsets columns) Refusal.BadColumns passed)) v in
-      let b = asked-yes (offsetsOk rows offsets columns values) Refusal.BadOffsets
-      (ask (columnsOk rows offsets columns) Refusal.BadColumns passed) (a .1) in
-      let c = asked-yes (columnsOk rows offsets columns) Refusal.BadColumns passed (b .1) in
+      let a = asked-yes (sizeOk rows columns) tooLarge
+      (ask (offsetsOk rows offsets columns values) badOffsets (ask (columnsOk rows offsets columns) badColumns passed)) v in
+      let b = asked-yes (offsetsOk rows offsets columns values) badOffsets
+      (ask (columnsOk rows offsets columns) badColumns passed) (a .1) in
+      let c = asked-yes (columnsOk rows offsets columns) badColumns passed (b .1) in
       (a .0, b .0, c .0)
 
   -- A matrix that passed has a valid pattern.
@@ -99,5 +100,5 @@ valid-matrix p values valid rising s =
 -- Weights that passed are as many as the entries.
 pub weights-length : (entries : ℕ) (weights : List Float) → verdictOf (weightsAsked entries weights) ≡ Verdict.Passed → length weights ≡ entries
 weights-length entries weights v =
-    let a = asked-yes (weightsCounted entries weights) Refusal.WeightCount (ask (weightsOk weights) Refusal.BadWeight passed) v in
+    let a = asked-yes (weightsCounted entries weights) weightCount (ask (weightsOk weights) badWeight passed) v in
     eqb-true (length weights) entries (a .0)

@@ -12,7 +12,7 @@ use Rattle.store.specs.Vector.{each}
 use Rattle.pattern.specs.Pattern.{Pattern}
 use Rattle.options.specs.Options.{tolerable}
 use Rattle.refusal.specs.Outcome.{Outcome, passed, ask, _>>_}
-use Rattle.refusal.specs.declared.Refusal.{Refusal}
+use Rattle.refusal.specs.Refusal.{tooLarge, badOffsets, badColumns, weightCount, badWeight}
 
 -- question 1: at most 65,536 rows and 1,048,576 entries
 unfoldable pub sizeOk : ℕ → List ℕ → Bool
@@ -70,16 +70,16 @@ weightsOk weights = each (weightOk weights) (length weights)
 -- questions 1 to 3
 abbrev pub matrixAsked : ℕ → List ℕ → List ℕ → List Float → Outcome Unit
 matrixAsked rows offsets columns values = do
-  ask (sizeOk rows columns) Refusal.TooLarge
-  ask (offsetsOk rows offsets columns values) Refusal.BadOffsets
-  ask (columnsOk rows offsets columns) Refusal.BadColumns
+  ask (sizeOk rows columns) tooLarge
+  ask (offsetsOk rows offsets columns values) badOffsets
+  ask (columnsOk rows offsets columns) badColumns
   passed
 
 -- questions 4 and 5
 abbrev pub weightsAsked : ℕ → List Float → Outcome Unit
 weightsAsked entries weights = do
-  ask (weightsCounted entries weights) Refusal.WeightCount
-  ask (weightsOk weights) Refusal.BadWeight
+  ask (weightsCounted entries weights) weightCount
+  ask (weightsOk weights) badWeight
   passed
 
 -- the pattern that is lent

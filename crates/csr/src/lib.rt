@@ -5,7 +5,6 @@ ghost use lib.ListN.{length};
 ghost use Rattle.options.specs.Options.{tolerable};
 ghost use Rattle.refusal.specs.Outcome.{verdictOf};
 ghost use Rattle.csr.specs.Questions.{sizeOk, neverFall, offsetsOk, entryOk, rowOk, columnsOk, weightsOk, matrixAsked, weightsAsked, Rowed};
-use refusal::Refusal;
 use refusal::Verdict;
 
 // Question 1.
@@ -100,13 +99,13 @@ pub fn check_matrix(rows: usize, offsets: &[u32], columns: &[u32], values: &[f64
     ensures { λ r. ⌜ r ≡ verdictOf (matrixAsked rows (now (offsets .entry)) (now (columns .entry)) (now (values .entry))) ⌝ }
 {
     if !size_fits(rows, columns) {
-        return Verdict::Refused(Refusal::TooLarge);
+        return Verdict::Refused(refusal::TOO_LARGE);
     }
     if !offsets_fit(rows, offsets, columns, values) {
-        return Verdict::Refused(Refusal::BadOffsets);
+        return Verdict::Refused(refusal::BAD_OFFSETS);
     }
     if !columns_rise(rows, offsets, columns) {
-        return Verdict::Refused(Refusal::BadColumns);
+        return Verdict::Refused(refusal::BAD_COLUMNS);
     }
     Verdict::Passed
 }
@@ -138,10 +137,10 @@ pub fn check_weights(weights: &[f64], entries: usize) -> Verdict
     ensures { λ r. ⌜ r ≡ verdictOf (weightsAsked entries (now (weights .entry))) ⌝ }
 {
     if weights.len() != entries {
-        return Verdict::Refused(Refusal::WeightCount);
+        return Verdict::Refused(refusal::WEIGHT_COUNT);
     }
     if !weights_fit(weights) {
-        return Verdict::Refused(Refusal::BadWeight);
+        return Verdict::Refused(refusal::BAD_WEIGHT);
     }
     Verdict::Passed
 }

@@ -13,6 +13,7 @@ use Rattle.options.specs.declared.MultigridOptions.{MultigridOptions}
 use Rattle.options.specs.declared.MultigridSmoother.{MultigridSmoother}
 use Rattle.options.specs.Counts.{preSweepsOf, postSweepsOf}
 use Rattle.refusal.specs.declared.Refusal.{Refusal}
+use Rattle.refusal.specs.Refusal.{badCoarseSolution}
 use Rattle.refusal.specs.declared.Verdict.{Verdict}
 use Rattle.refusal.specs.Outcome.{Outcome, accepted, refused, ask, verdictOf, _>>=_}
 use Rattle.refusal.proofs.Outcome.{then-accepted, verdict-passed, verdict-refused, refuses}
@@ -163,7 +164,7 @@ terminal-is : (n size : ℕ) (inverse factor rhs v : List Float) (coupled : List
     → solutionOf n inverse size coupled factor rhs ≡ v
 unfolding terminalOf
 terminal-is n size inverse factor rhs v coupled e =
-    let y = solutionOf n inverse size coupled factor rhs in ask-is (allFinite n y) Refusal.BadCoarseSolution y v e
+    let y = solutionOf n inverse size coupled factor rhs in ask-is (allFinite n y) badCoarseSolution y v e
 
 -- An x with its counters, by the cases of its outcome.
 visit-of : {s n : ℕ} {F G : List Float} {u : List ℕ} {r : Verdict} (out : Outcome (List Float)) (counts : List ℕ) → r ≡ verdictOf out

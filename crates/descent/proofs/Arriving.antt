@@ -14,6 +14,7 @@ use Rattle.store.proofs.Region.{getD-part, wrote-at, wrote-off, kept-wrote, kep
 use Rattle.store.proofs.Vector.{getD-tab}
 use Rattle.options.specs.declared.MultigridOptions.{MultigridOptions}
 use Rattle.refusal.specs.declared.Refusal.{Refusal}
+use Rattle.refusal.specs.Refusal.{badCoarseValue}
 use Rattle.refusal.specs.declared.Verdict.{Verdict}
 use Rattle.refusal.specs.Outcome.{accepted, refused}
 use Rattle.refusal.proofs.Outcome.{ask-yes, ask-no, then-accepted, then-refused}
@@ -319,11 +320,11 @@ module _ {w w1 : List ℕ} {F F1 : List Float} {o : MultigridOptions} {t : Works
             kept-on floats-kept (kept-less (formed .floats) (omega arith))
 
         -- A value of it is not finite.
-        pub descend-bad : n .finite ≡ false → Descended w w3 F F3 o given t s p count (Descending.Refused Refusal.BadCoarseValue)
+        pub descend-bad : n .finite ≡ false → Descended w w3 F F3 o given t s p count (Descending.Refused badCoarseValue)
         descend-bad e =
             descended-no (way-afresh o given (s .level) (s .stage) (fine given) (coefficientsAt F p) links count (numbers-yes yes) made
             ∙ then-refused (coarsenedAsked given (fine given) (x .map) (x .mesh .pattern .rows)) _
-            (ask-no (allFinite (entries (next .pattern)) (next .values)) Refusal.BadCoarseValue (accepted next) (finite ∙ e)))
+            (ask-no (allFinite (entries (next .pattern)) (next .values)) badCoarseValue (accepted next) (finite ∙ e)))
             words-under floats-under
 
         -- ---- where it arrives
@@ -435,7 +436,7 @@ module _ {w w1 : List ℕ} {F F1 : List Float} {o : MultigridOptions} {t : Works
             let told : descentAt o given w F t s p count ≡ accepted whole =
             way-afresh o given (s .level) (s .stage) (fine given) (coefficientsAt F p) links count (numbers-yes yes) made
             ∙ then-accepted (coarsenedAsked given (fine given) (x .map) (x .mesh .pattern .rows)) _
-            (ask-yes (allFinite (entries (next .pattern)) (next .values)) Refusal.BadCoarseValue (accepted next) (finite ∙ e)) in
+            (ask-yes (allFinite (entries (next .pattern)) (next .values)) badCoarseValue (accepted next) (finite ∙ e)) in
             let answer : Descending.Done rows (n .entries) stage ≡ descendingOf (accepted whole) =
             let h0 = found .counted in let h1 = size in let h2 = found .staged in cc in
             record {

@@ -14,7 +14,7 @@ use Rattle.store.specs.Vector.{filled}
 use Rattle.store.proofs.Region.{getD-part, kept-on, kept-less, kept-part}
 use Rattle.store.proofs.Vector.{getD-tab}
 use Rattle.options.specs.declared.MultigridOptions.{MultigridOptions}
-use Rattle.refusal.specs.declared.Refusal.{Refusal}
+use Rattle.refusal.specs.Refusal.{badCoarseValue}
 use Rattle.refusal.specs.declared.Verdict.{Verdict}
 use Rattle.refusal.specs.Outcome.{Outcome, accepted, refused}
 use Rattle.refusal.proofs.Outcome.{ask-yes, ask-no, then-accepted, then-refused}
@@ -250,14 +250,14 @@ module _ {w z : List ℕ} {F G : List Float} {o : MultigridOptions} {given : Boo
   finite-is = ap (λ (n : ℕ). allFinite n (first .values)) (sym (made .found)) ∙ sym (made .finite)
 
   -- A value of the first coarse matrix is not finite.
-  pub steps-bad : r .finite ≡ false → StepsDone w z F G o given t s p count (Merging.Refused Refusal.BadCoarseValue)
+  pub steps-bad : r .finite ≡ false → StepsDone w z F G o given t s p count (Merging.Refused badCoarseValue)
   steps-bad e =
       let h = ok .level .stands .placed in
       let work = ok .level .room .work in
       let below = words-below ok in
-      let told : stepsAt o given w F t s p count ≡ refused Refusal.BadCoarseValue =
+      let told : stepsAt o given w F t s p count ≡ refused badCoarseValue =
       then-refused (coarsenedAsked given fine links count) _
-      (ask-no (allFinite (entries (first .pattern)) (first .values)) Refusal.BadCoarseValue (accepted first) (finite-is ∙ e)) in
+      (ask-no (allFinite (entries (first .pattern)) (first .values)) badCoarseValue (accepted first) (finite-is ∙ e)) in
       record {
         answer = sym (ap mergingOf told);
         mesh = λ x y. let none : _≡_ {A = ℕ} 0 1 = cc in absurd (omega arith);
@@ -278,7 +278,7 @@ module _ {w z : List ℕ} {F G : List Float} {o : MultigridOptions} {given : Boo
       let same : stepsAt o given w F t s p count
       ≡ mergeAt o given z G t (p .rows) (p .links) count (r .entries) (s .stage + 1) (o .«merge_levels» - 1) (s .level + 1) =
       then-accepted (coarsenedAsked given fine links count) _
-      (ask-yes (allFinite (entries (first .pattern)) (first .values)) Refusal.BadCoarseValue (accepted first) (finite-is ∙ e))
+      (ask-yes (allFinite (entries (first .pattern)) (first .values)) badCoarseValue (accepted first) (finite-is ∙ e))
       ∙ ap (λ (c : Mesh). on (merged c links (s .stage + 1))) (sym (made .mesh))
       ∙ ap (λ (l : List ℕ). on (merged (meshAt z G given (mergedIn t count (r .entries))) l (s .stage + 1))) (sym links-kept) in
       record {

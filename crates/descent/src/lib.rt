@@ -99,7 +99,7 @@ fn first_steps(
             s.level + 1,
         );
     }
-    Merging::Refused(Refusal::BadCoarseValue)
+    Merging::Refused(refusal::BAD_COARSE_VALUE)
 }
 
 // The level's numbers, its aggregates with their positions, and the next level's matrix. The level is not the last one: its words say
@@ -139,7 +139,7 @@ pub fn descend(
                             stage: stage,
                         };
                     }
-                    Descending::Refused(Refusal::BadCoarseValue)
+                    Descending::Refused(refusal::BAD_COARSE_VALUE)
                 }
             }
         }

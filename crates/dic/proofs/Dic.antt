@@ -18,6 +18,7 @@ use Rattle.store.proofs.Region.{length-part, getD-part, getD-splice-in, getD-sp
 use Rattle.store.proofs.Vector.{length-tab, getD-tab, tab-same, for-each}
 use Rattle.store.proofs.Each.{each-at}
 use Rattle.refusal.specs.declared.Refusal.{Refusal}
+use Rattle.refusal.specs.Refusal.{badDicPivot, badDicReciprocal}
 use Rattle.refusal.specs.declared.Verdict.{Verdict}
 use Rattle.refusal.specs.Outcome.{Outcome, accepted, refused, passed, ask, askEach, askFrom}
 use Rattle.refusal.proofs.Outcome.{each-step, each-stop, each-done, each-all, each-alike}
@@ -103,11 +104,11 @@ module _ {w : List ℕ} (F : List Float) {s : SymmetricMatrix} {d : ℕ} (ok : D
 
     -- Question 16 refuses.
     pub pivots-no : {pivot : Float} {r : Bool} → pivot ≡ at G (d + row) → r ≡ isPivot pivot → r ≡ false
-        → Settled d (s .rows) (pivotsOf level here) F G (Verdict.Refused (Refusal.BadDicPivot level row))
+        → Settled d (s .rows) (pivotsOf level here) F G (Verdict.Refused (badDicPivot level row))
     unfolding pivotRow settled
     pivots-no is e t =
         let bad : isPivot (at (p .vector) row) ≡ false = rw (is, read) at (sym e ∙ t) in
-        let stop : refused (Refusal.BadDicPivot level row) ≡ pivotRow level here row (accepted (p .vector)) = rw bad in
+        let stop : refused (badDicPivot level row) ≡ pivotRow level here row (accepted (p .vector)) = rw bad in
         record { held = p .vector; wrote = p .wrote; is = sym (left-stop (p .left) h stop (λ j. refl)) }
 
 -- Every pivot is good.
@@ -134,7 +135,7 @@ invert-done {F} {G} {n} {d} {k} l h =
 module _ (level n d : ℕ) (F : List Float) where
   -- the question of a reciprocal that is written
   abbrev asks : ℕ → Outcome Unit
-  asks row = ask (isFinite (at F (d + row))) (Refusal.BadDicReciprocal level row) passed
+  asks row = ask (isFinite (at F (d + row))) (badDicReciprocal level row) passed
 
   -- The invariant of the questions: those from `row` on are what is left.
   pub record Asking (row : ℕ) : Type 0 where
@@ -157,7 +158,7 @@ module _ (level n d : ℕ) (F : List Float) where
         record { left = λ v. a .left v ∙ each-step row n asks (accepted v) h (rw good) }
 
     -- Question 17 refuses.
-    pub asking-no : r ≡ false → ReciprocalsAsked level n d F (Verdict.Refused (Refusal.BadDicReciprocal level row))
+    pub asking-no : r ≡ false → ReciprocalsAsked level n d F (Verdict.Refused (badDicReciprocal level row))
     unfolding settled
     asking-no t =
         let bad : isFinite (at F (d + row)) ≡ false = sym e ∙ t in
@@ -193,7 +194,7 @@ module _ {n d : ℕ} {F G : List Float} (fits : d + n ≤ length F) (c : Wrote d
     held = invertedOf n (part d n F);
     wrote = c;
     is = each-alike (reciprocalAsked level (part d n F)) _ (asks level n d G) n
-        (λ k h. ap (λ (x : Float). ask (isFinite x) (Refusal.BadDicReciprocal level k) passed) (sym (inverted-at k h)))
+        (λ k h. ap (λ (x : Float). ask (isFinite x) (badDicReciprocal level k) passed) (sym (inverted-at k h)))
         ∙ a .asked (invertedOf n (part d n F));
   }
 

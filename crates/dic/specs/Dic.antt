@@ -10,7 +10,7 @@ use Rattle.float.specs.Float.{sub64, div64, squareOf, zero64, one64, isFinite}
 use Rattle.store.specs.Loop.{for}
 use Rattle.store.specs.Region.{at, idx, Wrote}
 use Rattle.store.specs.Vector.{tab}
-use Rattle.refusal.specs.declared.Refusal.{Refusal}
+use Rattle.refusal.specs.Refusal.{badDicPivot, badDicReciprocal}
 use Rattle.refusal.specs.declared.Verdict.{Verdict}
 use Rattle.refusal.specs.Outcome.{Outcome, accepted, refused, passed, ask, _>>=_, _>>_, askEach}
 use Rattle.matrix.specs.declared.SymmetricMatrix.{SymmetricMatrix}
@@ -31,7 +31,7 @@ pivotFace k pivot e d =
 unfoldable pub pivotRow : ℕ → Kernel → ℕ → Outcome (List Float) → Outcome (List Float)
 pivotRow level k row o = do
   d ← o
-  ask (isPivot (at d row)) (Refusal.BadDicPivot level row)
+  ask (isPivot (at d row)) (badDicPivot level row)
   accepted (eachFace k row (pivotFace k (at d row)) d)
 
 -- the pivots, from the diagonal
@@ -40,7 +40,7 @@ pivotsOf level k = for (pivotRow level k) 0 (k .rows) (accepted (k .diagonal))
 
 -- question 17: the reciprocal of row's pivot is finite
 abbrev pub reciprocalAsked : ℕ → List Float → ℕ → Outcome Unit
-reciprocalAsked level d row = ask (isFinite (div64 one64 (at d row))) (Refusal.BadDicReciprocal level row) passed
+reciprocalAsked level d row = ask (isFinite (div64 one64 (at d row))) (badDicReciprocal level row) passed
 
 -- the reciprocals of n pivots
 abbrev pub invertedOf : ℕ → List Float → List Float
@@ -78,4 +78,4 @@ pub record Settled (b n : ℕ) (o : Outcome (List Float)) (F G : List Float) (r 
 -- the verdict on n reciprocals that stand in F at d decides how the questions go on
 pub record ReciprocalsAsked (level n d : ℕ) (F : List Float) (r : Verdict) : Type 0 where
   pub asked : (v : List Float)
-      → askEach n (λ row. ask (isFinite (at F (d + row))) (Refusal.BadDicReciprocal level row) passed) (accepted v) ≡ settled r v
+      → askEach n (λ row. ask (isFinite (at F (d + row))) (badDicReciprocal level row) passed) (accepted v) ≡ settled r v

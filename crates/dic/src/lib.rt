@@ -100,7 +100,8 @@ fn dic_pivots(w: &[u32], f: &mut [f64], s: SymmetricMatrix, d: usize, level: u64
             pivot = pivot_row(w, f, s, d, near, row, pivot);
             row += 1;
         } else {
-            return Verdict::Refused(Refusal::BadDicPivot {
+            return Verdict::Refused(Refusal {
+                number: refusal::BAD_DIC_PIVOT,
                 level: level,
                 row: row as u64,
             });
@@ -131,7 +132,8 @@ fn ask_reciprocals(f: &[f64], rows: usize, d: usize, level: u64) -> Verdict
         if float::is_finite(f[d + row]) {
             row += 1;
         } else {
-            return Verdict::Refused(Refusal::BadDicReciprocal {
+            return Verdict::Refused(Refusal {
+                number: refusal::BAD_DIC_RECIPROCAL,
                 level: level,
                 row: row as u64,
             });

@@ -15,6 +15,7 @@ use Rattle.store.specs.Vector.{filled}
 use Rattle.store.proofs.Region.{getD-part, kept-part, kept-get, kept-less, kept-self}
 use Rattle.options.specs.declared.MultigridOptions.{MultigridOptions}
 use Rattle.refusal.specs.declared.Refusal.{Refusal}
+use Rattle.refusal.specs.Refusal.{tooManyCoupled}
 use Rattle.refusal.specs.declared.Verdict.{Verdict}
 use Rattle.refusal.specs.Outcome.{Outcome, accepted, refused}
 use Rattle.refusal.proofs.Outcome.{refuses}
@@ -68,7 +69,7 @@ whole m c factor = record {
 
 module _ (o : MultigridOptions) (level : ℕ) (m : Mesh) (c : Coefficients) where
   -- Question 14 refuses.
-  last-many : o .«coarsest_cells» < coupledCountOf (m .pattern) → lastLevel o level m c ≡ refused Refusal.TooManyCoupled
+  last-many : o .«coarsest_cells» < coupledCountOf (m .pattern) → lastLevel o level m c ≡ refused tooManyCoupled
   last-many h = rw (lt-leb (coupledCountOf (m .pattern)) (o .«coarsest_cells») h)
 
   -- Question 15 refuses.
@@ -235,7 +236,7 @@ module _ {w : List ℕ} {size : ℕ} {o : MultigridOptions} {t : Workspace} {s :
 module _ {w : List ℕ} (F : List Float) {o : MultigridOptions} {t : Workspace} {s : Frontier} {p : Place} (ok : LastOk w (length F) o t s p)
     {coupled : ℕ} (count : coupled ≡ coupledCountOf (patternAt w (facesIn p))) (given : Bool) where
   -- Too many coupled rows.
-  pub ended-many : o .«coarsest_cells» < coupled → Ended w w F F o given t s p (Growth.Refused Refusal.TooManyCoupled)
+  pub ended-many : o .«coarsest_cells» < coupled → Ended w w F F o given t s p (Growth.Refused tooManyCoupled)
   ended-many h = record {
     levels = levels-refused kept-self kept-self
         (last-many o (s .level) (meshAt w F given (levelIn t p)) (coefficientsAt F p) (omega (arith, count)));

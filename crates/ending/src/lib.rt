@@ -93,7 +93,7 @@ pub fn last(
 {
     let coupled = coupled_in(w, p);
     if coupled as u64 > o.coarsest_cells {
-        return Growth::Refused(Refusal::TooManyCoupled);
+        return Growth::Refused(refusal::TOO_MANY_COUPLED);
     }
     list_coupled(w, s.a, p, coupled);
     let verdict = factor(w, f, p, coupled, s.level);

@@ -5,7 +5,7 @@ use mathlib.Core.List.{List}
 use Prim.Native.Nat.{ℕ, _+_, _≤_, _<_}
 use native.Mathlib.Omega.{arith}
 use lib.ListN.{length, set}
-use Rattle.refusal.specs.declared.Refusal.{Refusal}
+use Rattle.refusal.specs.Refusal.{missingDiagonal}
 use Rattle.refusal.specs.declared.Verdict.{Verdict}
 use Rattle.refusal.specs.Outcome.{Outcome, passed, ask, askFrom}
 use Rattle.refusal.proofs.Outcome.{ask-yes, ask-no, each-step, each-stop, each-done, verdict-passed, verdict-refused}
@@ -24,7 +24,7 @@ use Rattle.faces.proofs.Standing.{ordered-on}
 
 -- the question of row i
 abbrev pub asks : ℕ → Pattern → ℕ → Outcome Unit
-asks level p i = ask (hasEntry p i i) (Refusal.MissingDiagonal level i) passed
+asks level p i = ask (hasEntry p i i) (missingDiagonal level i) passed
 
 -- the diagonal entry of row i
 abbrev own : Pattern → ℕ → ℕ
@@ -64,20 +64,20 @@ module _ {level : ℕ} {F G : List ℕ} {s : Faces} {row : ℕ} (a : Asking leve
         ok = a .ok;
         reach = omega arith;
         asked = a .asked ∙ each-step row (s .rows) (asks level p) passed h
-            (ask-yes (hasEntry p row row) (Refusal.MissingDiagonal level row) passed (there .0));
+            (ask-yes (hasEntry p row row) (missingDiagonal level row) passed (there .0));
         is = rw (a .is, there .1) (set-tab (s .diagonals) row (own p) F);
       }
 
   -- A row without it ends the questions.
   pub asking-no : {e : ℕ} → row < s .rows → Entry G s row row e → s .entries ≤ e → DiagonalsDone F G s level
-      (Verdict.Refused (Refusal.MissingDiagonal level row))
+      (Verdict.Refused (missingDiagonal level row))
   asking-no {e} h at l =
       let p = patternAt F s in
       let none = entry-missing (a .ok .ordered) (entry-back (a .ok .ordered .standing) asking-kept at) l in
       let reach = a .reach in
       record {
         verdict = sym (verdict-refused (diagonalsAsked level p) (a .asked ∙ each-stop row (s .rows) (asks level p) passed h
-            (ask-no (hasEntry p row row) (Refusal.MissingDiagonal level row) passed none)));
+            (ask-no (hasEntry p row row) (missingDiagonal level row) passed none)));
         diagonals = λ t. let z : _≡_ {A = ℕ} 0 1 = cc in absurd (omega arith);
         only = wrote-only (s .diagonals) (s .rows) (tab (own p) row) F G (a .is) (rw (length-tab (own p) row) reach) (a .ok .room);
       }

@@ -4,7 +4,7 @@ use mathlib.Core.Bool.{Bool, _&&_, not}
 use mathlib.Core.List.{List}
 use Prim.Native.Nat.{ℕ, _+_, _-_}
 use lib.Dec.{eqb, ltb}
-use Rattle.refusal.specs.declared.Refusal.{Refusal}
+use Rattle.refusal.specs.Refusal.{missingDiagonal}
 use Rattle.refusal.specs.Outcome.{Outcome, passed, ask, askEach}
 use Rattle.store.specs.Region.{idx}
 use Rattle.store.specs.Vector.{tab, each}
@@ -59,7 +59,7 @@ lowersOf p = tab (λ k. mirrorOf p (idx (uppersOf p) k)) (facesOf p)
 
 -- question 11, row by row: whether each has its diagonal entry
 unfoldable pub diagonalsAsked : ℕ → Pattern → Outcome Unit
-diagonalsAsked level p = askEach (p .rows) (λ i. ask (hasEntry p i i) (Refusal.MissingDiagonal level i) passed) passed
+diagonalsAsked level p = askEach (p .rows) (λ i. ask (hasEntry p i i) (missingDiagonal level i) passed) passed
 
 -- `diagonal_entries`: the diagonal entry of each row
 unfoldable pub diagonalsOf : Pattern → List ℕ

@@ -14,6 +14,7 @@ use Rattle.store.proofs.Each.{both-l, both-r}
 use Rattle.store.proofs.Region.{length-part, kept-self, kept-on, kept-less}
 use Rattle.options.specs.declared.MultigridOptions.{MultigridOptions}
 use Rattle.refusal.specs.declared.Refusal.{Refusal}
+use Rattle.refusal.specs.Refusal.{storeTooSmall}
 use Rattle.refusal.specs.Outcome.{Outcome, accepted, refused, _>>=_, ask}
 use Rattle.refusal.proofs.Outcome.{ask-yes, ask-no, then-accepted, then-refused}
 use Rattle.values.specs.Update.{Coefficients}
@@ -104,7 +105,7 @@ leftOf m d = record { shape = innerShape (m .pattern) (d .steps .map) (d .steps 
 -- the rest of `innerLevel` after the descent: 9 of the next level, and the levels from there
 abbrev furtherOf : (ℕ → Charge → Mesh → Outcome (List Level)) → Charge → Charge → Mesh → Descent → Outcome (List Level)
 furtherOf deeper stores used m d =
-    ask (holds stores (andLevel (d .next .pattern) used)) Refusal.StoreTooSmall
+    ask (holds stores (andLevel (d .next .pattern) used)) storeTooSmall
     (before (leftOf m d) (deeper (d .steps .stage) (andLevel (d .next .pattern) used) (nextOf d)))
 
 -- A level with aggregates is the descent and that rest.
@@ -573,11 +574,11 @@ module _ {w z : List ℕ} {F : List Float} {o : MultigridOptions} {given : Bool}
         abbrev deepest : Outcome (List Level)
         deepest = deeperOf o given stores (s .more) (s .level) (made .steps .stage) (andLevel (made .next .pattern) used) (nextOf made)
 
-        further : pairedAt o given w F t s p ≡ ask held Refusal.StoreTooSmall (before (leftOf m made) deepest)
+        further : pairedAt o given w F t s p ≡ ask held storeTooSmall (before (leftOf m made) deepest)
         further = leads
             ∙ then-accepted (descentAt o given z F t s p count) (furtherOf (deeperOf o given stores (s .more) (s .level)) stores used m)
             (answered .is)
-            ∙ ap (λ (x : Bool). ask x Refusal.StoreTooSmall (before (leftOf m made) deepest)) held-is
+            ∙ ap (λ (x : Bool). ask x storeTooSmall (before (leftOf m made) deepest)) held-is
 
         next-mesh : frontierAt y G given t n ≡ nextOf made
         next-mesh = ap (λ (k : ℕ). meshAt y G given (nextIn t k entered)) (answered .rows)
@@ -651,7 +652,7 @@ module _ {w z : List ℕ} {F : List Float} {o : MultigridOptions} {given : Bool}
           floatsend = arrived .floatsend;
           above = edges .above;
           over = edges .over;
-          outcome = further ∙ ask-yes held Refusal.StoreTooSmall (before (leftOf m made) deepest) fit
+          outcome = further ∙ ask-yes held storeTooSmall (before (leftOf m made) deepest) fit
               ∙ ap (λ (l : Level). before l deepest) level-is ∙ ap (before (levelAt y G (s .a) (s .b))) deepest-is;
           words = words-down;
           floats = down .floats;
@@ -664,7 +665,7 @@ module _ {w z : List ℕ} {F : List Float} {o : MultigridOptions} {given : Bool}
             go : (x : Bool) → held ≡ x → Advanced w y F G o given t s (pairedAt o given w F t s p) (pickOnward x n)
             go true fit = advanced-next (ahead fit)
             go false lack = advanced-ended (levels-refused words-down (down .floats)
-                (further ∙ ask-no held Refusal.StoreTooSmall (before (leftOf m made) deepest) lack))
+                (further ∙ ask-no held storeTooSmall (before (leftOf m made) deepest) lack))
 
 -- ---- a level that is laid
 
@@ -748,17 +749,17 @@ module _ {w z : List ℕ} {F G : List Float} {o : MultigridOptions} {given : Boo
 -- ---- question 9 of the next level
 
 -- Of two tests the second fails.
-pick-lack : (a b : Bool) (n : Frontier) → b ≡ false → Onward.Ended (Growth.Refused Refusal.StoreTooSmall) ≡ pickOnward (a && b) n
+pick-lack : (a b : Bool) (n : Frontier) → b ≡ false → Onward.Ended (Growth.Refused storeTooSmall) ≡ pickOnward (a && b) n
 pick-lack true b n e = rw e
 pick-lack false b n e = refl
 
 module _ (words floats : ℕ) (n : Frontier) where
   -- The words do not hold the charge.
-  pub words-short : words < n .words → Onward.Ended (Growth.Refused Refusal.StoreTooSmall) ≡ chargedOf words floats n
+  pub words-short : words < n .words → Onward.Ended (Growth.Refused storeTooSmall) ≡ chargedOf words floats n
   words-short h = let e : leb (n .words) words ≡ false = lt-leb (n .words) words h in rw e
 
   -- The floats do not.
-  pub floats-short : floats < n .floats → Onward.Ended (Growth.Refused Refusal.StoreTooSmall) ≡ chargedOf words floats n
+  pub floats-short : floats < n .floats → Onward.Ended (Growth.Refused storeTooSmall) ≡ chargedOf words floats n
   floats-short h = pick-lack (leb (n .words) words) (leb (n .floats) floats) n (lt-leb (n .floats) floats h)
 
   -- Both do.

@@ -8,7 +8,7 @@ use lib.ListN.{length}
 use lib.Ieee.{Float}
 use Rattle.store.specs.Region.{Kept}
 use Rattle.options.specs.declared.MultigridOptions.{MultigridOptions}
-use Rattle.refusal.specs.declared.Refusal.{Refusal}
+use Rattle.refusal.specs.Refusal.{storeTooSmall}
 use Rattle.refusal.specs.Outcome.{Outcome, accepted, _>>=_}
 use Rattle.values.specs.Update.{Coefficients}
 use Rattle.hierarchy.specs.Level.{Level}
@@ -90,7 +90,7 @@ nextAfter s p count entries stage = record {
 -- the next frontier, or question 9's refusal
 abbrev pub pickOnward : Bool → Frontier → Onward
 pickOnward true n = Onward.Next n
-pickOnward false n = Onward.Ended (Growth.Refused Refusal.StoreTooSmall)
+pickOnward false n = Onward.Ended (Growth.Refused storeTooSmall)
 
 -- question 9 of the next level, in stores of so many words and floats
 abbrev pub chargedOf : ℕ → ℕ → Frontier → Onward

@@ -11,7 +11,6 @@ use laying::Frontier;
 use laying::Laying;
 use layout::Place;
 use options::MultigridOptions;
-use refusal::Refusal;
 
 // Where a level leads: the levels end with it, or there is a next one.
 pub enum Onward {
@@ -35,10 +34,10 @@ fn charged(
     let more_words = 5 * count + 4 * entries + 8;
     let more_floats = 20 * count + 4 * entries;
     if words - s.words < more_words {
-        return Onward::Ended(Growth::Refused(Refusal::StoreTooSmall));
+        return Onward::Ended(Growth::Refused(refusal::STORE_TOO_SMALL));
     }
     if floats - s.floats < more_floats {
-        return Onward::Ended(Growth::Refused(Refusal::StoreTooSmall));
+        return Onward::Ended(Growth::Refused(refusal::STORE_TOO_SMALL));
     }
     Onward::Next(Frontier {
         rows: count,

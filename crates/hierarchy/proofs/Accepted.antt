@@ -10,6 +10,7 @@ use lib.Dec.{eqb, leb}
 use lib.ListN.{length}
 use Rattle.options.specs.declared.MultigridOptions.{MultigridOptions}
 use Rattle.refusal.specs.declared.Refusal.{Refusal}
+use Rattle.refusal.specs.Refusal.{invalidControls, notCholesky, noRows, storeTooSmall, unequalMirrors, tooManyCoupled, badCoarseValue}
 use Rattle.options.specs.Options.{validOf, isCholesky, controlsAsked}
 use Rattle.refusal.specs.Outcome.{Outcome, accepted, refused, passed, ask, _>>=_}
 use Rattle.vector.specs.Dot.{allFinite}
@@ -47,7 +48,7 @@ pub coarsened-is : (given : Bool) (m : Mesh) (map : List ℕ) (count : ℕ) {c :
     → let d = coarsened given m map count in (allFinite (entries (d .pattern)) (d .values) ≡ true) × (d ≡ c)
 coarsened-is given m map count e =
     let d = coarsened given m map count in
-    let s = ask-split (allFinite (entries (d .pattern)) (d .values)) Refusal.BadCoarseValue (accepted d) e in
+    let s = ask-split (allFinite (entries (d .pattern)) (d .values)) badCoarseValue (accepted d) e in
     (s .0, accepted-one (s .1))
 
 -- ---- a level
@@ -66,7 +67,7 @@ module _ (o : MultigridOptions) (level : ℕ) (m : Mesh) (levels : List Level) w
   last-is c k e =
       let made = lastNumbers o level (lastShape (m .pattern)) (m .values) c in
       let end : Numbers → Outcome (List Level) = λ n. accepted (record { shape = lastShape (m .pattern); numbers = n } ∷ []) in
-      let s = ask-split (fewCoupled o (m .pattern)) Refusal.TooManyCoupled (_>>=_ made end) e in
+      let s = ask-split (fewCoupled o (m .pattern)) tooManyCoupled (_>>=_ made end) e in
       let t = then-split made end (s .1) in
       record { own = c; kernel = k; few = s .0; numbers = t .0; made = t .1; is = accepted-one (t .2) }
 
@@ -100,7 +101,7 @@ module _ (o : MultigridOptions) (given : Bool) (deeper : ℕ → Charge → Mesh
         let b = then-split (coarsenedAsked given m (g .map) (g .count)) _ (a .2) in
         let s = then-split (mergeOf o given (o .«merge_levels» - 1) (level + 1) (merged (b .0) (g .map) (stage + 1))) _ (b .2) in
         let n = then-split (coarsenedAsked given m (s .0 .map) (s .0 .mesh .pattern .rows)) _ (s .2) in
-        let f = ask-split (holds stores (andLevel (n .0 .pattern) used)) Refusal.StoreTooSmall _ (n .2) in
+        let f = ask-split (holds stores (andLevel (n .0 .pattern) used)) storeTooSmall _ (n .2) in
         let d = then-split (deeper (s .0 .stage) (andLevel (n .0 .pattern) used) (onward (n .0) (s .0))) _ (f .1) in
         record {
           own = c;
@@ -271,17 +272,17 @@ build-built l x e =
     let a = then-split (matrixAsked (x .rows) (x .offsets) (x .columns) (x .values)) _ e in
     let b = then-split (cond (x .given) (weightsAsked (entries p) (x .weights)) passed) _ (a .2) in
     let c = then-split (controlsAsked o) _ (b .2) in
-    let valid = ask-split (validOf o) Refusal.InvalidControls _ (c .1) in
-    let rows = ask-split (leb 1 (x .rows)) Refusal.NoRows _ (c .2) in
-    let room = ask-split (holds (l .stores) (fixedIn x) && leb (o .«max_levels») (l .records)) Refusal.StoreTooSmall _ (rows .1) in
-    let paid = ask-split (holds (l .stores) (chargeIn x)) Refusal.StoreTooSmall _ (room .1) in
-    let even = ask-split (symmetricOf p (x .values)) Refusal.UnequalMirrors _ (paid .1) in
+    let valid = ask-split (validOf o) invalidControls _ (c .1) in
+    let rows = ask-split (leb 1 (x .rows)) noRows _ (c .2) in
+    let room = ask-split (holds (l .stores) (fixedIn x) && leb (o .«max_levels») (l .records)) storeTooSmall _ (rows .1) in
+    let paid = ask-split (holds (l .stores) (chargeIn x)) storeTooSmall _ (room .1) in
+    let even = ask-split (symmetricOf p (x .values)) unequalMirrors _ (paid .1) in
     let g = then-split (growOf o (x .given) (l .stores) (o .«max_levels» - 1) 0 0 (chargeIn x) (meshIn x)) _ (even .1) in
     record {
       matrix = a .1;
       weights = b .1;
       controls = valid .0;
-      solver = ask-split (isCholesky (o .«coarse_solver»)) Refusal.NotCholesky _ (valid .1) .0;
+      solver = ask-split (isCholesky (o .«coarse_solver»)) notCholesky _ (valid .1) .0;
       rows = rows .0;
       room = room .0;
       paid = paid .0;

@@ -11,6 +11,7 @@ use borrow.Author.Tests.{leb-true, le-leb}
 use Rattle.store.proofs.Each.{both-l, both-r}
 use Rattle.options.specs.declared.MultigridOptions.{MultigridOptions}
 use Rattle.refusal.specs.declared.Refusal.{Refusal}
+use Rattle.refusal.specs.Refusal.{noRows, storeTooSmall, unequalMirrors}
 use Rattle.options.specs.Options.{within, validOf, controlsAsked, tolerable}
 use Rattle.refusal.specs.Outcome.{Outcome, accepted, passed, ask, _>>=_}
 use Rattle.pattern.specs.Pattern.{entries}
@@ -140,7 +141,7 @@ module _ (o : MultigridOptions) (given : Bool) {stores bigger : Charge} (big : L
       then-keeps (mergeOf o given (o .«merge_levels» - 1) (level + 1) (merged first (g .map) (stage + 1))) _ _ (λ s.
       then-keeps (coarsenedAsked given m (s .map) (s .mesh .pattern .rows)) _ _ (λ next.
       let paid = andLevel (next .pattern) used in
-      ask-keeps (holds stores paid) (holds bigger paid) Refusal.StoreTooSmall _ _ (holds-larger big paid) (λ e.
+      ask-keeps (holds stores paid) (holds bigger paid) storeTooSmall _ _ (holds-larger big paid) (λ e.
       let d = then-split (deeper (s .stage) paid (onward next s)) _ e in
       rw (on (s .stage) paid (onward next s) (d .0) (d .1)) (d .2))))))))))
 
@@ -164,11 +165,11 @@ build-larger {l} {bigger} big x =
     then-keeps (matrixAsked (x .rows) (x .offsets) (x .columns) (x .values)) _ _ (λ _.
     then-keeps (cond (x .given) (weightsAsked (entries p) (x .weights)) passed) _ _ (λ _.
     then-keeps (controlsAsked o) _ _ (λ _.
-    ask-keeps (leb 1 (x .rows)) (leb 1 (x .rows)) Refusal.NoRows _ _ (λ e. e) (
-    ask-keeps (room l) (room bigger) Refusal.StoreTooSmall _ _ roomy (
-    ask-keeps (holds (l .stores) (chargeIn x)) (holds (bigger .stores) (chargeIn x)) Refusal.StoreTooSmall _ _
+    ask-keeps (leb 1 (x .rows)) (leb 1 (x .rows)) noRows _ _ (λ e. e) (
+    ask-keeps (room l) (room bigger) storeTooSmall _ _ roomy (
+    ask-keeps (holds (l .stores) (chargeIn x)) (holds (bigger .stores) (chargeIn x)) storeTooSmall _ _
     (holds-larger (big .stores) (chargeIn x)) (
-    ask-keeps (symmetricOf p (x .values)) (symmetricOf p (x .values)) Refusal.UnequalMirrors _ _ (λ e. e) (λ e.
+    ask-keeps (symmetricOf p (x .values)) (symmetricOf p (x .values)) unequalMirrors _ _ (λ e. e) (λ e.
     let g = then-split (growOf o (x .given) (l .stores) (o .«max_levels» - 1) 0 0 (chargeIn x) (meshIn x)) _ e in
     rw (grow-larger o (x .given) (big .stores) (o .«max_levels» - 1) 0 0 (chargeIn x) (meshIn x) (g .1)) (g .2))))))))
   where

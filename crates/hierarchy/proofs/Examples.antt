@@ -14,7 +14,7 @@ use Rattle.options.specs.declared.MultigridOptions.{MultigridOptions}
 use Rattle.options.specs.declared.MultigridSmoother.{MultigridSmoother}
 use Rattle.options.specs.declared.MultigridResidualNorm.{MultigridResidualNorm}
 use Rattle.options.specs.declared.MultigridCoarseSolver.{MultigridCoarseSolver}
-use Rattle.refusal.specs.declared.Refusal.{Refusal}
+use Rattle.refusal.specs.Refusal.{badOffsets, badColumns, invalidControls, noRows, storeTooSmall, unequalMirrors, missingDiagonal, badDiagonal, badReciprocal, tooManyCoupled, badPivot}
 use Rattle.options.specs.Options.{validOf}
 use Rattle.refusal.specs.Outcome.{Outcome, accepted, refused, askRows}
 use Rattle.vector.specs.Dot.{allFinite}
@@ -162,18 +162,18 @@ refusals : (
     ∷ buildOf ample (small (four ∷ minusTwo ∷ minusTwo ∷ ofBits binary64 1 ∷ []))
     ∷ buildOf ample (small (four ∷ minusTwo ∷ minusTwo ∷ one64 ∷ []))
     ∷ []) ≡ (
-    refused Refusal.BadOffsets
-    ∷ refused Refusal.BadColumns
-    ∷ refused Refusal.InvalidControls
-    ∷ refused Refusal.NoRows
-    ∷ refused Refusal.StoreTooSmall
-    ∷ refused Refusal.StoreTooSmall
-    ∷ refused Refusal.UnequalMirrors
-    ∷ refused Refusal.UnequalMirrors
-    ∷ refused (Refusal.MissingDiagonal 0 1)
-    ∷ refused (Refusal.BadDiagonal 0 1)
-    ∷ refused (Refusal.BadReciprocal 0 1)
-    ∷ refused (Refusal.BadPivot 0 1)
+    refused badOffsets
+    ∷ refused badColumns
+    ∷ refused invalidControls
+    ∷ refused noRows
+    ∷ refused storeTooSmall
+    ∷ refused storeTooSmall
+    ∷ refused unequalMirrors
+    ∷ refused unequalMirrors
+    ∷ refused (missingDiagonal 0 1)
+    ∷ refused (badDiagonal 0 1)
+    ∷ refused (badReciprocal 0 1)
+    ∷ refused (badPivot 0 1)
     ∷ [])
 unfolding buildOf symmetricOf growOf withSums csr.sizeOk csr.neverFall csr.offsetsOk csr.entryOk csr.rowOk csr.stepOk csr.rowAt csr.entryFrom csr.columnsOk validOf isFinite lt le eq ofBits add sub mul div sqrtOf each tab for iter askRows mirrorsAgree mirrorsEqual pattern.some pattern.howMany pattern.those pattern.rowOf faces.above faces.facesOf faces.uppersOf faces.faceOffsetsOf faces.neighborsOf faces.hasEntry faces.standsAt faces.mirroredOf faces.lowersOf faces.diagonalsAsked faces.diagonalsOf faces.coupledOf faces.coupledCountOf faces.coupledRowsOf updateOf diagonalAsked isPositive tri factor.seekOf factor.getOf lessOf factor.restOf factor.columnOf factor.columnsOf factor.goodPivot factor.rowOf factor.rowsOf factor.choleskyOf sumFace sumRow rowSumsOf
 refusals = refl
@@ -230,7 +230,7 @@ two-levels = refl
 -- allowed. An end of two cells is taken, with the aggregates 0 0 1 1 and the coarse matrix 2, −1; −1, 2. Two steps to a level lead to
 -- one row, 2, which is not coupled: there an end of one cell is taken.
 pub record PathBuilds : Type 0 where
-  pub refuses : buildOf ample (path 1 1) ≡ refused Refusal.TooManyCoupled
+  pub refuses : buildOf ample (path 1 1) ≡ refused tooManyCoupled
   pub aggregates : linksIn (buildOf ample (path 2 1)) ≡ (0 ∷ 0 ∷ 1 ∷ 1 ∷ []) ∷ (0 ∷ 1 ∷ []) ∷ []
   pub coarser : valuesIn (buildOf ample (path 2 1)) ≡ path 2 1 .values ∷ (two ∷ minusOne ∷ minusOne ∷ two ∷ []) ∷ []
   pub merges : linksIn (buildOf ample (path 1 2)) ≡ (0 ∷ 0 ∷ 0 ∷ 0 ∷ []) ∷ [] ∷ []

@@ -6,7 +6,7 @@ use lib.Dec.{eqb, leb}
 use lib.ListN.{length}
 use lib.Ieee.{Float}
 use Rattle.options.specs.declared.MultigridOptions.{MultigridOptions}
-use Rattle.refusal.specs.declared.Refusal.{Refusal}
+use Rattle.refusal.specs.Refusal.{noRows, storeTooSmall, unequalMirrors, tooManyCoupled, badCoarseValue}
 use Rattle.options.specs.Options.{controlsAsked}
 use Rattle.refusal.specs.Outcome.{Outcome, accepted, passed, ask, _>>=_, _>>_}
 use Rattle.vector.specs.Dot.{allFinite}
@@ -117,7 +117,7 @@ module _ (given : Bool) where
   abbrev pub coarsenedAsked : Mesh → List ℕ → ℕ → Outcome Mesh
   coarsenedAsked m map count =
       let c = coarsened m map count in
-      ask (allFinite (entries (c .pattern)) (c .values)) Refusal.BadCoarseValue (accepted c)
+      ask (allFinite (entries (c .pattern)) (c .values)) badCoarseValue (accepted c)
 
 module _ (o : MultigridOptions) where
   -- whether few enough rows are coupled for the last level
@@ -131,7 +131,7 @@ module _ (o : MultigridOptions) where
   -- the last level: question 14, then 15
   abbrev pub lastLevel : ℕ → Mesh → Coefficients → Outcome (List Level)
   lastLevel level m c = do
-    ask (fewCoupled (m .pattern)) Refusal.TooManyCoupled
+    ask (fewCoupled (m .pattern)) tooManyCoupled
     n ← lastNumbers o level (lastShape (m .pattern)) (m .values) c
     accepted (record { shape = lastShape (m .pattern); numbers = n } ∷ [])
 
@@ -167,7 +167,7 @@ module _ (o : MultigridOptions) (given : Bool) where
     first ← coarsenedAsked given m (g .map) (g .count)
     s ← mergeOf (o .«merge_levels» - 1) (level + 1) (merged first (g .map) (stage + 1))
     next ← coarsenedAsked given m (s .map) (s .mesh .pattern .rows)
-    ask (holds stores (andLevel (next .pattern) used)) Refusal.StoreTooSmall
+    ask (holds stores (andLevel (next .pattern) used)) storeTooSmall
     levels ← deeper (s .stage) (andLevel (next .pattern) used) (record { pattern = next .pattern; values = next .values; weights = s .mesh .weights })
     accepted (record { shape = innerShape (m .pattern) (s .map) (s .mesh .pattern .rows); numbers = n } ∷ levels)
 
@@ -222,9 +222,9 @@ buildOf l x = do
   _ ← matrixAsked (x .rows) (x .offsets) (x .columns) (x .values)
   _ ← cond (x .given) (weightsAsked (entries p) (x .weights)) passed
   _ ← controlsAsked o
-  ask (leb 1 (x .rows)) Refusal.NoRows
-  ask (holds (l .stores) fixed && leb (o .«max_levels») (l .records)) Refusal.StoreTooSmall
-  ask (holds (l .stores) (andLevel p fixed)) Refusal.StoreTooSmall
-  ask (symmetricOf p (x .values)) Refusal.UnequalMirrors
+  ask (leb 1 (x .rows)) noRows
+  ask (holds (l .stores) fixed && leb (o .«max_levels») (l .records)) storeTooSmall
+  ask (holds (l .stores) (andLevel p fixed)) storeTooSmall
+  ask (symmetricOf p (x .values)) unequalMirrors
   levels ← growOf o (x .given) (l .stores) (o .«max_levels» - 1) 0 0 (andLevel p fixed) (meshIn x)
   accepted (withSums o levels)

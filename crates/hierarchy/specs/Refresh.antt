@@ -9,7 +9,7 @@ use Rattle.store.specs.Vector.{filled}
 use Rattle.options.specs.declared.MultigridOptions.{MultigridOptions}
 use Rattle.options.specs.declared.MultigridSmoother.{MultigridSmoother}
 use Rattle.options.specs.declared.MultigridResidualNorm.{MultigridResidualNorm}
-use Rattle.refusal.specs.declared.Refusal.{Refusal}
+use Rattle.refusal.specs.Refusal.{badCoarseValue}
 use Rattle.refusal.specs.Outcome.{Outcome, accepted, ask, _>>=_, _>>_}
 use Rattle.vector.specs.Dot.{allFinite}
 use Rattle.matrix.specs.Kernel.{Kernel, rowSumsOf}
@@ -85,7 +85,7 @@ module _ (o : MultigridOptions) where
     accepted (record { shape = s; numbers = n } ∷ [])
   refreshOf level (s ∷ t ∷ rest) values = do
     n ← numbersOf level s values
-    ask (allFinite (entries (t .pattern)) (coarseValues s t values)) Refusal.BadCoarseValue
+    ask (allFinite (entries (t .pattern)) (coarseValues s t values)) badCoarseValue
     deeper ← refreshOf (level + 1) (t ∷ rest) (coarseValues s t values)
     accepted (record { shape = s; numbers = n } ∷ deeper)
 

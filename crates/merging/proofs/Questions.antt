@@ -9,6 +9,7 @@ use lib.ListN.{length}
 use lib.Ieee.{Float, lt}
 use Rattle.float.specs.Float.{div64, zero64, one64, isFinite}
 use Rattle.refusal.specs.declared.Refusal.{Refusal}
+use Rattle.refusal.specs.Refusal.{badDiagonal, badReciprocal}
 use Rattle.refusal.specs.declared.Verdict.{Verdict}
 use Rattle.refusal.specs.Outcome.{Outcome, passed, askFrom, askEach, verdictOf}
 use Rattle.refusal.proofs.Outcome.{each-step, each-stop, each-done, passes, refuses}
@@ -21,13 +22,13 @@ use Rattle.merging.specs.Steps.{RowsOk, RowsAsked}
 
 module _ (level row : ℕ) (d : Float) {p : Bool} (e : p ≡ isFinite d) where
   -- Question 12 refuses.
-  pub row-bad : p && lt zero64 d ≡ false → Verdict.Refused (Refusal.BadDiagonal level row) ≡ verdictOf (diagonalAsked level row d)
+  pub row-bad : p && lt zero64 d ≡ false → Verdict.Refused (badDiagonal level row) ≡ verdictOf (diagonalAsked level row d)
   unfolding diagonalAsked isPositive
   row-bad t = rw (← e, t)
 
   module _ (yes : p && lt zero64 d ≡ true) {q : Bool} (i : q ≡ isFinite (div64 one64 d)) where
     -- Question 13 refuses.
-    pub row-bad-reciprocal : q ≡ false → Verdict.Refused (Refusal.BadReciprocal level row) ≡ verdictOf (diagonalAsked level row d)
+    pub row-bad-reciprocal : q ≡ false → Verdict.Refused (badReciprocal level row) ≡ verdictOf (diagonalAsked level row d)
     unfolding diagonalAsked isPositive
     row-bad-reciprocal t = rw (← e, yes, ← i, t)
 

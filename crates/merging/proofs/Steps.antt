@@ -11,6 +11,7 @@ use lib.ListN.{length}
 use lib.Ieee.{Float}
 use Rattle.options.specs.declared.MultigridOptions.{MultigridOptions}
 use Rattle.refusal.specs.declared.Refusal.{Refusal}
+use Rattle.refusal.specs.Refusal.{badCoarseValue}
 use Rattle.refusal.specs.Outcome.{Outcome, accepted, refused}
 use Rattle.store.specs.Region.{part, Kept}
 use Rattle.store.proofs.Region.{kept-on, kept-less, kept-self, kept-part}
@@ -192,7 +193,7 @@ module _ {w : List ℕ} (F : List Float) {t : Workspace} {rows map count most st
 
           -- A value of the coarse matrix is not finite.
           pub merge-bad : r .finite ≡ false
-              → MergeDone o given w y F G t rows map count most stage steps level (Merging.Refused Refusal.BadCoarseValue)
+              → MergeDone o given w y F G t rows map count most stage steps level (Merging.Refused badCoarseValue)
           merge-bad b = merge-refuses (stepped ∙ rw (← counted, less, sym finite ∙ b)) frame (j .floats)
 
           module _ (good : r .finite ≡ true) where

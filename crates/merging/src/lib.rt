@@ -91,12 +91,14 @@ fn check_row(d: f64, level: u64, row: u64) -> Verdict
         if float::is_finite(1.0 / d) {
             return Verdict::Passed;
         }
-        return Verdict::Refused(Refusal::BadReciprocal {
+        return Verdict::Refused(Refusal {
+            number: refusal::BAD_RECIPROCAL,
             level: level,
             row: row,
         });
     }
-    Verdict::Refused(Refusal::BadDiagonal {
+    Verdict::Refused(Refusal {
+        number: refusal::BAD_DIAGONAL,
         level: level,
         row: row,
     })
@@ -243,7 +245,7 @@ pub fn merge(
                     level,
                 );
             }
-            Merging::Refused(Refusal::BadCoarseValue)
+            Merging::Refused(refusal::BAD_COARSE_VALUE)
         }
     }
 }

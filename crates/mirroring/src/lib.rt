@@ -95,7 +95,8 @@ pub fn diagonals(w: &mut [u32], s: Faces, level: u64) -> Verdict
             w[to + row] = e as u32;
             row += 1;
         } else {
-            return Verdict::Refused(Refusal::MissingDiagonal {
+            return Verdict::Refused(Refusal {
+                number: refusal::MISSING_DIAGONAL,
                 level: level,
                 row: row as u64,
             });

@@ -16,6 +16,7 @@ use Rattle.store.proofs.Each.{both-r}
 use Rattle.options.specs.declared.MultigridOptions.{MultigridOptions}
 use Rattle.options.specs.declared.Handle.{Handle}
 use Rattle.refusal.specs.declared.Refusal.{Refusal}
+use Rattle.refusal.specs.Refusal.{noRows, storeTooSmall}
 use Rattle.options.specs.Options.{controlsAsked}
 use Rattle.refusal.specs.Outcome.{Outcome, accepted, refused, passed}
 use Rattle.pattern.specs.Pattern.{entries}
@@ -43,8 +44,8 @@ records-enough l x e =
     let a = then-split (matrixAsked (x .rows) (x .offsets) (x .columns) (x .values)) _ e in
     let b = then-split (cond (x .given) (weightsAsked (entries (patternIn x)) (x .weights)) passed) _ (a .2) in
     let c = then-split (controlsAsked o) _ (b .2) in
-    let rows = ask-split (leb 1 (x .rows)) Refusal.NoRows _ (c .2) in
-    let room = ask-split (holds (l .stores) (fixedIn x) && leb (o .«max_levels») (l .records)) Refusal.StoreTooSmall _ (rows .1) in
+    let rows = ask-split (leb 1 (x .rows)) noRows _ (c .2) in
+    let room = ask-split (holds (l .stores) (fixedIn x) && leb (o .«max_levels») (l .records)) storeTooSmall _ (rows .1) in
     leb-true (o .«max_levels») (l .records) (both-r (holds (l .stores) (fixedIn x)) _ (room .0))
 
 -- Only an accepted build answers with a handle, and with its own,

@@ -15,7 +15,7 @@ use Rattle.store.proofs.Vector.{length-tab}
 use Rattle.options.specs.declared.MultigridOptions.{MultigridOptions}
 use Rattle.options.specs.declared.Handle.{Handle}
 use Rattle.options.specs.declared.solver.LinearSolverOptions.{LinearSolverOptions}
-use Rattle.refusal.specs.declared.Refusal.{Refusal}
+use Rattle.refusal.specs.Refusal.{unsoundStores}
 use Rattle.refusal.specs.Outcome.{Outcome, accepted, refused}
 use Rattle.refusal.proofs.Outcome.{ask-yes}
 use Rattle.hierarchy.specs.Level.{Shape, Level, Hierarchy}
@@ -82,7 +82,7 @@ solved-of : (h : Handle) (w : List ℕ) (F : List Float) (t : List ℕ) (rhs sta
     → solvedOf h w F t rhs start s ≡ solveOf (systemOf o b) s rhs start (countersOf (h .levels) t)
 solved-of h w F t rhs start s {o} sound controls view =
     let k = countersOf (h .levels) t in
-    ask-yes (soundOf h w (length F) (length t / 4)) Refusal.UnsoundStores (solvedAt h w F t rhs start s) sound
+    ask-yes (soundOf h w (length F) (length t / 4)) unsoundStores (solvedAt h w F t rhs start s) sound
     ∙ ap (λ (o : MultigridOptions). solveOf (systemOf o (viewOf (h .levels) w F 0)) s rhs start k) controls
     ∙ ap (λ (b : Hierarchy). solveOf (systemOf o b) s rhs start k) view
 
@@ -172,7 +172,7 @@ module _ {h : Handle} {w : List ℕ} {F : List Float} {t : List ℕ} {x : Input}
   update-holds {offsets = offsets} {columns = columns} {values = values} {r = r} c =
       let out = updatedAt h w F offsets columns values in
       let same : updatedOf h w F t offsets columns values ≡ out =
-      ask-yes (soundOf h w (length F) (length t / 4)) Refusal.UnsoundStores out (i .sound) in
+      ask-yes (soundOf h w (length F) (length t / 4)) unsoundStores out (i .sound) in
       booked-holds offsets columns values r out refl (c .done .answer ∙ ap refreshing.answerOf same)
       (c .done .view ∙ ap (hierarchyOf (viewOf (h .levels) w F 0)) same) (c .done .size)
 

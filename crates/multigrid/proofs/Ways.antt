@@ -12,7 +12,7 @@ use Rattle.store.specs.Region.{Kept}
 use Rattle.store.proofs.Region.{kept-self}
 use Rattle.options.specs.declared.Handle.{Handle}
 use Rattle.options.specs.declared.solver.LinearSolverOptions.{LinearSolverOptions}
-use Rattle.refusal.specs.declared.Refusal.{Refusal}
+use Rattle.refusal.specs.Refusal.{unsoundStores}
 use Rattle.layout.specs.Layout.{viewOf}
 use Rattle.sound.specs.Sound.{soundOf, scratchStart}
 use Rattle.solve.specs.declared.Solved.{Solved}
@@ -36,7 +36,7 @@ solve-sound {h} {w} e d = record { done = rw e d; view = view-same (h .levels) w
 
 -- It does not: nothing is written.
 pub solve-unsound : {h : Handle} {w : List ℕ} {F : List Float} {t : List ℕ} {rhs x : List Float} {s : LinearSolverOptions}
-    → soundOf h w (length F) (length t / 4) ≡ false → SolveCall h w F F t t rhs x x s (Solved.Refused Refusal.UnsoundStores)
+    → soundOf h w (length F) (length t / 4) ≡ false → SolveCall h w F F t t rhs x x s (Solved.Refused unsoundStores)
 solve-unsound e = record { done = rw e (record { answer = refl; solution = refl; statistics = refl; floats = kept-self }); view = refl }
 
 -- ---- update
@@ -49,7 +49,7 @@ update-sound e d = record { done = rw e d }
 
 -- It does not: nothing is written.
 pub update-unsound : {h : Handle} {w : List ℕ} {F : List Float} {t offsets columns : List ℕ} {values : List Float}
-    → soundOf h w (length F) (length t / 4) ≡ false → UpdateCall h w F F t offsets columns values (Updated.Refused Refusal.UnsoundStores)
+    → soundOf h w (length F) (length t / 4) ≡ false → UpdateCall h w F F t offsets columns values (Updated.Refused unsoundStores)
 update-unsound e = record { done = rw e (record { answer = refl; view = refl; kept = λ _ _. kept-self; size = refl }) }
 
 -- ---- scratch

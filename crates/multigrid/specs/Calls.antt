@@ -7,7 +7,7 @@ use lib.ListN.{length}
 use lib.Ieee.{Float}
 use Rattle.options.specs.declared.Handle.{Handle}
 use Rattle.options.specs.declared.solver.LinearSolverOptions.{LinearSolverOptions}
-use Rattle.refusal.specs.declared.Refusal.{Refusal}
+use Rattle.refusal.specs.Refusal.{unsoundStores}
 use Rattle.refusal.specs.Outcome.{Outcome, ask}
 use Rattle.hierarchy.specs.Level.{Hierarchy}
 use Rattle.layout.specs.Layout.{viewOf}
@@ -21,7 +21,7 @@ use Rattle.multigrid.specs.declared.calls.Counted.{Counted}
 
 -- a solve: question 19, and then that of the hierarchy in the stores
 abbrev pub solvedOf : Handle → List ℕ → List Float → List ℕ → List Float → List Float → LinearSolverOptions → Outcome Solution
-solvedOf h w F t rhs x s = ask (soundOf h w (length F) (length t / 4)) Refusal.UnsoundStores (solvedAt h w F t rhs x s)
+solvedOf h w F t rhs x s = ask (soundOf h w (length F) (length t / 4)) unsoundStores (solvedAt h w F t rhs x s)
 
 -- What a solve with the stores w and F and the statistics t leaves: G, u and, in place of x, y; and its answer r. The hierarchy in the
 -- stores is as it was.
@@ -32,7 +32,7 @@ pub record SolveCall (h : Handle) (w : List ℕ) (F G : List Float) (t u : List 
 -- an update: question 19, and then that of the hierarchy in the stores
 abbrev pub updatedOf : Handle → List ℕ → List Float → List ℕ → List ℕ → List ℕ → List Float → Outcome Hierarchy
 updatedOf h w F t offsets columns values =
-    ask (soundOf h w (length F) (length t / 4)) Refusal.UnsoundStores (updatedAt h w F offsets columns values)
+    ask (soundOf h w (length F) (length t / 4)) unsoundStores (updatedAt h w F offsets columns values)
 
 -- What an update with the stores w and F and the statistics t leaves: G, and its answer r.
 pub record UpdateCall (h : Handle) (w : List ℕ) (F G : List Float) (t : List ℕ) (offsets columns : List ℕ) (values : List Float) (r : Updated) : Type 0 where
@@ -41,7 +41,7 @@ pub record UpdateCall (h : Handle) (w : List ℕ) (F G : List Float) (t : List �
 -- how many records at the front of the statistics are the levels', or question 19's refusal
 abbrev pub countedIf : Bool → ℕ → Counted
 countedIf true levels = Counted.Levels levels
-countedIf false levels = Counted.Refused Refusal.UnsoundStores
+countedIf false levels = Counted.Refused unsoundStores
 
 -- the answer of `statistics`
 abbrev pub countedOf : Handle → List ℕ → List Float → List ℕ → Counted

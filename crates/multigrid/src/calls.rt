@@ -28,7 +28,7 @@ pub fn update_values(
     if soundcheck::check(handle, words, floats.len(), statistics.len() / 4) {
         return refresh::update(handle, offsets, columns, values, words, floats);
     }
-    Updated::Refused(Refusal::UnsoundStores)
+    Updated::Refused(refusal::UNSOUND_STORES)
 }
 
 // Solves for the right-hand side, from what x holds. Refused, x, the statistics and the hierarchy stay as they were.
@@ -46,7 +46,7 @@ pub fn solve(
     if soundcheck::check(handle, words, floats.len(), statistics.len() / 4) {
         return solve::solve(handle, words, floats, statistics, rhs, x, options);
     }
-    Solved::Refused(Refusal::UnsoundStores)
+    Solved::Refused(refusal::UNSOUND_STORES)
 }
 
 // How many records at the front of the statistics are the levels'.
@@ -56,5 +56,5 @@ pub fn statistics(handle: Handle, words: &[u32], floats: &[f64], statistics: &[u
     if soundcheck::check(handle, words, floats.len(), statistics.len() / 4) {
         return Counted::Levels(handle.levels);
     }
-    Counted::Refused(Refusal::UnsoundStores)
+    Counted::Refused(refusal::UNSOUND_STORES)
 }

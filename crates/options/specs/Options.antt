@@ -8,7 +8,7 @@ use Rattle.options.specs.declared.MultigridSmoother.{MultigridSmoother}
 use Rattle.options.specs.declared.MultigridResidualNorm.{MultigridResidualNorm}
 use Rattle.options.specs.declared.MultigridCoarseSolver.{MultigridCoarseSolver}
 use Rattle.options.specs.declared.MultigridOptions.{MultigridOptions}
-use Rattle.refusal.specs.declared.Refusal.{Refusal}
+use Rattle.refusal.specs.Refusal.{invalidControls, notCholesky}
 use Rattle.refusal.specs.Outcome.{Outcome, passed, ask, _>>_}
 
 -- the f64 nearest to n / d
@@ -67,6 +67,6 @@ isCholesky MultigridCoarseSolver.Cholesky = true
 -- questions 6 and 7 of document 01
 abbrev pub controlsAsked : MultigridOptions → Outcome Unit
 controlsAsked o = do
-  ask (validOf o) Refusal.InvalidControls
-  ask (isCholesky (o .«coarse_solver»)) Refusal.NotCholesky
+  ask (validOf o) invalidControls
+  ask (isCholesky (o .«coarse_solver»)) notCholesky
   passed

@@ -8,7 +8,6 @@ mod solver;
 
 pub use counts::post_sweeps_at;
 pub use counts::pre_sweeps_at;
-use refusal::Refusal;
 use refusal::Verdict;
 pub use solver::LinearSolveReport;
 pub use solver::LinearSolverOptions;
@@ -112,11 +111,11 @@ pub fn check_controls(o: MultigridOptions) -> Verdict
     ensures { λ r. ⌜ r ≡ verdictOf (controlsAsked o) ⌝ }
 {
     if !o.validate() {
-        return Verdict::Refused(Refusal::InvalidControls);
+        return Verdict::Refused(refusal::INVALID_CONTROLS);
     }
     let coarse_solver = o.coarse_solver;
     match coarse_solver {
-        MultigridCoarseSolver::PcgDic => Verdict::Refused(Refusal::NotCholesky),
+        MultigridCoarseSolver::PcgDic => Verdict::Refused(refusal::NOT_CHOLESKY),
         MultigridCoarseSolver::Cholesky => Verdict::Passed,
     }
 }

@@ -5,7 +5,6 @@ use Prim.Native.Nat.{ℕ}
 use lib.Ieee.{Float}
 use lib.ListN.{set}
 use Rattle.flat.specs.Flat.{isSet}
-use Rattle.refusal.specs.Refusal.{numberOf}
 use Rattle.aggregation.specs.declared.Graph.{Graph}
 use Rattle.pattern.specs.declared.Coarsening.{Coarsening}
 use Rattle.faces.specs.declared.Faces.{Faces}
@@ -95,7 +94,7 @@ systemOf rows entries offsets columns values size coupled factor =
 -- zero, or the number of the question that refused the factor
 abbrev pub scaleAnswer : Factor → ℕ
 scaleAnswer (Factor.Factor x) = 0
-scaleAnswer (Factor.Refused q) = numberOf q
+scaleAnswer (Factor.Refused q) = q .number
 
 -- the factor stands at the front of `out`; a refusal writes nothing
 abbrev pub scaleWritten : Factor → List Float → List Float
@@ -110,7 +109,7 @@ pub record Scaled (s : Factor) (P Q : List Float) (r : ℕ) : Type 0 where
 -- zero, or the number of the question that refused the correction
 abbrev pub countAnswer : Corrected → ℕ
 countAnswer (Corrected.Used n) = 0
-countAnswer (Corrected.Refused q) = numberOf q
+countAnswer (Corrected.Refused q) = q .number
 
 -- how many pairs are stored, at the front of `count`; a refusal writes nothing
 abbrev pub countWritten : Corrected → List ℕ → List ℕ

@@ -11,7 +11,7 @@ fn unplaced(verdict: Verdict) -> u64
 {
     match verdict {
         Verdict::Passed => 0,
-        Verdict::Refused(refusal) => refusal.number(),
+        Verdict::Refused(refusal) => refusal.number,
     }
 }
 

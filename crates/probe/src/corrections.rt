@@ -68,7 +68,7 @@ fn scaled(factor: Factor, out: &mut [f64]) -> u64
             out[0] = value;
             0
         }
-        Factor::Refused(refusal) => refusal.number(),
+        Factor::Refused(refusal) => refusal.number,
     }
 }
 
@@ -134,7 +134,7 @@ fn counted(corrected: Corrected, count: &mut [u64]) -> u64
             count[0] = used as u64;
             0
         }
-        Corrected::Refused(refusal) => refusal.number(),
+        Corrected::Refused(refusal) => refusal.number,
     }
 }
 

@@ -68,7 +68,7 @@ fn told_solve(solved: Solved) -> SolveAnswer {
             }
         }
         Solved::Refused(q) => SolveAnswer {
-            number: q.number(),
+            number: q.number,
             status: 0,
             iterations: 0,
             initial: 0,

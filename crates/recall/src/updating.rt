@@ -49,9 +49,9 @@ fn told_update(updated: Updated) -> UpdateAnswer {
             row: 0,
         },
         Updated::Refused(q) => UpdateAnswer {
-            number: q.number(),
-            level: q.level(),
-            row: q.row(),
+            number: q.number,
+            level: q.level,
+            row: q.row,
         },
     }
 }

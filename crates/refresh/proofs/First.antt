@@ -7,7 +7,7 @@ use Prim.Native.Nat.{ℕ, _+_}
 use lib.ListN.{length}
 use lib.Ieee.{Float}
 use Rattle.options.specs.declared.MultigridOptions.{MultigridOptions}
-use Rattle.refusal.specs.declared.Refusal.{Refusal}
+use Rattle.refusal.specs.Refusal.{unequalMirrors, badCoarseValue, otherPattern}
 use Rattle.refusal.specs.Outcome.{Outcome, accepted, ask, _>>=_}
 use Rattle.refusal.proofs.Outcome.{ask-yes, then-accepted}
 use Rattle.vector.specs.Dot.{allFinite}
@@ -36,8 +36,8 @@ module _ (o : MultigridOptions) where
       let next = coarseValues o s t values in
       let after : Numbers → Outcome (List Level) = λ n. _>>=_ (refreshOf o (level + 1) (t ∷ rest) next) (λ ls. accepted (record { shape = s; numbers = n } ∷ ls)) in
       record {
-        made = then-accepted (numbersOf o level s values) (λ n. ask (allFinite (entries (t .pattern)) next) Refusal.BadCoarseValue (after n)) own
-            ∙ ask-yes (allFinite (entries (t .pattern)) next) Refusal.BadCoarseValue (after n) finite
+        made = then-accepted (numbersOf o level s values) (λ n. ask (allFinite (entries (t .pattern)) next) badCoarseValue (after n)) own
+            ∙ ask-yes (allFinite (entries (t .pattern)) next) badCoarseValue (after n) finite
             ∙ then-accepted (refreshOf o (level + 1) (t ∷ rest) next) (λ ls. accepted (record { shape = s; numbers = n } ∷ ls)) (under .made)
             ∙ ap accepted all;
         same = ap shapesIn (sym all) ∙ ap (λ (r : List Shape). s ∷ r) (under .same);
@@ -62,7 +62,7 @@ module _ (o : MultigridOptions) where
       let deep = renewOf o (level + 1) (t ∷ rest) next in
       let a = then-split (diagonalsStand level s) _ e in
       let b = then-split (numbersOf o level s values) _ (a .2) in
-      let c = ask-split (allFinite (entries (t .pattern)) next) Refusal.BadCoarseValue (_>>=_ deep (λ ls. accepted (own (b .0) ∷ ls))) (b .2) in
+      let c = ask-split (allFinite (entries (t .pattern)) next) badCoarseValue (_>>=_ deep (λ ls. accepted (own (b .0) ∷ ls))) (b .2) in
       let d = then-split deep (λ ls. accepted (own (b .0) ∷ ls)) (c .1) in
       second-more level s t rest values {n = b .0} {deeper = d .0} (b .1) (c .0) (renew-second (level + 1) (t ∷ rest) next (d .1)) (accepted-one (d .2))
 
@@ -79,8 +79,8 @@ pub update-first : (o : MultigridOptions) (shapes : List Shape) (offsets columns
 unfolding updateOf
 update-first o [] offsets columns values e = never refl e
 update-first o (s ∷ rest) offsets columns values e =
-    let a = ask-split (samePattern s offsets columns values) Refusal.OtherPattern _ e in
-    let b = ask-split (mirrorsEqual (length (s .uppers)) (s .uppers) (s .lowers) values) Refusal.UnequalMirrors _ (a .1) in
+    let a = ask-split (samePattern s offsets columns values) otherPattern _ e in
+    let b = ask-split (mirrorsEqual (length (s .uppers)) (s .uppers) (s .lowers) values) unequalMirrors _ (a .1) in
     let c = then-split (renewOf o 0 (s ∷ rest) values) (λ ls. accepted (withSums o ls)) (b .1) in
     let d = renew-second o 0 (s ∷ rest) values (c .1) in
     record { levels = c .0; is = sym (accepted-one (c .2)); second = d .made; shapes = d .same }

@@ -14,7 +14,7 @@ use Rattle.store.specs.Region.{idx, part}
 use Rattle.store.specs.Vector.{each}
 use Rattle.store.proofs.Region.{getD-part, length-part}
 use Rattle.store.proofs.Each.{both-l, both-r, each-same}
-use Rattle.refusal.specs.declared.Refusal.{Refusal}
+use Rattle.refusal.specs.Refusal.{unequalMirrors, otherPattern}
 use Rattle.refusal.specs.declared.Verdict.{Verdict}
 use Rattle.refusal.specs.Outcome.{passed, ask, verdictOf}
 use Rattle.refusal.proofs.Outcome.{ask-yes, ask-no}
@@ -105,9 +105,9 @@ module _ {w : List ℕ} (offsets columns : List ℕ) (values : List Float) {p : 
       rw (is, many) (record { uppers = omega arith; lowers = omega arith; up = ok .uppers; low = ok .lowers })
 
   -- Question 31 refuses.
-  pub asked-other : t ≡ false → Verdict.Refused Refusal.OtherPattern ≡ verdictOf (askedOf (shapeIn w 0) offsets columns values)
+  pub asked-other : t ≡ false → Verdict.Refused otherPattern ≡ verdictOf (askedOf (shapeIn w 0) offsets columns values)
   asked-other fails =
-      ap verdictOf (sym (ask-no (samePattern (shapeIn w 0) offsets columns values) Refusal.OtherPattern _ (sym same-is ∙ fails)))
+      ap verdictOf (sym (ask-no (samePattern (shapeIn w 0) offsets columns values) otherPattern _ (sym same-is ∙ fails)))
 
   module _ (told : t ≡ true) {m : Bool} (f : m ≡ mirrorsEqual (p .faces) (part (p .uppers) (p .faces) w) (part (p .lowers) (p .faces) w) values) where
     -- The answer of question 10 is that of the finest shape.
@@ -119,20 +119,20 @@ module _ {w : List ℕ} (offsets columns : List ℕ) (values : List Float) {p : 
         ap (λ (n : ℕ). mirrorsEqual n (part (q .uppers) (q .faces) w) (part (q .lowers) (q .faces) w) values) l ∙ sym (rw is at f)
 
     -- Once 31 has passed, 10 is asked.
-    on : askedOf (shapeIn w 0) offsets columns values ≡ ask m Refusal.UnequalMirrors passed
+    on : askedOf (shapeIn w 0) offsets columns values ≡ ask m unequalMirrors passed
     on =
         let s = shapeIn w 0 in
-        ask-yes (samePattern s offsets columns values) Refusal.OtherPattern
-        (ask (mirrorsEqual (length (s .uppers)) (s .uppers) (s .lowers) values) Refusal.UnequalMirrors passed) (sym same-is ∙ told)
-        ∙ ap (λ (b : Bool). ask b Refusal.UnequalMirrors passed) mirrors-are
+        ask-yes (samePattern s offsets columns values) otherPattern
+        (ask (mirrorsEqual (length (s .uppers)) (s .uppers) (s .lowers) values) unequalMirrors passed) (sym same-is ∙ told)
+        ∙ ap (λ (b : Bool). ask b unequalMirrors passed) mirrors-are
 
     -- Question 10 refuses.
-    pub asked-unequal : m ≡ false → Verdict.Refused Refusal.UnequalMirrors ≡ verdictOf (askedOf (shapeIn w 0) offsets columns values)
-    asked-unequal fails = sym (ap verdictOf (on ∙ ask-no m Refusal.UnequalMirrors passed fails))
+    pub asked-unequal : m ≡ false → Verdict.Refused unequalMirrors ≡ verdictOf (askedOf (shapeIn w 0) offsets columns values)
+    asked-unequal fails = sym (ap verdictOf (on ∙ ask-no m unequalMirrors passed fails))
 
     -- Both pass.
     pub asked-passed : m ≡ true → Verdict.Passed ≡ verdictOf (askedOf (shapeIn w 0) offsets columns values)
-    asked-passed holds = sym (ap verdictOf (on ∙ ask-yes m Refusal.UnequalMirrors passed holds))
+    asked-passed holds = sym (ap verdictOf (on ∙ ask-yes m unequalMirrors passed holds))
 
 -- What the comparison of the pattern requires.
 pub pattern-ready : {w : List ℕ} {p : Place} → AskOk w → p ≡ locate w 0 0 → PatternOk w p

@@ -16,6 +16,7 @@ use Rattle.options.specs.declared.MultigridOptions.{MultigridOptions}
 use Rattle.options.specs.declared.MultigridResidualNorm.{MultigridResidualNorm}
 use Rattle.options.specs.declared.MultigridSmoother.{MultigridSmoother}
 use Rattle.refusal.specs.declared.Refusal.{Refusal}
+use Rattle.refusal.specs.Refusal.{unequalMirrors, otherPattern}
 use Rattle.refusal.specs.declared.Verdict.{Verdict}
 use Rattle.refusal.specs.Outcome.{Outcome, accepted, refused, passed, ask, verdictOf, _>>=_}
 use Rattle.refusal.proofs.Outcome.{then-accepted, then-refused, passes}
@@ -206,8 +207,8 @@ module _ {levels : ℕ} {w : List ℕ} {size : ℕ} (ok : AttemptOk levels w siz
       many =
           let s = shapeIn w 0 in
           many-values offsets columns values ask-ready
-          (ask-split (samePattern s offsets columns values) Refusal.OtherPattern
-          (ask (mirrorsEqual (length (s .uppers)) (s .uppers) (s .lowers) values) Refusal.UnequalMirrors passed)
+          (ask-split (samePattern s offsets columns values) otherPattern
+          (ask (mirrorsEqual (length (s .uppers)) (s .uppers) (s .lowers) values) unequalMirrors passed)
           (passes (askedOf s offsets columns values) told (went-on v pass)) .0)
 
       -- What the shadow requires.
@@ -243,7 +244,7 @@ module _ {levels : ℕ} {w : List ℕ} (F : List Float) (ok : AttemptOk levels w
       let some = shapes-some levels w 0 (ok .some) in
       ap (λ (l : List Shape). updateOf o l offsets columns values) (shapes-are levels w F 0 0 ∙ some)
       ∙ asks-then (samePattern s offsets columns values) (mirrorsEqual (length (s .uppers)) (s .uppers) (s .lowers) values)
-      Refusal.OtherPattern Refusal.UnequalMirrors (_>>=_ (renewOf o 0 (s ∷ shapesAt (levels - 1) w (wordsEnd w 0)) values) (λ ls. accepted (withSums o ls)))
+      otherPattern unequalMirrors (_>>=_ (renewOf o 0 (s ∷ shapesAt (levels - 1) w (wordsEnd w 0)) values) (λ ls. accepted (withSums o ls)))
       ∙ ap (λ (l : List Shape). _>>=_ asked (λ _. _>>=_ (renewOf o 0 l values) (λ ls. accepted (withSums o ls)))) (sym some)
 
   -- What a refusal leaves.

@@ -13,6 +13,7 @@ use Rattle.options.specs.declared.MultigridOptions.{MultigridOptions}
 use Rattle.options.specs.declared.MultigridResidualNorm.{MultigridResidualNorm}
 use Rattle.options.specs.declared.MultigridSmoother.{MultigridSmoother}
 use Rattle.refusal.specs.declared.Refusal.{Refusal}
+use Rattle.refusal.specs.Refusal.{unequalMirrors, otherPattern}
 use Rattle.refusal.specs.declared.Verdict.{Verdict}
 use Rattle.refusal.specs.Outcome.{Outcome, accepted, refused, passed, ask, verdictOf, _>>=_, _>>_}
 use Rattle.matrix.specs.Kernel.{kernelAt, rowSumsOf, KernelOk}
@@ -36,8 +37,8 @@ use Rattle.refresh.specs.Contract.{hierarchyOf, imageOf}
 -- the questions of a finest level of shape s
 abbrev pub askedOf : Shape → List ℕ → List ℕ → List Float → Outcome Unit
 askedOf s offsets columns values = do
-  ask (samePattern s offsets columns values) Refusal.OtherPattern
-  ask (mirrorsEqual (length (s .uppers)) (s .uppers) (s .lowers) values) Refusal.UnequalMirrors
+  ask (samePattern s offsets columns values) otherPattern
+  ask (mirrorsEqual (length (s .uppers)) (s .uppers) (s .lowers) values) unequalMirrors
   passed
 
 -- The pattern of the level at p lies in the words.

@@ -11,7 +11,6 @@ ghost use Rattle.renewing.specs.Update.{sameList, samePattern};
 ghost use Rattle.renewing.specs.Steps.{bareAt};
 ghost use Rattle.refresh.specs.Steps.{askedOf, PatternOk, AskOk};
 use layout::Place;
-use refusal::Refusal;
 use refusal::Verdict;
 
 // Whether the words from `from` on are those of v. No branch leaves the loop, so that it takes several words at once.
@@ -60,7 +59,7 @@ pub fn asked(w: &[u32], offsets: &[u32], columns: &[u32], values: &[f64]) -> Ver
         if values::equal_mirrors(w, values, p.faces, p.uppers, p.lowers) {
             return Verdict::Passed;
         }
-        return Verdict::Refused(Refusal::UnequalMirrors);
+        return Verdict::Refused(refusal::UNEQUAL_MIRRORS);
     }
-    Verdict::Refused(Refusal::OtherPattern)
+    Verdict::Refused(refusal::OTHER_PATTERN)
 }

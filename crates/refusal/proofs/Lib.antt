@@ -1,2 +1,2 @@
-mod Unplaced
+mod Table
 pub mod Outcome

@@ -1,59 +1,104 @@
--- What a refusal tells. Definitions only.
+-- Document 01's refusals, each named for what is wrong. Definitions only.
 use Prim.Native.Nat.{ℕ}
 use Rattle.refusal.specs.declared.Refusal.{Refusal}
 
--- the number of the question that failed, and the level and row where it failed
-pub record Place : Type 0 where
-  pub number : ℕ
-  pub level : ℕ
-  pub row : ℕ
-
--- the place of question n, at level l and row r
-abbrev pub at : ℕ → ℕ → ℕ → Place
+-- question n, at a level and a row of it
+abbrev pub at : ℕ → ℕ → ℕ → Refusal
 at n l r = record { number = n; level = l; row = r }
 
--- document 01's number of each case; level and row are zero where it gives none
-abbrev pub placeOf : Refusal → Place
-placeOf Refusal.TooLarge = at 1 0 0
-placeOf Refusal.BadOffsets = at 2 0 0
-placeOf Refusal.BadColumns = at 3 0 0
-placeOf Refusal.WeightCount = at 4 0 0
-placeOf Refusal.BadWeight = at 5 0 0
-placeOf Refusal.InvalidControls = at 6 0 0
-placeOf Refusal.NotCholesky = at 7 0 0
-placeOf Refusal.NoRows = at 8 0 0
-placeOf Refusal.StoreTooSmall = at 9 0 0
-placeOf Refusal.UnequalMirrors = at 10 0 0
-placeOf (Refusal.MissingDiagonal l r) = at 11 l r
-placeOf (Refusal.BadDiagonal l r) = at 12 l r
-placeOf (Refusal.BadReciprocal l r) = at 13 l r
-placeOf Refusal.TooManyCoupled = at 14 0 0
-placeOf (Refusal.BadPivot l r) = at 15 l r
-placeOf (Refusal.BadDicPivot l r) = at 16 l r
-placeOf (Refusal.BadDicReciprocal l r) = at 17 l r
-placeOf Refusal.BadCoarseValue = at 18 0 0
-placeOf Refusal.UnsoundStores = at 19 0 0
-placeOf Refusal.WrongLength = at 20 0 0
-placeOf Refusal.BadInput = at 21 0 0
-placeOf Refusal.BadNormalization = at 22 0 0
-placeOf Refusal.BadResidual = at 23 0 0
-placeOf Refusal.BadCoarseSolution = at 24 0 0
-placeOf Refusal.BadSmootherOutput = at 25 0 0
-placeOf Refusal.BadCorrectionProduct = at 26 0 0
-placeOf Refusal.BadCorrectionScale = at 27 0 0
-placeOf Refusal.BadDotProduct = at 28 0 0
-placeOf Refusal.ZeroImage = at 29 0 0
-placeOf Refusal.BadDirection = at 30 0 0
-placeOf Refusal.OtherPattern = at 31 0 0
+-- question n where it names no place
+abbrev pub question : ℕ → Refusal
+question n = at n 0 0
 
--- `number` of a refusal
-abbrev pub numberOf : Refusal → ℕ
-numberOf q = placeOf q .number
+abbrev pub tooLarge : Refusal
+tooLarge = question 1
 
--- `level` of a refusal
-abbrev pub levelOf : Refusal → ℕ
-levelOf q = placeOf q .level
+abbrev pub badOffsets : Refusal
+badOffsets = question 2
 
--- `row` of a refusal
-abbrev pub rowOf : Refusal → ℕ
-rowOf q = placeOf q .row
+abbrev pub badColumns : Refusal
+badColumns = question 3
+
+abbrev pub weightCount : Refusal
+weightCount = question 4
+
+abbrev pub badWeight : Refusal
+badWeight = question 5
+
+abbrev pub invalidControls : Refusal
+invalidControls = question 6
+
+abbrev pub notCholesky : Refusal
+notCholesky = question 7
+
+abbrev pub noRows : Refusal
+noRows = question 8
+
+abbrev pub storeTooSmall : Refusal
+storeTooSmall = question 9
+
+abbrev pub unequalMirrors : Refusal
+unequalMirrors = question 10
+
+abbrev pub missingDiagonal : ℕ → ℕ → Refusal
+missingDiagonal l r = at 11 l r
+
+abbrev pub badDiagonal : ℕ → ℕ → Refusal
+badDiagonal l r = at 12 l r
+
+abbrev pub badReciprocal : ℕ → ℕ → Refusal
+badReciprocal l r = at 13 l r
+
+abbrev pub tooManyCoupled : Refusal
+tooManyCoupled = question 14
+
+abbrev pub badPivot : ℕ → ℕ → Refusal
+badPivot l r = at 15 l r
+
+abbrev pub badDicPivot : ℕ → ℕ → Refusal
+badDicPivot l r = at 16 l r
+
+abbrev pub badDicReciprocal : ℕ → ℕ → Refusal
+badDicReciprocal l r = at 17 l r
+
+abbrev pub badCoarseValue : Refusal
+badCoarseValue = question 18
+
+abbrev pub unsoundStores : Refusal
+unsoundStores = question 19
+
+abbrev pub wrongLength : Refusal
+wrongLength = question 20
+
+abbrev pub badInput : Refusal
+badInput = question 21
+
+abbrev pub badNormalization : Refusal
+badNormalization = question 22
+
+abbrev pub badResidual : Refusal
+badResidual = question 23
+
+abbrev pub badCoarseSolution : Refusal
+badCoarseSolution = question 24
+
+abbrev pub badSmootherOutput : Refusal
+badSmootherOutput = question 25
+
+abbrev pub badCorrectionProduct : Refusal
+badCorrectionProduct = question 26
+
+abbrev pub badCorrectionScale : Refusal
+badCorrectionScale = question 27
+
+abbrev pub badDotProduct : Refusal
+badDotProduct = question 28
+
+abbrev pub zeroImage : Refusal
+zeroImage = question 29
+
+abbrev pub badDirection : Refusal
+badDirection = question 30
+
+abbrev pub otherPattern : Refusal
+otherPattern = question 31

@@ -1,40 +1,10 @@
-// What a call answers where it refuses: document 01's questions, each named for what is wrong.
-ghost use mathlib.Core.Path.{_≡_};
-ghost use Rattle.refusal.specs.Refusal.{numberOf, levelOf, rowOf};
+// What a call answers where it refuses: the first of document 01's questions that failed, and where it failed.
 
-// One case for each question, in order. The cases with a place carry the level and the row where the question failed.
-pub enum Refusal {
-    TooLarge,
-    BadOffsets,
-    BadColumns,
-    WeightCount,
-    BadWeight,
-    InvalidControls,
-    NotCholesky,
-    NoRows,
-    StoreTooSmall,
-    UnequalMirrors,
-    MissingDiagonal { level: u64, row: u64 },
-    BadDiagonal { level: u64, row: u64 },
-    BadReciprocal { level: u64, row: u64 },
-    TooManyCoupled,
-    BadPivot { level: u64, row: u64 },
-    BadDicPivot { level: u64, row: u64 },
-    BadDicReciprocal { level: u64, row: u64 },
-    BadCoarseValue,
-    UnsoundStores,
-    WrongLength,
-    BadInput,
-    BadNormalization,
-    BadResidual,
-    BadCoarseSolution,
-    BadSmootherOutput,
-    BadCorrectionProduct,
-    BadCorrectionScale,
-    BadDotProduct,
-    ZeroImage,
-    BadDirection,
-    OtherPattern,
+// The question's number, and the level and row where it failed; both are zero where the question names no place.
+pub struct Refusal {
+    pub number: u64,
+    pub level: u64,
+    pub row: u64,
 }
 
 // The answer of a function that only asks questions.
@@ -43,73 +13,165 @@ pub enum Verdict {
     Refused(Refusal),
 }
 
-impl Refusal {
-    // The number of the question that failed.
-    pub fn number(self) -> u64
-        ensures { λ r. ⌜ r ≡ numberOf self ⌝ }
-    {
-        match self {
-            Refusal::TooLarge => 1,
-            Refusal::BadOffsets => 2,
-            Refusal::BadColumns => 3,
-            Refusal::WeightCount => 4,
-            Refusal::BadWeight => 5,
-            Refusal::InvalidControls => 6,
-            Refusal::NotCholesky => 7,
-            Refusal::NoRows => 8,
-            Refusal::StoreTooSmall => 9,
-            Refusal::UnequalMirrors => 10,
-            Refusal::MissingDiagonal { level: _, row: _ } => 11,
-            Refusal::BadDiagonal { level: _, row: _ } => 12,
-            Refusal::BadReciprocal { level: _, row: _ } => 13,
-            Refusal::TooManyCoupled => 14,
-            Refusal::BadPivot { level: _, row: _ } => 15,
-            Refusal::BadDicPivot { level: _, row: _ } => 16,
-            Refusal::BadDicReciprocal { level: _, row: _ } => 17,
-            Refusal::BadCoarseValue => 18,
-            Refusal::UnsoundStores => 19,
-            Refusal::WrongLength => 20,
-            Refusal::BadInput => 21,
-            Refusal::BadNormalization => 22,
-            Refusal::BadResidual => 23,
-            Refusal::BadCoarseSolution => 24,
-            Refusal::BadSmootherOutput => 25,
-            Refusal::BadCorrectionProduct => 26,
-            Refusal::BadCorrectionScale => 27,
-            Refusal::BadDotProduct => 28,
-            Refusal::ZeroImage => 29,
-            Refusal::BadDirection => 30,
-            Refusal::OtherPattern => 31,
-        }
-    }
+// The refusals, each named for what is wrong. A question that names a place has its number alone: the code adds level and row.
+pub const TOO_LARGE: Refusal = Refusal {
+    number: 1,
+    level: 0,
+    row: 0,
+};
 
-    // The level where it failed; zero where the question names none.
-    pub fn level(self) -> u64
-        ensures { λ r. ⌜ r ≡ levelOf self ⌝ }
-    {
-        match self {
-            Refusal::MissingDiagonal { level, row: _ } => level,
-            Refusal::BadDiagonal { level, row: _ } => level,
-            Refusal::BadReciprocal { level, row: _ } => level,
-            Refusal::BadPivot { level, row: _ } => level,
-            Refusal::BadDicPivot { level, row: _ } => level,
-            Refusal::BadDicReciprocal { level, row: _ } => level,
-            _ => 0,
-        }
-    }
+pub const BAD_OFFSETS: Refusal = Refusal {
+    number: 2,
+    level: 0,
+    row: 0,
+};
 
-    // The row where it failed, of that level or of the matrix being formed; zero where the question names none.
-    pub fn row(self) -> u64
-        ensures { λ r. ⌜ r ≡ rowOf self ⌝ }
-    {
-        match self {
-            Refusal::MissingDiagonal { level: _, row } => row,
-            Refusal::BadDiagonal { level: _, row } => row,
-            Refusal::BadReciprocal { level: _, row } => row,
-            Refusal::BadPivot { level: _, row } => row,
-            Refusal::BadDicPivot { level: _, row } => row,
-            Refusal::BadDicReciprocal { level: _, row } => row,
-            _ => 0,
-        }
-    }
-}
+pub const BAD_COLUMNS: Refusal = Refusal {
+    number: 3,
+    level: 0,
+    row: 0,
+};
+
+pub const WEIGHT_COUNT: Refusal = Refusal {
+    number: 4,
+    level: 0,
+    row: 0,
+};
+
+pub const BAD_WEIGHT: Refusal = Refusal {
+    number: 5,
+    level: 0,
+    row: 0,
+};
+
+pub const INVALID_CONTROLS: Refusal = Refusal {
+    number: 6,
+    level: 0,
+    row: 0,
+};
+
+pub const NOT_CHOLESKY: Refusal = Refusal {
+    number: 7,
+    level: 0,
+    row: 0,
+};
+
+pub const NO_ROWS: Refusal = Refusal {
+    number: 8,
+    level: 0,
+    row: 0,
+};
+
+pub const STORE_TOO_SMALL: Refusal = Refusal {
+    number: 9,
+    level: 0,
+    row: 0,
+};
+
+pub const UNEQUAL_MIRRORS: Refusal = Refusal {
+    number: 10,
+    level: 0,
+    row: 0,
+};
+
+pub const MISSING_DIAGONAL: u64 = 11;
+
+pub const BAD_DIAGONAL: u64 = 12;
+
+pub const BAD_RECIPROCAL: u64 = 13;
+
+pub const TOO_MANY_COUPLED: Refusal = Refusal {
+    number: 14,
+    level: 0,
+    row: 0,
+};
+
+pub const BAD_PIVOT: u64 = 15;
+
+pub const BAD_DIC_PIVOT: u64 = 16;
+
+pub const BAD_DIC_RECIPROCAL: u64 = 17;
+
+pub const BAD_COARSE_VALUE: Refusal = Refusal {
+    number: 18,
+    level: 0,
+    row: 0,
+};
+
+pub const UNSOUND_STORES: Refusal = Refusal {
+    number: 19,
+    level: 0,
+    row: 0,
+};
+
+pub const WRONG_LENGTH: Refusal = Refusal {
+    number: 20,
+    level: 0,
+    row: 0,
+};
+
+pub const BAD_INPUT: Refusal = Refusal {
+    number: 21,
+    level: 0,
+    row: 0,
+};
+
+pub const BAD_NORMALIZATION: Refusal = Refusal {
+    number: 22,
+    level: 0,
+    row: 0,
+};
+
+pub const BAD_RESIDUAL: Refusal = Refusal {
+    number: 23,
+    level: 0,
+    row: 0,
+};
+
+pub const BAD_COARSE_SOLUTION: Refusal = Refusal {
+    number: 24,
+    level: 0,
+    row: 0,
+};
+
+pub const BAD_SMOOTHER_OUTPUT: Refusal = Refusal {
+    number: 25,
+    level: 0,
+    row: 0,
+};
+
+pub const BAD_CORRECTION_PRODUCT: Refusal = Refusal {
+    number: 26,
+    level: 0,
+    row: 0,
+};
+
+pub const BAD_CORRECTION_SCALE: Refusal = Refusal {
+    number: 27,
+    level: 0,
+    row: 0,
+};
+
+pub const BAD_DOT_PRODUCT: Refusal = Refusal {
+    number: 28,
+    level: 0,
+    row: 0,
+};
+
+pub const ZERO_IMAGE: Refusal = Refusal {
+    number: 29,
+    level: 0,
+    row: 0,
+};
+
+pub const BAD_DIRECTION: Refusal = Refusal {
+    number: 30,
+    level: 0,
+    row: 0,
+};
+
+pub const OTHER_PATTERN: Refusal = Refusal {
+    number: 31,
+    level: 0,
+    row: 0,
+};

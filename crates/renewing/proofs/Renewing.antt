@@ -13,6 +13,7 @@ use Rattle.store.specs.Region.{idx, part}
 use Rattle.store.proofs.Region.{getD-part, length-part, kept-on, kept-less, kept-self}
 use Rattle.options.specs.declared.MultigridOptions.{MultigridOptions}
 use Rattle.refusal.specs.declared.Refusal.{Refusal}
+use Rattle.refusal.specs.Refusal.{badCoarseValue}
 use Rattle.refusal.specs.declared.Verdict.{Verdict}
 use Rattle.refusal.specs.Outcome.{Outcome, accepted, refused, ask, verdictOf, _>>=_}
 use Rattle.refusal.proofs.Outcome.{then-accepted, then-refused}
@@ -255,7 +256,7 @@ module _ (o : MultigridOptions) (level : ℕ) (s : Shape) (values : List Float) 
   -- the levels after another,
   abbrev onward : Shape → List Shape → Numbers → Outcome (List Level)
   onward t rest n =
-      ask (allFinite (entries (t .pattern)) (coarseValues o s t values)) Refusal.BadCoarseValue
+      ask (allFinite (entries (t .pattern)) (coarseValues o s t values)) badCoarseValue
       (_>>=_ (renewOf o (level + 1) (t ∷ rest) (coarseValues o s t values)) (λ ls. accepted (leveled n ∷ ls)))
 
   -- and that one.
@@ -335,7 +336,7 @@ module _ {w : List ℕ} (F : List Float) {left level a b : ℕ} (ok : RenewOk w 
 
     -- the turn of the definition
     abbrev asked : Outcome Numbers
-    asked = _>>=_ (levelOf o level own old) (λ n. ask (allFinite (entries (under .pattern)) coarse) Refusal.BadCoarseValue (accepted n))
+    asked = _>>=_ (levelOf o level own old) (λ n. ask (allFinite (entries (under .pattern)) coarse) badCoarseValue (accepted n))
 
     -- the level with its numbers before the levels after it
     abbrev before : Numbers → List Level → List Level
@@ -361,7 +362,7 @@ module _ {w : List ℕ} (F : List Float) {left level a b : ℕ} (ok : RenewOk w 
     whole =
         ap (λ (s : List Shape). renewOf o level s old) (shapes-some left w a (ok .some) ∙ ap (λ (s : List Shape). own ∷ s) next-shapes)
         ∙ renew-more o level own old under after
-        ∙ ask-then (levelOf o level own old) (allFinite (entries (under .pattern)) coarse) Refusal.BadCoarseValue (λ n. _>>=_ deeper (λ ls. accepted (before n ls)))
+        ∙ ask-then (levelOf o level own old) (allFinite (entries (under .pattern)) coarse) badCoarseValue (λ n. _>>=_ deeper (λ ls. accepted (before n ls)))
 
     -- There are as many values as the next level has entries.
     entries-under : entries (under .pattern) ≡ entriesAt w x
@@ -390,8 +391,8 @@ module _ {w : List ℕ} (F : List Float) {left level a b : ℕ} (ok : RenewOk w 
         let same : levelRenewed o false 0 level w F (locate w a b) ≡ levelOf o level own old =
         ap (λ (z : Bool). levelRenewed o z 0 level w F (locate w a b)) (sym (not-last ok is more))
         ∙ ap (λ (n : ℕ). levelRenewed o (lastAt w a) n level w F (locate w a b)) (sym (none-coupled ok is more)) in
-        ap (λ (z : Bool). _>>=_ (levelRenewed o false 0 level w F (locate w a b)) (λ n. ask z Refusal.BadCoarseValue (accepted n))) fin
-        ∙ ap (λ (u : Outcome Numbers). _>>=_ u (λ n. ask (allFinite (entries (under .pattern)) coarse) Refusal.BadCoarseValue (accepted n))) same
+        ap (λ (z : Bool). _>>=_ (levelRenewed o false 0 level w F (locate w a b)) (λ n. ask z badCoarseValue (accepted n))) fin
+        ∙ ap (λ (u : Outcome Numbers). _>>=_ u (λ n. ask (allFinite (entries (under .pattern)) coarse) badCoarseValue (accepted n))) same
 
     -- Its answer is that of the definition,
     answered : v ≡ verdictOf asked

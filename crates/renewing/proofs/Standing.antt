@@ -12,6 +12,7 @@ use Rattle.store.specs.Vector.{each}
 use Rattle.store.proofs.Each.{each-at}
 use Rattle.store.proofs.Region.{getD-part}
 use Rattle.refusal.specs.declared.Refusal.{Refusal}
+use Rattle.refusal.specs.Refusal.{missingDiagonal}
 use Rattle.refusal.specs.declared.Verdict.{Verdict}
 use Rattle.refusal.specs.Outcome.{Outcome, accepted, refused, passed, ask, askRows, askFrom, verdictOf, _>>=_}
 use Rattle.refusal.proofs.Outcome.{ask-yes, ask-no, each-step, each-stop, each-done}
@@ -69,7 +70,7 @@ module _ {w : List ℕ} {p : Place} {row : ℕ} {ok : Bool} (g : Gathered w p ro
 
 -- the question of a row
 abbrev asks : ℕ → List ℕ → Place → ℕ → Outcome Unit
-asks level w p row = ask (diagonalStands (bareAt w p) row) (Refusal.MissingDiagonal level row) passed
+asks level w p row = ask (diagonalStands (bareAt w p) row) (missingDiagonal level row) passed
 
 -- The invariant of the loop: the rows left give the answer.
 pub record Standing (level : ℕ) (w : List ℕ) (p : Place) (row : ℕ) : Type 0 where
@@ -92,15 +93,15 @@ module _ {level : ℕ} {w : List ℕ} {p : Place} {row : ℕ} (s : Standing leve
   standing-on h e told = record {
     ok = s .ok;
     rest = sym (each-step row (p .rows) (asks level w p) passed h
-        (ask-yes (diagonalStands (bareAt w p) row) (Refusal.MissingDiagonal level row) passed (sym e ∙ told))) ∙ s .rest;
+        (ask-yes (diagonalStands (bareAt w p) row) (missingDiagonal level row) passed (sym e ∙ told))) ∙ s .rest;
     within = omega arith;
   }
 
   -- A row refuses.
   pub standing-no : {t : Bool} → row < p .rows → t ≡ diagonalStands (bareAt w p) row → t ≡ false
-      → Verdict.Refused (Refusal.MissingDiagonal level row) ≡ verdictOf (diagonalsStand level (bareAt w p))
+      → Verdict.Refused (missingDiagonal level row) ≡ verdictOf (diagonalsStand level (bareAt w p))
   standing-no h e fails = sym (ap verdictOf (sym (s .rest) ∙ each-stop row (p .rows) (asks level w p) passed h
-      (ask-no (diagonalStands (bareAt w p) row) (Refusal.MissingDiagonal level row) passed (sym e ∙ fails))))
+      (ask-no (diagonalStands (bareAt w p) row) (missingDiagonal level row) passed (sym e ∙ fails))))
 
   -- All have passed.
   pub standing-done : p .rows ≤ row → Verdict.Passed ≡ verdictOf (diagonalsStand level (bareAt w p))
@@ -114,7 +115,7 @@ rows-pass level w p all zero row h = refl
 rows-pass level w p all (suc fuel) row h =
     let stands : diagonalStands (bareAt w p) row ≡ true = each-at (diagonalStands (bareAt w p)) (p .rows) all row (omega arith) in
     ap (λ (o : Outcome Unit). _>>=_ o (λ _. askRows fuel (row + 1) (asks level w p) passed))
-    (ask-yes (diagonalStands (bareAt w p) row) (Refusal.MissingDiagonal level row) passed stands)
+    (ask-yes (diagonalStands (bareAt w p) row) (missingDiagonal level row) passed stands)
     ∙ rows-pass level w p all fuel (row + 1) (omega arith)
 
 -- Where all stand, question 11 passes,
@@ -137,7 +138,7 @@ pass-rows level w p (suc fuel) row before e = go (diagonalStands (bareAt w p) ro
     go true stands deeper =
         let far : row + 1 + fuel ≡ row + suc fuel = omega arith in
         ap (each (diagonalStands (bareAt w p))) (sym far) ∙ deeper (rw (add-one row, before, stands) refl) (rw stands at e)
-    go false fails deeper = never (ap (λ (b : Bool). _>>=_ (ask b (Refusal.MissingDiagonal level row) passed) (λ _. askRows fuel (row + 1) (asks level w p) passed)) fails) e
+    go false fails deeper = never (ap (λ (b : Bool). _>>=_ (ask b (missingDiagonal level row) passed) (λ _. askRows fuel (row + 1) (asks level w p) passed)) fails) e
 
 -- and where one does not, it refuses.
 pub stand-not : (level : ℕ) (w : List ℕ) (p : Place) {all : Bool} → all ≡ each (diagonalStands (bareAt w p)) (p .rows) → all ≡ false

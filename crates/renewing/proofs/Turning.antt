@@ -9,7 +9,7 @@ use lib.Ieee.{Float}
 use Rattle.store.specs.Region.{part, Kept}
 use Rattle.store.proofs.Region.{kept-part, kept-on, kept-less}
 use Rattle.options.specs.declared.MultigridOptions.{MultigridOptions}
-use Rattle.refusal.specs.declared.Refusal.{Refusal}
+use Rattle.refusal.specs.Refusal.{badCoarseValue}
 use Rattle.refusal.specs.declared.Verdict.{Verdict}
 use Rattle.refusal.specs.Outcome.{Outcome, accepted, refused, ask, verdictOf}
 use Rattle.refusal.proofs.Outcome.{ask-yes, ask-no, then-accepted, then-refused}
@@ -51,7 +51,7 @@ module _ {w : List ℕ} {size : ℕ} {p t : Place} (ok : TurnOk w size p t) wher
     turned-no stop =
         let no = told-refused own (done .answer) stop in
         let said : v ≡ Verdict.Refused (no .0) = no .2 in
-        let refusal : turnOf o level w F p t ≡ refused (no .0) = then-refused own (λ n. ask finite Refusal.BadCoarseValue (accepted n)) (no .1) in
+        let refusal : turnOf o level w F p t ≡ refused (no .0) = then-refused own (λ n. ask finite badCoarseValue (accepted n)) (no .1) in
         record {
           answer = said ∙ sym (ap verdictOf refusal);
           numbers = λ n e. never refusal e;
@@ -65,8 +65,8 @@ module _ {w : List ℕ} {size : ℕ} {p t : Place} (ok : TurnOk w size p t) wher
       numbers = told-accepted own (done .answer) told
 
       -- so question 18 comes next.
-      onward : turnOf o level w F p t ≡ ask finite Refusal.BadCoarseValue (accepted (numbers .0))
-      onward = then-accepted own (λ n. ask finite Refusal.BadCoarseValue (accepted n)) (numbers .1)
+      onward : turnOf o level w F p t ≡ ask finite badCoarseValue (accepted (numbers .0))
+      onward = then-accepted own (λ n. ask finite badCoarseValue (accepted n)) (numbers .1)
 
       -- The level left its values,
       coarse-same : coarseAt w G p t ≡ coarseAt w F p t
@@ -91,10 +91,10 @@ module _ {w : List ℕ} {size : ℕ} {p t : Place} (ok : TurnOk w size p t) wher
           kept-on (done .kept) (kept-less (summed .kept) (omega arith))
 
       -- A value of the next level is not finite.
-      pub turned-coarse-no : fin ≡ false → Turned w F H o p t level (Verdict.Refused Refusal.BadCoarseValue)
+      pub turned-coarse-no : fin ≡ false → Turned w F H o p t level (Verdict.Refused badCoarseValue)
       turned-coarse-no bad =
-          let refusal : turnOf o level w F p t ≡ refused Refusal.BadCoarseValue =
-          onward ∙ ask-no finite Refusal.BadCoarseValue (accepted (numbers .0)) (finite-is ∙ bad) in
+          let refusal : turnOf o level w F p t ≡ refused badCoarseValue =
+          onward ∙ ask-no finite badCoarseValue (accepted (numbers .0)) (finite-is ∙ bad) in
           record {
             answer = sym (ap verdictOf refusal);
             numbers = λ n e. never refusal e;
@@ -124,7 +124,7 @@ module _ {w : List ℕ} {size : ℕ} {p t : Place} (ok : TurnOk w size p t) wher
       pub turned-yes : fin ≡ true → Turned w F H o p t level v
       turned-yes good =
           let all : turnOf o level w F p t ≡ accepted (numbers .0) =
-          onward ∙ ask-yes finite Refusal.BadCoarseValue (accepted (numbers .0)) (finite-is ∙ good) in
+          onward ∙ ask-yes finite badCoarseValue (accepted (numbers .0)) (finite-is ∙ good) in
           record {
             answer = went-on v told ∙ sym (ap verdictOf all);
             numbers = λ n e. numbers-stay ∙ done .numbers (numbers .0) (numbers .1) ∙ accepted-one (sym all ∙ e);

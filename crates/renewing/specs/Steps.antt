@@ -9,7 +9,7 @@ use Rattle.float.specs.Float.{zero64}
 use Rattle.store.specs.Region.{idx, part, Kept}
 use Rattle.store.specs.Vector.{filled}
 use Rattle.options.specs.declared.MultigridOptions.{MultigridOptions}
-use Rattle.refusal.specs.declared.Refusal.{Refusal}
+use Rattle.refusal.specs.Refusal.{badCoarseValue}
 use Rattle.refusal.specs.declared.Verdict.{Verdict}
 use Rattle.refusal.specs.Outcome.{Outcome, accepted, ask, verdictOf, _>>=_, _>>_}
 use Rattle.vector.specs.Dot.{allFinite}
@@ -180,7 +180,7 @@ pub record TurnOk (w : List ℕ) (size : ℕ) (p t : Place) : Type 0 where
 abbrev pub turnOf : MultigridOptions → ℕ → List ℕ → List Float → Place → Place → Outcome Numbers
 turnOf o level w F p t = do
   n ← levelRenewed o false 0 level w F p
-  ask (allFinite (t .entries) (coarseAt w F p t)) Refusal.BadCoarseValue
+  ask (allFinite (t .entries) (coarseAt w F p t)) badCoarseValue
   accepted n
 
 -- Its answer, and where it accepts, the numbers of the level and the values of the next. Up to the coefficients nothing changed.

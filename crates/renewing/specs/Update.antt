@@ -8,7 +8,7 @@ use lib.Ieee.{Float}
 use Rattle.store.specs.Region.{idx}
 use Rattle.store.specs.Vector.{each}
 use Rattle.options.specs.declared.MultigridOptions.{MultigridOptions}
-use Rattle.refusal.specs.declared.Refusal.{Refusal}
+use Rattle.refusal.specs.Refusal.{unequalMirrors, missingDiagonal, badCoarseValue, otherPattern}
 use Rattle.refusal.specs.Outcome.{Outcome, accepted, refused, passed, ask, askEach, _>>=_, _>>_}
 use Rattle.vector.specs.Dot.{allFinite}
 use Rattle.values.specs.Mirrors.{mirrorsEqual}
@@ -38,7 +38,7 @@ diagonalStands s row =
 -- question 11 of a level, row by row: only stores that no build wrote can fail it
 unfoldable pub diagonalsStand : ℕ → Shape → Outcome Unit
 diagonalsStand level s =
-    askEach (s .pattern .rows) (λ row. ask (diagonalStands s row) (Refusal.MissingDiagonal level row) passed) passed
+    askEach (s .pattern .rows) (λ row. ask (diagonalStands s row) (missingDiagonal level row) passed) passed
 
 -- ---- the levels
 
@@ -53,15 +53,15 @@ module _ (o : MultigridOptions) where
   renewOf level (s ∷ t ∷ rest) values = do
     _ ← diagonalsStand level s
     n ← numbersOf o level s values
-    ask (allFinite (entries (t .pattern)) (coarseValues o s t values)) Refusal.BadCoarseValue
+    ask (allFinite (entries (t .pattern)) (coarseValues o s t values)) badCoarseValue
     deeper ← renewOf (level + 1) (t ∷ rest) (coarseValues o s t values)
     accepted (record { shape = s; numbers = n } ∷ deeper)
 
   -- `update_values` of a hierarchy of those shapes: its hierarchy with new values, or the first refusal
   unfoldable pub updateOf : List Shape → List ℕ → List ℕ → List Float → Outcome Hierarchy
-  updateOf [] offsets columns values = refused Refusal.OtherPattern
+  updateOf [] offsets columns values = refused otherPattern
   updateOf (s ∷ rest) offsets columns values = do
-    ask (samePattern s offsets columns values) Refusal.OtherPattern
-    ask (mirrorsEqual (length (s .uppers)) (s .uppers) (s .lowers) values) Refusal.UnequalMirrors
+    ask (samePattern s offsets columns values) otherPattern
+    ask (mirrorsEqual (length (s .uppers)) (s .uppers) (s .lowers) values) unequalMirrors
     levels ← renewOf 0 (s ∷ rest) values
     accepted (withSums o levels)

@@ -63,7 +63,8 @@ fn rows_stand(w: &[u32], p: Place, level: u64) -> Verdict
         if diagonal_stands(w, p, row) {
             row += 1;
         } else {
-            return Verdict::Refused(Refusal::MissingDiagonal {
+            return Verdict::Refused(Refusal {
+                number: refusal::MISSING_DIAGONAL,
                 level: level,
                 row: row as u64,
             });

@@ -3,7 +3,6 @@ ghost use lib.ListN.{length};
 ghost use Rattle.renewing.specs.Steps.{Under, TurnOk, Turned, RenewOk, Renewed};
 use layout::Place;
 use level::refused;
-use refusal::Refusal;
 use refusal::Verdict;
 
 mod level;
@@ -20,7 +19,7 @@ fn turn(w: &[u32], f: &mut [f64], dic: bool, p: Place, t: Place, level: u64) -> 
     if level::coarse_values(w, f, p, t) {
         return numbers;
     }
-    Verdict::Refused(Refusal::BadCoarseValue)
+    Verdict::Refused(refusal::BAD_COARSE_VALUE)
 }
 
 // So many levels, from the values of the finest, which stand at `image`; `dic` tells whether the smoother needs DIC data. The words of

@@ -17,9 +17,9 @@ fn told(built: Built) -> Answer {
             levels: h.levels,
         },
         Built::Refused(q) => Answer {
-            number: q.number(),
-            level: q.level(),
-            row: q.row(),
+            number: q.number,
+            level: q.level,
+            row: q.row,
             levels: 0,
         },
     }

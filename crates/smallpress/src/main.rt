@@ -55,7 +55,7 @@ fn end_line() {
 // The question that refused, which none does here.
 fn refused(q: Refusal) {
     io::write_all(STDOUT_FILENO, b"refused");
-    number(q.number());
+    number(q.number);
     end_line();
 }
 

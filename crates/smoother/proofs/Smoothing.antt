@@ -13,7 +13,7 @@ use Rattle.store.specs.Region.{Clear, idx, part, splice}
 use Rattle.store.proofs.Loop.{for-done, Left, left-start, left-on, left-end}
 use Rattle.store.proofs.Region.{length-splice, part-splice, part-splice-below, part-splice-clear}
 use Rattle.options.specs.declared.MultigridSmoother.{MultigridSmoother}
-use Rattle.refusal.specs.declared.Refusal.{Refusal}
+use Rattle.refusal.specs.Refusal.{badSmootherOutput}
 use Rattle.refusal.specs.declared.Verdict.{Verdict}
 use Rattle.vector.specs.Dot.{allFinite}
 use Rattle.matrix.specs.declared.SymmetricMatrix.{SymmetricMatrix}
@@ -200,6 +200,6 @@ module _ (w : List ℕ) (F : List Float) (s : SymmetricMatrix) (dic rhs x work c
     -- Question 25 refuses.
     pub smooth-no : r ≡ false
         → SmoothDone (s .rows) x work correction (smoothOf (kernelAt s w F) (part dic (s .rows) F) (part rhs (s .rows) F) kind sweeps (part x (s .rows) F))
-        (sweptOf (kernelAt s w F) (part dic (s .rows) F) (part rhs (s .rows) F) kind sweeps (part x (s .rows) F)) F G (Verdict.Refused Refusal.BadSmootherOutput)
+        (sweptOf (kernelAt s w F) (part dic (s .rows) F) (part rhs (s .rows) F) kind sweeps (part x (s .rows) F)) F G (Verdict.Refused badSmootherOutput)
     unfolding smoothOf kernelAt
     smooth-no t = record { verdict = rw (ne-eqb sweeps 0 z, sym told ∙ t); smoothed = p }

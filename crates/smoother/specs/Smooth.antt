@@ -9,7 +9,7 @@ use lib.ListN.{length}
 use Rattle.store.specs.Loop.{for}
 use Rattle.store.specs.Region.{Clear, part}
 use Rattle.options.specs.declared.MultigridSmoother.{MultigridSmoother}
-use Rattle.refusal.specs.declared.Refusal.{Refusal}
+use Rattle.refusal.specs.Refusal.{badSmootherOutput}
 use Rattle.refusal.specs.declared.Verdict.{Verdict}
 use Rattle.refusal.specs.Outcome.{Outcome, accepted, ask, verdictOf}
 use Rattle.vector.specs.Dot.{allFinite}
@@ -45,7 +45,7 @@ module _ (k : Kernel) (dic rhs : List Float) where
   unfoldable pub smoothOf : MultigridSmoother → ℕ → List Float → Outcome (List Float)
   smoothOf kind sweeps x =
       let v = sweptOf kind sweeps x in
-      cond (eqb sweeps 0) (accepted v) (ask (allFinite (k .rows) v) Refusal.BadSmootherOutput (accepted v))
+      cond (eqb sweeps 0) (accepted v) (ask (allFinite (k .rows) v) badSmootherOutput (accepted v))
 
 -- ---- what the functions ensure
 

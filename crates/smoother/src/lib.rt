@@ -7,7 +7,6 @@ ghost use Rattle.sweeps.specs.Contract.{SmoothOk};
 ghost use Rattle.smoother.specs.Smooth.{isDic, isSymmetric, dicSweepsOf, gaussSeidelsOf, sweptOf, smoothOf, Smoothed, SmoothDone};
 use matrix::SymmetricMatrix;
 use options::MultigridSmoother;
-use refusal::Refusal;
 use refusal::Verdict;
 
 // Whether DIC sweeps come first.
@@ -125,6 +124,6 @@ pub fn smooth(
     if vector::all_finite(f, s.rows, x) {
         Verdict::Passed
     } else {
-        Verdict::Refused(Refusal::BadSmootherOutput)
+        Verdict::Refused(refusal::BAD_SMOOTHER_OUTPUT)
     }
 }

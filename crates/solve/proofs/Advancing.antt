@@ -13,6 +13,7 @@ use Rattle.store.specs.Vector.{filled}
 use Rattle.store.proofs.Region.{wrote-at, kept-wrote, kept-on, kept-less, kept-part}
 use Rattle.options.specs.declared.Handle.{Handle}
 use Rattle.refusal.specs.declared.Refusal.{Refusal}
+use Rattle.refusal.specs.Refusal.{badResidual}
 use Rattle.refusal.specs.declared.Verdict.{Verdict}
 use Rattle.refusal.specs.Outcome.{Outcome, accepted, refused, _>>=_, verdictOf}
 use Rattle.refusal.proofs.Outcome.{then-accepted, then-refused, refuses}
@@ -167,11 +168,11 @@ module _ {h : Handle} {w : List ℕ} (F : List Float) {g : Regions} {used : ℕ}
         }
 
         -- One that is not.
-        pub advance-bad : p ≡ Product.NotFinite → AdvanceDone h w F H g used factor (Step.Refused Refusal.BadResidual)
+        pub advance-bad : p ≡ Product.NotFinite → AdvanceDone h w F H g used factor (Step.Refused badResidual)
         advance-bad t = record {
           done = λ stored' norm counts q. absurd (let none : _≡_ {A = ℕ} 0 1 = cc in omega arith);
           fits = λ stored' norm q. absurd (let none : _≡_ {A = ℕ} 0 1 = cc in omega arith);
-          refusal = λ q counts r. let same : Refusal.BadResidual ≡ q = cc in after-is factor counts ∙ rw (← e, t, same);
+          refusal = λ q counts r. let same : badResidual ≡ q = cc in after-is factor counts ∙ rw (← e, t, same);
           floats = kept;
         }
 

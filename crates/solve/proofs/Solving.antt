@@ -21,6 +21,7 @@ use Rattle.options.specs.declared.solver.LinearSolverOptions.{LinearSolverOptio
 use Rattle.options.specs.declared.solver.LinearSolverStatus.{LinearSolverStatus}
 use Rattle.options.specs.declared.solver.LinearSolveReport.{LinearSolveReport}
 use Rattle.refusal.specs.declared.Refusal.{Refusal}
+use Rattle.refusal.specs.Refusal.{wrongLength, badInput, badNormalization, badResidual}
 use Rattle.refusal.specs.declared.Verdict.{Verdict}
 use Rattle.refusal.specs.Outcome.{Outcome, accepted, refused, ask, verdictOf, _>>=_}
 use Rattle.refusal.proofs.Outcome.{ask-yes, ask-no, refuses}
@@ -110,7 +111,7 @@ module _ {h : Handle} {w : List ℕ} (F : List Float) {g : Regions} (ready : Rea
 
     module _ (t : List ℕ) (s : LinearSolverOptions) where
       -- A factor that is not finite.
-      pub attempt-none : isFinite factor ≡ false → Ran g (attemptAt h w F t g s) F G t (Solved.Refused Refusal.BadNormalization)
+      pub attempt-none : isFinite factor ≡ false → Ran g (attemptAt h w F t g s) F G t (Solved.Refused badNormalization)
       attempt-none fails = ran-refused kept (ask-no _ _ _ (ap isFinite (sym factor-is) ∙ fails))
 
       module _ (holds : isFinite factor ≡ true) where
@@ -136,7 +137,7 @@ module _ {h : Handle} {w : List ℕ} (F : List Float) {g : Regions} (ready : Rea
 
         module _ {p : Product} (m : p ≡ measureOf (h .options .«residual_norm») (g .rows) (part (g .residual) (g .rows) G) factor) where
           -- A norm that is not finite.
-          pub attempt-bad : p ≡ Product.NotFinite → Ran g (attemptAt h w F t g s) F G t (Solved.Refused Refusal.BadResidual)
+          pub attempt-bad : p ≡ Product.NotFinite → Ran g (attemptAt h w F t g s) F G t (Solved.Refused badResidual)
           attempt-bad told = ran-refused kept (attempt-is ∙ rw (← m, told))
 
           module _ {initial threshold : Float} (told : p ≡ Product.Finite initial)
@@ -317,20 +318,20 @@ opened-of h w size records e =
 
 -- Two questions before a result: what refuses it refuses the whole,
 asked-no : {A : Type 0} {q : Refusal} (a b : Bool) (y : List Float) (out : Outcome A)
-    → ask a Refusal.WrongLength (ask b Refusal.BadInput (accepted y)) ≡ refused q → ask a Refusal.WrongLength (ask b Refusal.BadInput out) ≡ refused q
+    → ask a wrongLength (ask b badInput (accepted y)) ≡ refused q → ask a wrongLength (ask b badInput out) ≡ refused q
 asked-no true true y out e = let none : _≡_ {A = ℕ} 0 1 = cc in absurd (omega arith)
 asked-no true false y out e = cc
 asked-no false b y out e = cc
 
 -- and where it is accepted, both hold.
-both-asked : {v : List Float} (a b : Bool) (y : List Float) → ask a Refusal.WrongLength (ask b Refusal.BadInput (accepted y)) ≡ accepted v
+both-asked : {v : List Float} (a b : Bool) (y : List Float) → ask a wrongLength (ask b badInput (accepted y)) ≡ accepted v
     → (a ≡ true) × (b ≡ true)
 both-asked true true y e = (refl, refl)
 both-asked true false y e = let none : _≡_ {A = ℕ} 0 1 = cc in absurd (omega arith)
 both-asked false b y e = let none : _≡_ {A = ℕ} 0 1 = cc in absurd (omega arith)
 
 asked-yes : {A : Type 0} {v : List Float} (a b : Bool) (y : List Float) (out : Outcome A)
-    → ask a Refusal.WrongLength (ask b Refusal.BadInput (accepted y)) ≡ accepted v → ask a Refusal.WrongLength (ask b Refusal.BadInput out) ≡ out
+    → ask a wrongLength (ask b badInput (accepted y)) ≡ accepted v → ask a wrongLength (ask b badInput out) ≡ out
 asked-yes a b y out e = let t = both-asked a b y e in ask-yes _ _ _ (t .0) ∙ ask-yes _ _ _ (t .1)
 
 -- What passed was accepted.
@@ -340,17 +341,17 @@ accepts-it (refused q) e told = let none : _≡_ {A = ℕ} 0 1 = cc in absurd (o
 
 module _ (n : ℕ) (s : LinearSolverOptions) (rhs x : List Float) where
   -- Question 20 of the right-hand side,
-  pub ask-rhs : (length rhs ≡ n → ⊥) → Verdict.Refused Refusal.WrongLength ≡ verdictOf (askedOf n s rhs x)
+  pub ask-rhs : (length rhs ≡ n → ⊥) → Verdict.Refused wrongLength ≡ verdictOf (askedOf n s rhs x)
   ask-rhs other = rw (ne-eqb (length rhs) n other)
 
   module _ (long : length rhs ≡ n) where
     -- and of the solution.
-    pub ask-x : (length x ≡ n → ⊥) → Verdict.Refused Refusal.WrongLength ≡ verdictOf (askedOf n s rhs x)
+    pub ask-x : (length x ≡ n → ⊥) → Verdict.Refused wrongLength ≡ verdictOf (askedOf n s rhs x)
     ask-x other = rw (eq-eqb (length rhs) n long, ne-eqb (length x) n other)
 
     module _ (wide : length x ≡ n) {b : Bool} (is : b ≡ inputOk s rhs x) where
       -- Question 21.
-      pub ask-bad : b ≡ false → Verdict.Refused Refusal.BadInput ≡ verdictOf (askedOf n s rhs x)
+      pub ask-bad : b ≡ false → Verdict.Refused badInput ≡ verdictOf (askedOf n s rhs x)
       ask-bad fails = rw (eq-eqb (length rhs) n long, eq-eqb (length x) n wide, ← is, fails)
 
       -- Both pass.

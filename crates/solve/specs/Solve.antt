@@ -12,7 +12,7 @@ use Rattle.options.specs.declared.solver.LinearSolverOptions.{LinearSolverOptio
 use Rattle.options.specs.declared.solver.LinearSolverStatus.{LinearSolverStatus}
 use Rattle.options.specs.declared.solver.LinearSolveReport.{LinearSolveReport}
 use Rattle.options.specs.Options.{tolerable}
-use Rattle.refusal.specs.declared.Refusal.{Refusal}
+use Rattle.refusal.specs.Refusal.{wrongLength, badInput, badNormalization, badResidual}
 use Rattle.refusal.specs.Outcome.{Outcome, accepted, refused, passed, ask, _>>=_, _>>_}
 use Rattle.vector.specs.declared.Product.{Product}
 use Rattle.vector.specs.declared.Product.the-variants.{Finite, NotFinite}
@@ -45,7 +45,7 @@ inputOk s rhs x =
 -- `measure(..)?`: question 23
 abbrev pub measured : Product → Outcome Float
 measured (Finite value) = accepted value
-measured NotFinite = refused Refusal.BadResidual
+measured NotFinite = refused badResidual
 
 -- where an iteration stands: solution, residual, the stored pairs of GCR, the counters, and the measured residual
 pub record State : Type 0 where
@@ -158,7 +158,7 @@ systemOf o h = record { options = o; levels = h .levels; kernel = kernelFirst (h
 -- `solve`, from the counters so far: questions 20 to 22, and the rest
 unfoldable pub solveOf : System → LinearSolverOptions → List Float → List Float → List ℕ → Outcome Solution
 solveOf y s rhs x counts = do
-  ask (lengthsOk (y .kernel .rows) rhs x) Refusal.WrongLength
-  ask (inputOk s rhs x) Refusal.BadInput
-  ask (isFinite (factorOf y rhs x)) Refusal.BadNormalization
+  ask (lengthsOk (y .kernel .rows) rhs x) wrongLength
+  ask (inputOk s rhs x) badInput
+  ask (isFinite (factorOf y rhs x)) badNormalization
   runOf y s rhs x counts (factorOf y rhs x)

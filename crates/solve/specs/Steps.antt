@@ -11,6 +11,7 @@ use Rattle.store.specs.Region.{part, Kept}
 use Rattle.options.specs.declared.Handle.{Handle}
 use Rattle.options.specs.declared.solver.LinearSolverOptions.{LinearSolverOptions}
 use Rattle.refusal.specs.declared.Refusal.{Refusal}
+use Rattle.refusal.specs.Refusal.{wrongLength, badInput, badNormalization}
 use Rattle.refusal.specs.Outcome.{Outcome, accepted, refused, ask, _>>=_}
 use Rattle.matrix.specs.Kernel.{Kernel, KernelOk, kernelAt, applyOf}
 use Rattle.correction.specs.Correction.{subtractOf, addPlainOf}
@@ -206,12 +207,12 @@ pub record Iterating (h : Handle) (w : List ℕ) (F G : List Float) (t u : List 
 
 -- questions 20 and 21, of a system of so many rows; the start passes them with the rest
 abbrev pub askedOf : ℕ → LinearSolverOptions → List Float → List Float → Outcome (List Float)
-askedOf n s rhs x = ask (lengthsOk n rhs x) Refusal.WrongLength (ask (inputOk s rhs x) Refusal.BadInput (accepted x))
+askedOf n s rhs x = ask (lengthsOk n rhs x) wrongLength (ask (inputOk s rhs x) badInput (accepted x))
 
 -- `solve` from question 22 on
 abbrev pub attemptOf : System → LinearSolverOptions → List Float → List Float → List ℕ → Outcome Solution
 attemptOf y s rhs x counts =
-    ask (isFinite (factorOf y rhs x)) Refusal.BadNormalization (runOf y s rhs x counts (factorOf y rhs x))
+    ask (isFinite (factorOf y rhs x)) badNormalization (runOf y s rhs x counts (factorOf y rhs x))
 
 -- the same of the vectors in the store
 abbrev pub attemptAt : Handle → List ℕ → List Float → List ℕ → Regions → LinearSolverOptions → Outcome Solution

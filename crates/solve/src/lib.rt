@@ -63,13 +63,13 @@ fn ask_input(n: usize, s: LinearSolverOptions, rhs: &[f64], x: &[f64]) -> Verdic
     ensures { λ r. ⌜ r ≡ verdictOf (askedOf n s (now (rhs .entry)) (now (x .entry))) ⌝ }
 {
     if rhs.len() != n {
-        return Verdict::Refused(Refusal::WrongLength);
+        return Verdict::Refused(refusal::WRONG_LENGTH);
     }
     if x.len() != n {
-        return Verdict::Refused(Refusal::WrongLength);
+        return Verdict::Refused(refusal::WRONG_LENGTH);
     }
     if !input_fits(s, rhs, x) {
-        return Verdict::Refused(Refusal::BadInput);
+        return Verdict::Refused(refusal::BAD_INPUT);
     }
     Verdict::Passed
 }
@@ -91,7 +91,7 @@ fn attempt(
     stepping::renew(w, f, g);
     let factor = measure::normalization(f, g.rows, g.solution, g.rhs, g.product, g.sums, norm);
     if !float::is_finite(factor) {
-        return Solved::Refused(Refusal::BadNormalization);
+        return Solved::Refused(refusal::BAD_NORMALIZATION);
     }
     match measure::measure(f, g.rows, g.residual, norm, factor) {
         Product::Finite(initial) => {
@@ -106,7 +106,7 @@ fn attempt(
             }
             iterating::iterate(h, w, f, t, g, factor, initial, threshold, s.max_iterations)
         }
-        Product::NotFinite => Solved::Refused(Refusal::BadResidual),
+        Product::NotFinite => Solved::Refused(refusal::BAD_RESIDUAL),
     }
 }
 

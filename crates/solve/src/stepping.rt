@@ -5,7 +5,6 @@ use crate::Regions;
 use crate::Step;
 use acceleration::Corrected;
 use options::Handle;
-use refusal::Refusal;
 use refusal::Verdict;
 use vector::Product;
 
@@ -57,7 +56,7 @@ fn advance(h: Handle, w: &[u32], f: &mut [f64], g: Regions, factor: f64, used: u
                     used: stored,
                     last: last,
                 },
-                Product::NotFinite => Step::Refused(Refusal::BadResidual),
+                Product::NotFinite => Step::Refused(refusal::BAD_RESIDUAL),
             }
         }
         Corrected::Refused(q) => Step::Refused(q),

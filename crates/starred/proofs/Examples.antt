@@ -8,7 +8,7 @@ use Rattle.float.specs.Float.{zero64, one64, isFinite}
 use Rattle.store.specs.Loop.{iter, for}
 use Rattle.store.specs.Vector.{tab}
 use Rattle.options.specs.declared.MultigridSmoother.{MultigridSmoother}
-use Rattle.refusal.specs.declared.Refusal.{Refusal}
+use Rattle.refusal.specs.Refusal.{badDicPivot}
 use Rattle.refusal.specs.Outcome.{accepted, refused, askRows}
 use Rattle.matrix.specs.Kernel.{Kernel, spreadFace, spreadRow, spreadOf, residualOf}
 use Rattle.sweeps.specs.Sweep.{gatherFace, castFace, lowerRow, upperRow, dicSweepOf}
@@ -29,7 +29,7 @@ abbrev rhs : List Float
 rhs = floats (pos 2 ∷ pos 0 ∷ [])
 
 -- 4, 4; 4, 2 has a second pivot below zero.
-negative : dicOf 3 (faced (pos 4)) ≡ refused (Refusal.BadDicPivot 3 1)
+negative : dicOf 3 (faced (pos 4)) ≡ refused (badDicPivot 3 1)
 unfolding floats ofInt dicOf pivotsOf pivotRow pivotFace reciprocalsOf isPivot isFinite askRows for iter tab ofBits sub mul div le
 negative = refl
 

@@ -6,7 +6,6 @@ use Prim.Native.Nat.{ℕ}
 use lib.Ieee.{Float}
 use lib.ListN.{set}
 use Rattle.refusal.specs.declared.Verdict.{Verdict}
-use Rattle.refusal.specs.Refusal.{numberOf, levelOf, rowOf}
 use Rattle.vector.specs.declared.Product.{Product}
 use Rattle.vector.specs.declared.Product.the-variants.{Finite, NotFinite}
 
@@ -27,12 +26,12 @@ writtenOf NotFinite out = out
 -- the number of the question that refused, or zero
 abbrev pub answerOf : Verdict → ℕ
 answerOf Verdict.Passed = 0
-answerOf (Verdict.Refused q) = numberOf q
+answerOf (Verdict.Refused q) = q .number
 
 -- the level and the row of a refusal stand at the front of `place`; a verdict that passed writes nothing
 abbrev pub placedOf : Verdict → List ℕ → List ℕ
 placedOf Verdict.Passed place = place
-placedOf (Verdict.Refused q) place = set (set place 0 (levelOf q)) 1 (rowOf q)
+placedOf (Verdict.Refused q) place = set (set place 0 (q .level)) 1 (q .row)
 
 -- a verdict as a number, with its place
 pub record Told (v : Verdict) (P Q : List ℕ) (r : ℕ) : Type 0 where

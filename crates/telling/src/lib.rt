@@ -2,7 +2,6 @@
 ghost use mathlib.Core.Path.{_≡_};
 ghost use Prim.Native.Nat.{_≤_};
 ghost use lib.ListN.{length, set};
-ghost use Rattle.refusal.specs.Refusal.{numberOf, levelOf, rowOf};
 ghost use Rattle.telling.specs.Telling.{flag, flagOf, writtenOf, Told};
 use refusal::Refusal;
 use refusal::Verdict;
@@ -18,12 +17,12 @@ pub fn number(yes: bool) -> u8
 // The number of a refusal; its level and its row stand at `place`.
 fn refuse(refusal: Refusal, place: &mut [u64]) -> u64
     requires { ⌜ 2 ≤ length (now place) ⌝ }
-    ensures { λ r. ⌜ r ≡ numberOf refusal ⌝ }
-    ensures { λ _. ⌜ now (place .exit) ≡ set (set (now (place .entry)) 0 (levelOf refusal)) 1 (rowOf refusal) ⌝ }
+    ensures { λ r. ⌜ r ≡ refusal .number ⌝ }
+    ensures { λ _. ⌜ now (place .exit) ≡ set (set (now (place .entry)) 0 (refusal .level)) 1 (refusal .row) ⌝ }
 {
-    place[0] = refusal.level();
-    place[1] = refusal.row();
-    refusal.number()
+    place[0] = refusal.level;
+    place[1] = refusal.row;
+    refusal.number
 }
 
 // Zero where it passed.

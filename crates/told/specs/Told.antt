@@ -6,7 +6,6 @@ use lib.Ieee.{Float}
 use lib.ListN.{set}
 use Rattle.options.specs.declared.solver.LinearSolverStatus.{LinearSolverStatus}
 use Rattle.options.specs.declared.solver.LinearSolveReport.{LinearSolveReport}
-use Rattle.refusal.specs.Refusal.{numberOf, levelOf, rowOf}
 use Rattle.refusal.specs.declared.Refusal.{Refusal}
 use Rattle.build.specs.declared.Built.{Built}
 use Rattle.solve.specs.declared.Solved.{Solved}
@@ -19,14 +18,14 @@ three v a b c = set (set (set v 0 a) 1 b) 2 c
 
 -- level and row of a refusal
 abbrev pub placeOf : Refusal → List ℕ → List ℕ
-placeOf q place = three place (levelOf q) (rowOf q) 0
+placeOf q place = three place (q .level) (q .row) 0
 
 -- ---- a build
 
 -- zero, or the number of the question that refused
 abbrev pub builtNumber : Built → ℕ
 builtNumber (Built.Made h) = 0
-builtNumber (Built.Refused q) = numberOf q
+builtNumber (Built.Refused q) = q .number
 
 -- the levels built, or the place of a refusal
 abbrev pub builtPlace : Built → List ℕ → List ℕ
@@ -42,7 +41,7 @@ pub record Told (b : Built) (P Q : List ℕ) (r : ℕ) : Type 0 where
 
 abbrev pub updatedNumber : Updated → ℕ
 updatedNumber Updated.Done = 0
-updatedNumber (Updated.Refused q) = numberOf q
+updatedNumber (Updated.Refused q) = q .number
 
 abbrev pub updatedPlace : Updated → List ℕ → List ℕ
 updatedPlace Updated.Done place = three place 0 0 0
@@ -57,7 +56,7 @@ pub record ToldUpdate (b : Updated) (P Q : List ℕ) (r : ℕ) : Type 0 where
 
 abbrev pub solvedNumber : Solved → ℕ
 solvedNumber (Solved.Report v) = 0
-solvedNumber (Solved.Refused q) = numberOf q
+solvedNumber (Solved.Refused q) = q .number
 
 -- 0 where it converged, 1 where the iterations are used up
 abbrev pub statusOf : LinearSolverStatus → ℕ
@@ -84,7 +83,7 @@ pub record ToldSolve (b : Solved) (P Q : List ℕ) (R S : List Float) (r : ℕ) 
 
 abbrev pub countedNumber : Counted → ℕ
 countedNumber (Counted.Levels levels) = 0
-countedNumber (Counted.Refused q) = numberOf q
+countedNumber (Counted.Refused q) = q .number
 
 -- the records of the levels, or the place of a refusal
 abbrev pub countedPlace : Counted → List ℕ → List ℕ

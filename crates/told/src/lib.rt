@@ -40,8 +40,8 @@ pub fn tell(built: Built, place: &mut [u64]) -> u64
             0
         }
         Built::Refused(refusal) => {
-            put(place, refusal.level(), refusal.row(), 0);
-            refusal.number()
+            put(place, refusal.level, refusal.row, 0);
+            refusal.number
         }
     }
 }
@@ -57,8 +57,8 @@ pub fn tell_update(updated: Updated, place: &mut [u64]) -> u64
             0
         }
         Updated::Refused(refusal) => {
-            put(place, refusal.level(), refusal.row(), 0);
-            refusal.number()
+            put(place, refusal.level, refusal.row, 0);
+            refusal.number
         }
     }
 }
@@ -92,8 +92,8 @@ pub fn tell_solve(solved: Solved, place: &mut [u64], residuals: &mut [f64]) -> u
             0
         }
         Solved::Refused(refusal) => {
-            put(place, refusal.level(), refusal.row(), 0);
-            refusal.number()
+            put(place, refusal.level, refusal.row, 0);
+            refusal.number
         }
     }
 }
@@ -109,8 +109,8 @@ pub fn tell_count(counted: Counted, place: &mut [u64]) -> u64
             0
         }
         Counted::Refused(refusal) => {
-            put(place, refusal.level(), refusal.row(), 0);
-            refusal.number()
+            put(place, refusal.level, refusal.row, 0);
+            refusal.number
         }
     }
 }

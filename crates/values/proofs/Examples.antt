@@ -6,7 +6,7 @@ use mathlib.Core.List.{List, [], _∷_}
 use lib.Ieee.{Float, binary64, ofBits, div, neg, lt, eq}
 use Rattle.float.specs.Float.{zero64, isFinite}
 use Rattle.store.specs.Vector.{tab, each}
-use Rattle.refusal.specs.declared.Refusal.{Refusal}
+use Rattle.refusal.specs.Refusal.{badDiagonal, badReciprocal}
 use Rattle.refusal.specs.Outcome.{accepted, refused, askRows}
 use Rattle.matrix.proofs.Examples.{two, minusTwo, four, P}
 use Rattle.values.specs.Mirrors.{mirrorsAgree, mirrorsEqual}
@@ -23,12 +23,12 @@ unfolding updateOf diagonalAsked isPositive isFinite askRows tab ofBits div lt
 updated = refl
 
 -- A zero on the diagonal of row 1 is refused by question 12.
-zeroDiagonal : updateOf 3 2 (0 ∷ 3 ∷ []) (1 ∷ []) (four ∷ minusTwo ∷ minusTwo ∷ zero64 ∷ []) ≡ refused (Refusal.BadDiagonal 3 1)
+zeroDiagonal : updateOf 3 2 (0 ∷ 3 ∷ []) (1 ∷ []) (four ∷ minusTwo ∷ minusTwo ∷ zero64 ∷ []) ≡ refused (badDiagonal 3 1)
 unfolding updateOf diagonalAsked isPositive isFinite askRows tab ofBits div lt
 zeroDiagonal = refl
 
 -- The least number above zero has no finite reciprocal: question 13.
-tinyDiagonal : updateOf 3 2 (0 ∷ 3 ∷ []) (1 ∷ []) (four ∷ minusTwo ∷ minusTwo ∷ ofBits binary64 1 ∷ []) ≡ refused (Refusal.BadReciprocal 3 1)
+tinyDiagonal : updateOf 3 2 (0 ∷ 3 ∷ []) (1 ∷ []) (four ∷ minusTwo ∷ minusTwo ∷ ofBits binary64 1 ∷ []) ≡ refused (badReciprocal 3 1)
 unfolding updateOf diagonalAsked isPositive isFinite askRows tab ofBits div lt
 tinyDiagonal = refl
 

@@ -11,6 +11,7 @@ use lib.Seq.{take-all, drop-drop, take-take}
 use lib.Ieee.{Float, nan}
 use Rattle.float.specs.Float.{div64, one64, isFinite}
 use Rattle.refusal.specs.declared.Refusal.{Refusal}
+use Rattle.refusal.specs.Refusal.{badDiagonal, badReciprocal}
 use Rattle.refusal.specs.declared.Verdict.{Verdict}
 use Rattle.refusal.specs.Outcome.{Outcome, accepted, refused, passed, askFrom, askEach}
 use Rattle.refusal.proofs.Outcome.{each-step, each-stop, each-done, each-all, each-alike}
@@ -181,7 +182,7 @@ module _ (level rows diagonal : ℕ) (F : List Float) where
 
   module _ {row : ℕ} {p : Bool} (a : Asking row) (h : row < rows) (e : p ≡ isPositive (at F (diagonal + row))) where
     -- Question 12 refuses.
-    pub row-bad : p ≡ false → RowsAsked level rows diagonal F (Verdict.Refused (Refusal.BadDiagonal level row))
+    pub row-bad : p ≡ false → RowsAsked level rows diagonal F (Verdict.Refused (badDiagonal level row))
     unfolding after diagonalAsked
     row-bad t =
         let no : isPositive (at F (diagonal + row)) ≡ false = sym e ∙ t in
@@ -189,7 +190,7 @@ module _ (level rows diagonal : ℕ) (F : List Float) where
 
     module _ {q : Bool} (yes : p ≡ true) (e' : q ≡ isFinite (div64 one64 (at F (diagonal + row)))) where
       -- Question 13 refuses.
-      pub row-bad-reciprocal : q ≡ false → RowsAsked level rows diagonal F (Verdict.Refused (Refusal.BadReciprocal level row))
+      pub row-bad-reciprocal : q ≡ false → RowsAsked level rows diagonal F (Verdict.Refused (badReciprocal level row))
       unfolding after diagonalAsked
       row-bad-reciprocal t =
           let good : isPositive (at F (diagonal + row)) ≡ true = sym e ∙ yes in

@@ -6,7 +6,7 @@ use Prim.Native.Nat.{ℕ, _+_, _≤_, _<_}
 use lib.ListN.{length, set, take, drop}
 use lib.Ieee.{Float, lt}
 use Rattle.float.specs.Float.{div64, zero64, one64, isFinite}
-use Rattle.refusal.specs.declared.Refusal.{Refusal}
+use Rattle.refusal.specs.Refusal.{badDiagonal, badReciprocal}
 use Rattle.refusal.specs.declared.Verdict.{Verdict}
 use Rattle.refusal.specs.Outcome.{Outcome, accepted, refused, passed, ask, _>>_, askEach, verdictOf}
 use Rattle.store.specs.Region.{at, idx, part, splice}
@@ -21,8 +21,8 @@ isPositive d = isFinite d && lt zero64 d
 -- questions 12 and 13 of a row whose diagonal is d
 unfoldable pub diagonalAsked : ℕ → ℕ → Float → Outcome Unit
 diagonalAsked level row d = do
-  ask (isPositive d) (Refusal.BadDiagonal level row)
-  ask (isFinite (div64 one64 d)) (Refusal.BadReciprocal level row)
+  ask (isPositive d) (badDiagonal level row)
+  ask (isFinite (div64 one64 d)) (badReciprocal level row)
   passed
 
 -- whether both pass

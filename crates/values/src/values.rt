@@ -65,13 +65,15 @@ fn ask_rows(f: &[f64], rows: usize, diagonal: usize, level: u64) -> Verdict
             if float::is_finite(1.0 / d) {
                 row += 1;
             } else {
-                return Verdict::Refused(Refusal::BadReciprocal {
+                return Verdict::Refused(Refusal {
+                    number: refusal::BAD_RECIPROCAL,
                     level: level,
                     row: row as u64,
                 });
             }
         } else {
-            return Verdict::Refused(Refusal::BadDiagonal {
+            return Verdict::Refused(Refusal {
+                number: refusal::BAD_DIAGONAL,
                 level: level,
                 row: row as u64,
             });

@@ -15,6 +15,7 @@ use Rattle.store.specs.Vector.{filled}
 use Rattle.store.proofs.Region.{wrote-at, kept-wrote, kept-on, kept-less, kept-self, kept-part}
 use Rattle.options.specs.declared.MultigridSmoother.{MultigridSmoother}
 use Rattle.refusal.specs.declared.Refusal.{Refusal}
+use Rattle.refusal.specs.Refusal.{badSmootherOutput}
 use Rattle.refusal.specs.declared.Verdict.{Verdict}
 use Rattle.refusal.specs.Outcome.{Outcome, accepted, refused, ask, verdictOf, _>>=_}
 use Rattle.refusal.proofs.Outcome.{verdict-passed, verdict-refused, refuses}
@@ -87,7 +88,7 @@ smooth-is : (k : Kernel) (dic rhs x : List Float) (kind : MultigridSmoother) (sw
     → smoothOf k dic rhs kind sweeps x ≡ accepted v → sweptOf k dic rhs kind sweeps x ≡ v
 unfolding smoothOf
 smooth-is k dic rhs x kind sweeps v e =
-    let y = sweptOf k dic rhs kind sweeps x in asked-is (eqb sweeps 0) (allFinite (k .rows) y) Refusal.BadSmootherOutput y v e
+    let y = sweptOf k dic rhs kind sweeps x in asked-is (eqb sweeps 0) (allFinite (k .rows) y) badSmootherOutput y v e
 
 -- What the smoother requires.
 pub smooth-ok : {w : List ℕ} {size : ℕ} {g : Inner} → InnerOk w size g

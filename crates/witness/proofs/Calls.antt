@@ -14,7 +14,7 @@ use Rattle.store.specs.Loop.{iter, for}
 use Rattle.store.specs.Region.{part, lay, splice}
 use Rattle.store.specs.Vector.{tab, each, filled}
 use Rattle.options.specs.Options.{validOf}
-use Rattle.refusal.specs.declared.Refusal.{Refusal}
+use Rattle.refusal.specs.Refusal.{badDiagonal}
 use Rattle.refusal.specs.Outcome.{Outcome, accepted, refused, askRows}
 use Rattle.hierarchy.specs.Level.{Hierarchy}
 use Rattle.hierarchy.specs.Build.{Lent, Input, buildOf}
@@ -118,7 +118,7 @@ unfolding layout.viewOf layout.levelsAt layout.levelAt layout.wordsEnd layout.fl
 solves-third = record { done = record { answer = refl; solution = refl; statistics = refl; floats = record { below = refl; size = refl } }; view = refl }
 
 -- An update to zero is refused by question 12,
-refused-update : UpdateCall handle words (floats one64 one64) (floats one64 one64) (visited 1) (0 ∷ 1 ∷ []) (0 ∷ []) (zero64 ∷ []) (Updated.Refused (Refusal.BadDiagonal 0 0))
+refused-update : UpdateCall handle words (floats one64 one64) (floats one64 one64) (visited 1) (0 ∷ 1 ∷ []) (0 ∷ []) (zero64 ∷ []) (Updated.Refused (badDiagonal 0 0))
 unfolding layout.viewOf layout.levelsAt layout.levelAt layout.wordsEnd layout.floatsEnd layout.imageEnd part lay splice tab tri sound.soundOf sound.handleSound sound.walkOf sound.headSound sound.arraysSound sound.allBelow sound.rowSound sound.rowsWalked sound.scratchEnd validOf isFinite lt le eq ofBits each update.updateOf update.renewOf update.sameList update.samePattern update.diagonalStands update.diagonalsStand askRows mirrorsAgree mirrorsEqual updateOf diagonalAsked isPositive cholesky.choleskyOf cholesky.rowsOf refreshing.withSums div for iter
 refused-update = record { done = record { answer = refl; view = refl; kept = λ q e. record { below = refl; size = refl }; size = refl } }
 

@@ -10,7 +10,7 @@ use Rattle.options.specs.declared.MultigridResidualNorm.{MultigridResidualNorm}
 use Rattle.options.specs.declared.MultigridCoarseSolver.{MultigridCoarseSolver}
 use Rattle.options.specs.declared.solver.LinearSolverOptions.{LinearSolverOptions}
 use Rattle.options.specs.declared.solver.LinearSolverStatus.{LinearSolverStatus}
-use Rattle.refusal.specs.declared.Refusal.{Refusal}
+use Rattle.refusal.specs.Refusal.{badDiagonal}
 use Rattle.hierarchy.specs.Build.{Input}
 use Rattle.solve.specs.declared.Solved.{Solved}
 use Rattle.refresh.specs.declared.Updated.{Updated}
@@ -78,7 +78,7 @@ converged = Solved.Report (record {
 abbrev pub calls : List Event
 calls =
     solved (one64 ∷ []) (zero64 ∷ []) asked converged (one64 ∷ [])
-    ∷ updated (0 ∷ 1 ∷ []) (0 ∷ []) (zero64 ∷ []) (Updated.Refused (Refusal.BadDiagonal 0 0))
+    ∷ updated (0 ∷ 1 ∷ []) (0 ∷ []) (zero64 ∷ []) (Updated.Refused (badDiagonal 0 0))
     ∷ solved (one64 ∷ []) (zero64 ∷ []) asked converged (one64 ∷ [])
     ∷ updated (0 ∷ 1 ∷ []) (0 ∷ []) (two ∷ []) Updated.Done
     ∷ solved (one64 ∷ []) (zero64 ∷ []) asked converged (half ∷ [])
