@@ -15,8 +15,8 @@ use Rattle.options.specs.declared.MultigridOptions.{MultigridOptions}
 use Rattle.options.specs.Counts.{preSweepsOf, postSweepsOf}
 use Rattle.refusal.specs.declared.Refusal.{Refusal}
 use Rattle.refusal.specs.declared.Verdict.{Verdict}
-use Rattle.refusal.specs.Outcome.{Outcome, accepted, refused, verdictOf, _>>=_}
-use Rattle.refusal.proofs.Outcome.{then-accepted, then-refused, verdict-refused, refuses}
+use Rattle.refusal.specs.Outcome.{Outcome, accepted, refused, verdictOf, isRefused, _>>=_}
+use Rattle.refusal.proofs.Outcome.{then-accepted, then-refused, verdict-refused, refuses, went-on, stopped}
 use Rattle.packed.specs.Triangle.{tri}
 use Rattle.matrix.specs.Kernel.{Kernel, kernelAt}
 use Rattle.smoother.specs.Smooth.{smoothOf}
@@ -34,7 +34,7 @@ use Rattle.visit.specs.Visit.{InnerOk, rhsAt, xAt, residualAt, residualPlace, m
 use Rattle.visit.proofs.Laws.{accepts, not-both, kernel-same, residual-ends}
 use Rattle.cycle.specs.Cycle.{Cycled, cycled, countOf, visited, swept, rowsFirst, residualIn, correctedOf, endOf, upOf, cycleOf}
 use Rattle.cycle.specs.Contract.{cycleAt, CycleOk, CycleDone, levelIn, innerIn, nextIn, innerAt, PlaceOk, NextOk, EndOk, StepOk, LastOk}
-use Rattle.cycle.specs.Contract.{Visited, DownDone, endAt, upAt, passedOf}
+use Rattle.cycle.specs.Contract.{Visited, DownDone, endAt, upAt}
 
 -- ---- the levels, the first apart
 
@@ -316,16 +316,6 @@ up-chain o w F depth a b s r x d =
 
 -- ---- the ways out
 
--- A verdict that passed,
-passed-told : (v : Verdict) {c : Bool} → c ≡ passedOf v → c ≡ true → v ≡ Verdict.Passed
-passed-told Verdict.Passed e f = refl
-passed-told (Verdict.Refused q) e f = let no : _≡_ {A = ℕ} 0 1 = cc in absurd (omega arith)
-
--- and one that did not.
-refused-told : (v : Verdict) {c : Bool} → c ≡ passedOf v → c ≡ false → (q : Refusal) × (v ≡ Verdict.Refused q)
-refused-told Verdict.Passed e f = let no : _≡_ {A = ℕ} 0 1 = cc in absurd (omega arith)
-refused-told (Verdict.Refused q) e f = (q, refl)
-
 module _ (o : MultigridOptions) (left : ℕ) (w : List ℕ) (F : List Float) (t : List ℕ) {t₁ : List ℕ} (depth a b s : ℕ)
     (ok : CycleOk left w (length F) depth a b s) (ct : t₁ ≡ countOf (4 * depth + 1) 1 t) where
   -- the level's place and as its visit has it, and its rows
@@ -402,14 +392,14 @@ module _ (o : MultigridOptions) (left : ℕ) (w : List ℕ) (F : List Float) (t 
         let no = refuses out (d .down .visit .moved .answer) told in
         refused-as t₂ (whole-is ∙ then-refused out (λ y. _>>=_ (deep-out y) (λ c. after y c)) no) (d .down .visit .moved .floats)
 
-    pub stop-down : {c : Bool} → c ≡ passedOf v → c ≡ false → CycleDone o left w F D t t₂ depth a b s v
-    stop-down e f = let told = refused-told v e f .1 in rw told (done-down told)
+    pub stop-down : {c : Bool} → c ≡ isRefused v → c ≡ true → CycleDone o left w F D t t₂ depth a b s v
+    stop-down e f = let told = stopped v (sym e ∙ f) .1 in rw told (done-down told)
 
-    module _ {g₁ : Bool} (went : g₁ ≡ passedOf v) (on : g₁ ≡ true) {p : Place} (at : p ≡ locate w a b) {E : List Float} {u : List ℕ} {v' : Verdict}
+    module _ {g₁ : Bool} (went : g₁ ≡ isRefused v) (on : g₁ ≡ false) {p : Place} (at : p ≡ locate w a b) {E : List Float} {u : List ℕ} {v' : Verdict}
         (c : CycleDone o (left - 1) w D E t₂ u (depth + 1) (p .positions + p .entries) (p .factor) (s + 5 * p .rows) v') where
       -- The way down passed.
       told : v ≡ Verdict.Passed
-      told = passed-told v went on
+      told = went-on v (sym went ∙ on)
 
       -- x after the way down.
       y-as : (y : List Float) × (out ≡ accepted y)
@@ -456,14 +446,14 @@ module _ (o : MultigridOptions) (left : ℕ) (w : List ℕ) (F : List Float) (t 
           let no = refuses (deep-out (y-as .0)) (c' .answer ∙ ap verdictOf same) q-told in
           refused-as u (whole-deep ∙ then-refused (deep-out (y-as .0)) (λ z. after (y-as .0) z) no) held
 
-      pub stop-deep : {c : Bool} → c ≡ passedOf v' → c ≡ false → CycleDone o left w F E t u depth a b s v'
-      stop-deep e f = let no = refused-told v' e f .1 in rw no (done-deep no)
+      pub stop-deep : {c : Bool} → c ≡ isRefused v' → c ≡ true → CycleDone o left w F E t u depth a b s v'
+      stop-deep e f = let no = stopped v' (sym e ∙ f) .1 in rw no (done-deep no)
 
-      module _ {g₂ : Bool} (came : g₂ ≡ passedOf v') (up : g₂ ≡ true) {G : List Float} {u' : List ℕ} {r : Verdict}
+      module _ {g₂ : Bool} (came : g₂ ≡ isRefused v') (up : g₂ ≡ false) {G : List Float} {u' : List ℕ} {r : Verdict}
           (h : Visited s n (upAt o w E u depth a b s) E G u' r) where
         -- They passed.
         passed-on : v' ≡ Verdict.Passed
-        passed-on = passed-told v' came up
+        passed-on = went-on v' (sym came ∙ up)
 
         -- What the deeper levels gave.
         z-as : (z : Cycled) × (deep-out (y-as .0) ≡ accepted z)

@@ -139,8 +139,3 @@ abbrev pub workDone : Way → MultigridOptions → List ℕ → List Float → L
 workDone Way.Last o w F G t u depth a b s r = Visited s (rowsAt w a) (endAt w F t depth a b s) F G u r
 workDone Way.Down o w F G t u depth a b s r = DownDone o w F G t u depth a b s r
 workDone Way.Up o w F G t u depth a b s r = Visited s (rowsAt w a) (upAt o w F t depth a b s) F G u r
-
--- whether a verdict passed
-abbrev pub passedOf : Verdict → Bool
-passedOf Verdict.Passed = true
-passedOf (Verdict.Refused q) = false

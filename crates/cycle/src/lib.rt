@@ -7,7 +7,7 @@ ghost use Rattle.layout.specs.Layout.{rowsAt, locate};
 ghost use Rattle.layout.specs.Parts.{terminalIn};
 ghost use Rattle.cycle.specs.Cycle.{countOf};
 ghost use Rattle.cycle.specs.Contract.{CycleOk, CycleDone, PlaceOk, NextOk, innerAt, EndOk, StepOk};
-ghost use Rattle.cycle.specs.Contract.{Visited, WentDown, endAt, upAt, workOk, workDone, passedOf};
+ghost use Rattle.cycle.specs.Contract.{Visited, WentDown, endAt, upAt, workOk, workDone};
 use cholesky::Terminal;
 use layout::Place;
 use options::MultigridOptions;
@@ -163,16 +163,6 @@ fn work(
     }
 }
 
-// Whether a verdict passed.
-fn passed(v: Verdict) -> bool
-    ensures { λ r. ⌜ r ≡ passedOf v ⌝ }
-{
-    match v {
-        Verdict::Passed => true,
-        Verdict::Refused(_) => false,
-    }
-}
-
 // One cycle over the levels left, the first of which stands at a, b and s.
 pub fn cycle(
     w: &[u32],
@@ -193,14 +183,14 @@ pub fn cycle(
         return work(w, f, t, o, Way::Last, depth, a, b, s);
     }
     let down = work(w, f, t, o, Way::Down, depth, a, b, s);
-    if !passed(down) {
+    if down.refused() {
         return down;
     }
     let p = level_place(w, a, b);
     let deeper = p.positions + p.entries;
     let scratch = s + 5 * p.rows;
     let below = cycle(w, f, t, o, left - 1, depth + 1, deeper, p.factor, scratch);
-    if !passed(below) {
+    if below.refused() {
         return below;
     }
     work(w, f, t, o, Way::Up, depth, a, b, s)

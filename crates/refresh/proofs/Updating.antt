@@ -18,8 +18,8 @@ use Rattle.options.specs.declared.MultigridSmoother.{MultigridSmoother}
 use Rattle.refusal.specs.declared.Refusal.{Refusal}
 use Rattle.refusal.specs.Refusal.{unequalMirrors, otherPattern}
 use Rattle.refusal.specs.declared.Verdict.{Verdict}
-use Rattle.refusal.specs.Outcome.{Outcome, accepted, refused, passed, ask, verdictOf, _>>=_}
-use Rattle.refusal.proofs.Outcome.{then-accepted, then-refused, passes}
+use Rattle.refusal.specs.Outcome.{Outcome, accepted, refused, passed, ask, verdictOf, isRefused, _>>=_}
+use Rattle.refusal.proofs.Outcome.{then-accepted, then-refused, passes, went-on}
 use Rattle.values.specs.Mirrors.{mirrorsEqual}
 use Rattle.matrix.specs.Kernel.{kernelAt, rowSumsOf}
 use Rattle.hierarchy.specs.Level.{Shape, Level, Hierarchy}
@@ -31,10 +31,10 @@ use Rattle.layout.proofs.Views.{floats-to}
 use Rattle.sound.specs.Sound.{shapeIn, scratchStart}
 use Rattle.sound.specs.Contract.{LevelsOk}
 use Rattle.renewing.specs.Update.{samePattern, renewOf, updateOf}
-use Rattle.renewing.specs.Steps.{Under, isRefused, shapesAt, RenewOk, Renewed}
+use Rattle.renewing.specs.Steps.{Under, shapesAt, RenewOk, Renewed}
 use Rattle.renewing.proofs.Chains.{Opened, opened}
 use Rattle.renewing.proofs.Levels.{kernel-ready}
-use Rattle.renewing.proofs.Outcomes.{never, verdict-then, went-on, told-accepted, told-refused}
+use Rattle.renewing.proofs.Outcomes.{never, verdict-then, told-accepted, told-refused}
 use Rattle.renewing.proofs.Renewing.{bare-ok, shapes-some, levels-some, floats-end}
 use Rattle.refresh.specs.declared.Updated.{Updated}
 use Rattle.refresh.specs.Contract.{updatedAt, answerOf, hierarchyOf, imageOf, UpdateDone}

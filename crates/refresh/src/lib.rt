@@ -5,7 +5,6 @@ ghost use Prim.Native.Nat.{_+_, _≤_};
 ghost use lib.ListN.{length};
 ghost use Rattle.store.specs.Region.{Wrote};
 ghost use Rattle.hierarchy.specs.Refresh.{needsDic};
-ghost use Rattle.renewing.specs.Steps.{isRefused};
 ghost use Rattle.refresh.specs.Contract.{updatedAt, UpdateDone};
 ghost use Rattle.refresh.specs.Steps.{With, SumOk, Summed, ShadowOk, ShadowDone, AttemptOk, attemptOf, Attempted, toldOf, UpdateOk};
 use options::Handle;
@@ -32,16 +31,6 @@ fn load(f: &mut [f64], from: &[f64], to: usize)
     while k < n {
         f[to + k] = from[k];
         k += 1;
-    }
-}
-
-// Whether a question refused.
-fn refused(answer: Verdict) -> bool
-    ensures { λ r. ⌜ r ≡ isRefused answer ⌝ }
-{
-    match answer {
-        Verdict::Passed => false,
-        Verdict::Refused(_) => true,
     }
 }
 
@@ -86,7 +75,7 @@ fn shadow(
 {
     load(f, values, image);
     let answer = renewing::renew(w, f, needs_dic(kind), levels, image);
-    if refused(answer) {
+    if answer.refused() {
         return answer;
     }
     sums(w, f, norm, image);
@@ -108,13 +97,13 @@ fn attempt(
     ensures { λ r. ⌜ With kind norm (λ o. Attempted levels (now (w .entry)) (now (f .entry)) (now (f .exit)) (attemptOf o levels (now (w .entry)) (now (f .entry)) (now (offsets .entry)) (now (columns .entry)) (now (values .entry))) r) ⌝ }
 {
     let asked = asking::asked(w, offsets, columns, values);
-    if refused(asked) {
+    if asked.refused() {
         return asked;
     }
     // The image and its shadow end where the scratch of a solve starts.
     let image = sound::scratch_start(w, levels) / 2;
     let answer = shadow(w, f, kind, norm, levels, values, image);
-    if refused(answer) {
+    if answer.refused() {
         return answer;
     }
     store::copy(f, image, image, 0);

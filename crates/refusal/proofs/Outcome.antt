@@ -5,7 +5,7 @@ use Prim.Native.Nat.{ℕ, zero, suc, _+_, _-_, _≤_, _<_}
 use native.Mathlib.Omega.{arith}
 use Rattle.refusal.specs.declared.Refusal.{Refusal}
 use Rattle.refusal.specs.declared.Verdict.{Verdict}
-use Rattle.refusal.specs.Outcome.{Outcome, accepted, refused, passed, ask, _>>=_, askRows, askFrom, askEach, verdictOf}
+use Rattle.refusal.specs.Outcome.{Outcome, accepted, refused, passed, ask, _>>=_, askRows, askFrom, askEach, verdictOf, isRefused}
 
 module _ {A : Type 0} (holds : Bool) (q : Refusal) (rest : Outcome A) where
   -- a question that holds goes on
@@ -81,3 +81,13 @@ passes (refused q) e told = let none : _≡_ {A = ℕ} 0 1 = cc in absurd (omega
 pub refuses : {A : Type 0} {v : Verdict} {q : Refusal} (o : Outcome A) → v ≡ verdictOf o → v ≡ Verdict.Refused q → o ≡ refused q
 refuses (accepted a) e told = let none : _≡_ {A = ℕ} 0 1 = cc in absurd (omega arith)
 refuses (refused p) e told = cc
+
+-- An answer that is no refusal has passed,
+pub went-on : (v : Verdict) → isRefused v ≡ false → v ≡ Verdict.Passed
+went-on Verdict.Passed e = refl
+went-on (Verdict.Refused q) e = let none : _≡_ {A = ℕ} 0 1 = cc in absurd (omega arith)
+
+-- and another has refused.
+pub stopped : (v : Verdict) → isRefused v ≡ true → (q : Refusal) × (v ≡ Verdict.Refused q)
+stopped Verdict.Passed e = let none : _≡_ {A = ℕ} 0 1 = cc in absurd (omega arith)
+stopped (Verdict.Refused q) e = (q, refl)

@@ -46,3 +46,8 @@ askEach rows asked rest = askFrom 0 rows asked rest
 abbrev pub verdictOf : {A : Type 0} → Outcome A → Verdict
 verdictOf (accepted a) = Verdict.Passed
 verdictOf (refused q) = Verdict.Refused q
+
+-- whether a question refused
+abbrev pub isRefused : Verdict → Bool
+isRefused Verdict.Passed = false
+isRefused (Verdict.Refused q) = true

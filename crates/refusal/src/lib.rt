@@ -1,5 +1,8 @@
 // What a call answers where it refuses: the first of document 01's questions that failed, and where it failed.
 
+ghost use mathlib.Core.Path.{_≡_};
+ghost use Rattle.refusal.specs.Outcome.{isRefused};
+
 // The question's number, and the level and row where it failed; both are zero where the question names no place.
 pub struct Refusal {
     pub number: u64,
@@ -11,6 +14,18 @@ pub struct Refusal {
 pub enum Verdict {
     Passed,
     Refused(Refusal),
+}
+
+impl Verdict {
+    // Whether a question refused.
+    pub fn refused(self) -> bool
+        ensures { λ r. ⌜ r ≡ isRefused self ⌝ }
+    {
+        match self {
+            Verdict::Passed => false,
+            Verdict::Refused(_) => true,
+        }
+    }
 }
 
 // The refusals, each named for what is wrong. A question that names a place has its number alone: the code adds level and row.

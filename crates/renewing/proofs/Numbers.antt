@@ -13,7 +13,7 @@ use Rattle.store.specs.Vector.{filled}
 use Rattle.store.proofs.Region.{length-part, wrote-at, kept-part, kept-wrote, kept-on, kept-less}
 use Rattle.options.specs.declared.MultigridOptions.{MultigridOptions}
 use Rattle.refusal.specs.declared.Verdict.{Verdict}
-use Rattle.refusal.specs.Outcome.{Outcome, accepted, refused, verdictOf, _>>=_}
+use Rattle.refusal.specs.Outcome.{Outcome, accepted, refused, verdictOf, isRefused, _>>=_}
 use Rattle.refusal.proofs.Outcome.{then-accepted, then-refused, verdict-passed}
 use Rattle.matrix.specs.Kernel.{kernelAt}
 use Rattle.values.specs.Update.{Coefficients, updateOf, updateAt, Updated}
@@ -28,7 +28,7 @@ use Rattle.layout.specs.declared.Place.{Place}
 use Rattle.layout.specs.Layout.{shapeAt, numbersAt}
 use Rattle.layout.specs.Parts.{kernelIn, entriesIn}
 use Rattle.renewing.specs.Update.{diagonalStands, diagonalsStand}
-use Rattle.renewing.specs.Steps.{isRefused, LevelOk, LevelReady, bareAt, coefficientsAsked, smootherUnder, smootherAt, factorOf, FactorDone, levelRenewed, LevelDone}
+use Rattle.renewing.specs.Steps.{LevelOk, LevelReady, bareAt, coefficientsAsked, smootherUnder, smootherAt, factorOf, FactorDone, levelRenewed, LevelDone}
 use Rattle.renewing.proofs.Outcomes.{never, verdict-then, then-then, told-accepted, told-refused}
 
 -- ---- outcomes

@@ -6,9 +6,8 @@ use Prim.Native.Nat.{ℕ}
 use native.Mathlib.Omega.{arith}
 use Rattle.refusal.specs.declared.Refusal.{Refusal}
 use Rattle.refusal.specs.declared.Verdict.{Verdict}
-use Rattle.refusal.specs.Outcome.{Outcome, accepted, refused, verdictOf, _>>=_}
-use Rattle.refusal.proofs.Outcome.{refuses}
-use Rattle.renewing.specs.Steps.{isRefused}
+use Rattle.refusal.specs.Outcome.{Outcome, accepted, refused, verdictOf, isRefused, _>>=_}
+use Rattle.refusal.proofs.Outcome.{refuses, went-on, stopped}
 
 -- What passed was accepted.
 pub accepts : {A : Type 0} {v : Verdict} (o : Outcome A) → v ≡ verdictOf o → v ≡ Verdict.Passed → (a : A) × (o ≡ accepted a)
@@ -28,16 +27,6 @@ verdict-then (refused q) f = refl
 pub then-then : {A B C : Type 0} (o : Outcome A) (f : A → Outcome B) (g : B → Outcome C) → _>>=_ o (λ a. _>>=_ (f a) g) ≡ _>>=_ (_>>=_ o f) g
 then-then (accepted a) f g = refl
 then-then (refused q) f g = refl
-
--- An answer that is no refusal has passed,
-pub went-on : (v : Verdict) → isRefused v ≡ false → v ≡ Verdict.Passed
-went-on Verdict.Passed e = refl
-went-on (Verdict.Refused q) e = let none : _≡_ {A = ℕ} 0 1 = cc in absurd (omega arith)
-
--- and another has refused.
-pub stopped : (v : Verdict) → isRefused v ≡ true → (q : Refusal) × (v ≡ Verdict.Refused q)
-stopped Verdict.Passed e = let none : _≡_ {A = ℕ} 0 1 = cc in absurd (omega arith)
-stopped (Verdict.Refused q) e = (q, refl)
 
 module _ {A : Type 0} {v : Verdict} (o : Outcome A) (is : v ≡ verdictOf o) where
   -- An answer that is no refusal is of an accepted outcome,

@@ -15,8 +15,8 @@ use Rattle.options.specs.declared.MultigridOptions.{MultigridOptions}
 use Rattle.refusal.specs.declared.Refusal.{Refusal}
 use Rattle.refusal.specs.Refusal.{badCoarseValue}
 use Rattle.refusal.specs.declared.Verdict.{Verdict}
-use Rattle.refusal.specs.Outcome.{Outcome, accepted, refused, ask, verdictOf, _>>=_}
-use Rattle.refusal.proofs.Outcome.{then-accepted, then-refused}
+use Rattle.refusal.specs.Outcome.{Outcome, accepted, refused, ask, verdictOf, isRefused, _>>=_}
+use Rattle.refusal.proofs.Outcome.{then-accepted, then-refused, went-on}
 use Rattle.vector.specs.Dot.{allFinite}
 use Rattle.pattern.specs.Pattern.{entries}
 use Rattle.packed.specs.Triangle.{tri}
@@ -30,9 +30,9 @@ use Rattle.sound.specs.Sound.{shapeIn}
 use Rattle.sound.specs.Contract.{PlaceOk}
 use Rattle.sound.proofs.Facts.{Here, targetsOf, sumsOf, endsOf}
 use Rattle.renewing.specs.Update.{diagonalsStand, renewOf}
-use Rattle.renewing.specs.Steps.{Chain, Under, isRefused, LevelOk, LevelReady, levelOf, levelRenewed, LevelDone, CoarseOk, coarseAt, TurnOk, turnOf, Turned, shapesAt, renewAt, RenewOk, Renewed}
+use Rattle.renewing.specs.Steps.{Chain, Under, LevelOk, LevelReady, levelOf, levelRenewed, LevelDone, CoarseOk, coarseAt, TurnOk, turnOf, Turned, shapesAt, renewAt, RenewOk, Renewed}
 use Rattle.renewing.proofs.Chains.{Opened, opened}
-use Rattle.renewing.proofs.Outcomes.{accepts, never, verdict-then, then-then, went-on, told-refused}
+use Rattle.renewing.proofs.Outcomes.{accepts, never, verdict-then, then-then, told-refused}
 use Rattle.renewing.proofs.Turning.{no-tri}
 
 -- ---- what the calls require

@@ -11,8 +11,8 @@ use Rattle.store.proofs.Region.{kept-part, kept-on, kept-less}
 use Rattle.options.specs.declared.MultigridOptions.{MultigridOptions}
 use Rattle.refusal.specs.Refusal.{badCoarseValue}
 use Rattle.refusal.specs.declared.Verdict.{Verdict}
-use Rattle.refusal.specs.Outcome.{Outcome, accepted, refused, ask, verdictOf}
-use Rattle.refusal.proofs.Outcome.{ask-yes, ask-no, then-accepted, then-refused}
+use Rattle.refusal.specs.Outcome.{Outcome, accepted, refused, ask, verdictOf, isRefused}
+use Rattle.refusal.proofs.Outcome.{ask-yes, ask-no, then-accepted, then-refused, went-on}
 use Rattle.vector.specs.Dot.{allFinite}
 use Rattle.galerkin.specs.Values.{galerkinOf}
 use Rattle.packed.specs.Triangle.{tri}
@@ -20,8 +20,8 @@ use Rattle.hierarchy.specs.Level.{Numbers}
 use Rattle.hierarchy.proofs.Accepted.{accepted-one}
 use Rattle.layout.specs.declared.Place.{Place}
 use Rattle.layout.specs.Layout.{numbersAt}
-use Rattle.renewing.specs.Steps.{isRefused, LevelReady, levelRenewed, LevelDone, CoarseOk, coarseAt, CoarseDone, TurnOk, turnOf, Turned}
-use Rattle.renewing.proofs.Outcomes.{never, went-on, told-accepted, told-refused}
+use Rattle.renewing.specs.Steps.{LevelReady, levelRenewed, LevelDone, CoarseOk, coarseAt, CoarseDone, TurnOk, turnOf, Turned}
+use Rattle.renewing.proofs.Outcomes.{never, told-accepted, told-refused}
 
 -- A triangle of no rows is empty.
 pub no-tri : tri 0 ≡ 0

@@ -40,11 +40,6 @@ pub record Chain (w : List ℕ) (size left level a b : ℕ) : Type 0 where
 abbrev pub Under : Bool → (MultigridOptions → Type 0) → Type 0
 Under dic holds = (o : MultigridOptions) → needsDic (o .smoother) ≡ dic → holds o
 
--- whether an answer is a refusal
-abbrev pub isRefused : Verdict → Bool
-isRefused Verdict.Passed = false
-isRefused (Verdict.Refused q) = true
-
 -- ---- one level
 
 -- The level at p, with so many coupled rows if it is the last, else none: its words and floats lie in the stores, its floats in order,

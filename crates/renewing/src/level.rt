@@ -9,7 +9,7 @@ ghost use Rattle.values.specs.Update.{Updated};
 ghost use Rattle.dic.specs.Dic.{Settled};
 ghost use Rattle.layout.specs.Parts.{kernelIn, terminalIn};
 ghost use Rattle.renewing.specs.Update.{diagonalStands, diagonalsStand};
-ghost use Rattle.renewing.specs.Steps.{isRefused, Under, bareAt, RowOk, RowsOk, CoefficientsOk, coefficientsAsked, SmootherOk, smootherAt};
+ghost use Rattle.renewing.specs.Steps.{Under, bareAt, RowOk, RowsOk, CoefficientsOk, coefficientsAsked, SmootherOk, smootherAt};
 ghost use Rattle.renewing.specs.Steps.{FactorOk, FactorDone, LevelReady, LevelDone, CoarseOk, CoarseDone};
 use cholesky::Terminal;
 use layout::Place;
@@ -71,16 +71,6 @@ fn rows_stand(w: &[u32], p: Place, level: u64) -> Verdict
         }
     }
     Verdict::Passed
-}
-
-// Whether a question refused.
-pub fn refused(answer: Verdict) -> bool
-    ensures { λ r. ⌜ r ≡ isRefused answer ⌝ }
-{
-    match answer {
-        Verdict::Passed => false,
-        Verdict::Refused(_) => true,
-    }
 }
 
 // The coefficients of the level, from its values: 12 and 13, once 11 has passed. Only stores that no build wrote can fail 11.
@@ -148,7 +138,7 @@ pub fn renew_level(
     ensures { λ r. ⌜ Under dic (λ o. LevelDone (now (w .entry)) (now (f .entry)) (now (f .exit)) o p last coupled level r) ⌝ }
 {
     let own = coefficients(w, f, p, level);
-    if refused(own) {
+    if own.refused() {
         return own;
     }
     if last {

@@ -2,7 +2,6 @@
 ghost use lib.ListN.{length};
 ghost use Rattle.renewing.specs.Steps.{Under, TurnOk, Turned, RenewOk, Renewed};
 use layout::Place;
-use level::refused;
 use refusal::Verdict;
 
 mod level;
@@ -13,7 +12,7 @@ fn turn(w: &[u32], f: &mut [f64], dic: bool, p: Place, t: Place, level: u64) -> 
     ensures { λ r. ⌜ Under dic (λ o. Turned (now (w .entry)) (now (f .entry)) (now (f .exit)) o p t level r) ⌝ }
 {
     let numbers = level::renew_level(w, f, dic, p, false, 0, level);
-    if refused(numbers) {
+    if numbers.refused() {
         return numbers;
     }
     if level::coarse_values(w, f, p, t) {
@@ -35,7 +34,7 @@ pub fn renew(w: &[u32], f: &mut [f64], dic: bool, levels: u64, image: usize) -> 
         a = layout::words_end(w, a);
         let t = sound::place_at(w, a, p.factor);
         let answer = turn(w, f, dic, p, t, level);
-        if refused(answer) {
+        if answer.refused() {
             return answer;
         }
         p = t;

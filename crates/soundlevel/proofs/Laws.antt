@@ -6,14 +6,13 @@ use mathlib.Core.List.{List}
 use mathlib.Core.Logic.{⊎-elim}
 use Prim.Native.Nat.{ℕ, zero, suc, _+_, _*_, _-_, _≤_, _<_}
 use native.Mathlib.Nat.{not-suc-le-zero}
-use native.Mathlib.Numerals.{add-one}
 use native.Mathlib.Omega.{arith}
 use lib.Dec.{leb, ltb}
 use lib.ListN.{length}
 use borrow.Author.Tests.{le-leb, lt-leb, lt-ltb, le-ltb, eq-eqb, ne-eqb}
 use Rattle.store.specs.Region.{idx, part}
 use Rattle.store.specs.Vector.{each}
-use Rattle.store.proofs.Each.{each-same, Passed, passed-on, passed-yes, passed-no}
+use Rattle.store.proofs.Each.{each-same, Tested, tested-done, Passed, passed-on, passed-yes, passed-no}
 use Rattle.store.proofs.Region.{le-or-lt, length-part, getD-part}
 use Rattle.layout.specs.declared.Place.{Place}
 use Rattle.layout.specs.Layout.{rowsAt, coupledAt, entriesAt, locate, shapeAt, wordsEnd}
@@ -49,29 +48,10 @@ module _ (w : List ℕ) (from n bound : ℕ) (fits : from + n ≤ length w) wher
   pub below-yes : {k : ℕ} → Passed (belowAt w from bound) n k → n ≤ k → true ≡ allBelow bound (part from n w)
   below-yes p h = passed-yes p h ∙ below-is
 
--- What the loop of `below_narrow` knows: the answer of the first k numbers.
-pub record Gathered (w : List ℕ) (from n bound k : ℕ) (ok : Bool) : Type 0 where
-  pub is : ok ≡ each (belowAt w from bound) k
-  pub within : k ≤ n
-
--- At the start there is none.
-pub gathered-start : (w : List ℕ) (from n bound : ℕ) → Gathered w from n bound 0 true
-unfolding each
-gathered-start w from n bound = record { is = refl; within = omega arith }
-
--- A turn takes one number more.
-pub gathered-on : {w : List ℕ} {from n bound k : ℕ} {ok : Bool} → Gathered w from n bound k ok → k < n
-    → Gathered w from n bound (k + 1) (ok && ltb (idx w (from + k)) bound)
-unfolding each
-gathered-on {w} {from} {n} {bound} {k} g h = record { is = rw (add-one k, g .is); within = omega arith }
-
--- At the end they are all.
-pub gathered-end : (w : List ℕ) (from n bound : ℕ) → from + n ≤ length w → {k : ℕ} {ok : Bool} → Gathered w from n bound k ok → n ≤ k
+-- Numbers that have all been tested.
+pub below-tested : (w : List ℕ) (from n bound : ℕ) → from + n ≤ length w → {k : ℕ} {ok : Bool} → Tested (belowAt w from bound) n k ok → n ≤ k
     → ok ≡ allBelow bound (part from n w)
-gathered-end w from n bound fits {k} g h =
-    let b : k ≤ n = g .within in
-    let z : k ≡ n = omega arith in
-    g .is ∙ ap (each (belowAt w from bound)) z ∙ below-is w from n bound fits
+below-tested w from n bound fits t h = tested-done t h ∙ below-is w from n bound fits
 
 -- No numbers are below any bound.
 below-none : (w : List ℕ) (from bound : ℕ) → allBelow bound (part from 0 w) ≡ true

@@ -1,7 +1,6 @@
 -- `cycle::cycle` meets its contract. The measure is the number of levels left.
 -- Assumes nothing.
 use mathlib.Core.Path.{_∙_}
-use borrow.Author.Tests.{not-true, not-false}
 use native.Mathlib.Omega.{arith}
 use Rattle.cycle.proofs.Ways.{place-ok, deep-enough, end-ok, step-ok, after-within, scratch-within, deep-on, step-on}
 use Rattle.cycle.proofs.Ways.{done-last, stop-down, stop-deep, done-up}
@@ -14,7 +13,7 @@ use Rattle.cycle.proofs.cycle.Kinds as cycle-kinds
 use Rattle.cycle.proofs.+cycle.Lts-cycle as cycle-lts
 use Rattle.cycle.proofs.count.Reads as count-reads
 use Rattle.cycle.proofs.level_place.Reads as level-place-reads
-use Rattle.cycle.proofs.passed.Reads as passed-reads
+use Rattle.refusal.proofs.Verdict.refused.Reads as refused-reads
 use Rattle.cycle.proofs.work.Reads as work-reads
 use Rattle.cycle.proofs.+cycle.{statement}
 use Rattle.cycle.proofs.+cycle.Tie.{close}
@@ -35,8 +34,8 @@ calls t = (
   count-reads.Learnt,
   work-reads.Asked,
   work-reads.Learnt,
-  passed-reads.Asked,
-  passed-reads.Learnt,
+  refused-reads.Asked,
+  refused-reads.Learnt,
   level-place-reads.Asked,
   level-place-reads.Learnt,
   cycle-below t,
@@ -122,40 +121,40 @@ cycle-work-requires-3 t c κs =
 
 cycle-returns-2 : (t : ℕ) → cycle-lts.Need-returns-2 (calls t) (cycle-at t) cycle.Post
 cycle-returns-2 t c =
-    let at-passed = c .before in
-    let at-work2 = at-passed .before .before .before in
+    let at-refused = c .before in
+    let at-work2 = at-refused .before .before .before in
     let at-if1 = at-work2 .before .before .before in
     let at-count = at-if1 .before in
     let start = at-count .before .before .before .before in
-    stop-down _ _ _ _ _ _ _ _ _ (start .pre .1) (at-count .count .ensures) (at-if1 .if1 .left) (at-work2 .work2 .ensures) (at-passed .passed .ensures) (not-true (at-passed .passed .result) (c .if2 .taken))
+    stop-down _ _ _ _ _ _ _ _ _ (start .pre .1) (at-count .count .ensures) (at-if1 .if1 .left) (at-work2 .work2 .ensures) (at-refused .refused .ensures) (c .if2 .taken)
 
 cycle-returns-3 : (t : ℕ) → cycle-lts.Need-returns-3 (calls t) (cycle-at t) cycle.Post
 cycle-returns-3 t c =
-    let at-passed2 = c .before in
-    let at-cycle = at-passed2 .before .before .before in
+    let at-refused2 = c .before in
+    let at-cycle = at-refused2 .before .before .before in
     let at-level-place = at-cycle .before .before .before .before .before in
     let at-if2 = at-level-place .before in
-    let at-passed = at-if2 .before in
-    let at-work2 = at-passed .before .before .before in
+    let at-refused = at-if2 .before in
+    let at-work2 = at-refused .before .before .before in
     let at-if1 = at-work2 .before .before .before in
     let at-count = at-if1 .before in
     let start = at-count .before .before .before .before in
-    stop-deep _ _ _ _ _ _ _ _ _ (start .pre .1) (at-count .count .ensures) (at-if1 .if1 .left) (at-work2 .work2 .ensures) (at-passed .passed .ensures) (not-false (at-passed .passed .result) (at-if2 .if2 .left)) (at-level-place .level-place .ensures) (at-cycle .cycle .ensures) (at-passed2 .passed2 .ensures) (not-true (at-passed2 .passed2 .result) (c .if3 .taken))
+    stop-deep _ _ _ _ _ _ _ _ _ (start .pre .1) (at-count .count .ensures) (at-if1 .if1 .left) (at-work2 .work2 .ensures) (at-refused .refused .ensures) (at-if2 .if2 .left) (at-level-place .level-place .ensures) (at-cycle .cycle .ensures) (at-refused2 .refused2 .ensures) (c .if3 .taken)
 
 cycle-returns-4 : (t : ℕ) → cycle-lts.Need-returns-4 (calls t) (cycle-at t) cycle.Post
 cycle-returns-4 t c =
     let at-work3 = c .before .before in
     let at-if3 = at-work3 .before .before .before in
-    let at-passed2 = at-if3 .before in
-    let at-cycle = at-passed2 .before .before .before in
+    let at-refused2 = at-if3 .before in
+    let at-cycle = at-refused2 .before .before .before in
     let at-level-place = at-cycle .before .before .before .before .before in
     let at-if2 = at-level-place .before in
-    let at-passed = at-if2 .before in
-    let at-work2 = at-passed .before .before .before in
+    let at-refused = at-if2 .before in
+    let at-work2 = at-refused .before .before .before in
     let at-if1 = at-work2 .before .before .before in
     let at-count = at-if1 .before in
     let start = at-count .before .before .before .before in
-    done-up _ _ _ _ _ _ _ _ _ (start .pre .1) (at-count .count .ensures) (at-if1 .if1 .left) (at-work2 .work2 .ensures) (at-passed .passed .ensures) (not-false (at-passed .passed .result) (at-if2 .if2 .left)) (at-level-place .level-place .ensures) (at-cycle .cycle .ensures) (at-passed2 .passed2 .ensures) (not-false (at-passed2 .passed2 .result) (at-if3 .if3 .left)) (at-work3 .work3 .ensures)
+    done-up _ _ _ _ _ _ _ _ _ (start .pre .1) (at-count .count .ensures) (at-if1 .if1 .left) (at-work2 .work2 .ensures) (at-refused .refused .ensures) (at-if2 .if2 .left) (at-level-place .level-place .ensures) (at-cycle .cycle .ensures) (at-refused2 .refused2 .ensures) (at-if3 .if3 .left) (at-work3 .work3 .ensures)
 
 pub +cycle-spec : {M : Type 1} → statement M
 +cycle-spec = close μ-cycle λ t. cycle-lts.spec (calls t)

@@ -3,24 +3,25 @@
 use Prim.Native.Nat.{_-_}
 use borrow.Author.Needs.{needs}
 use native.Mathlib.Omega.{arith}
-use Rattle.soundlevel.proofs.Laws.{Gathered, gathered-start, gathered-on, gathered-end}
+use Rattle.store.proofs.Each.{Tested, tested-start, tested-on}
+use Rattle.soundlevel.proofs.Laws.{belowAt, below-tested}
 use Rattle.soundlevel.proofs.below_narrow.Statement.{statement}
 use Rattle.soundlevel.proofs.below_narrow.Tie as tie
 
 abbrev Inv-loop : tie.InvT-loop
-Inv-loop w from n bound ok₀ k₀ ok k = Gathered w from n bound k ok
+Inv-loop w from n bound ok₀ k₀ ok k = Tested (belowAt w from bound) n k ok
 
 abbrev μ-loop : tie.MeasureT-loop
 μ-loop w from n bound ok₀ k₀ ok k = n - k
 
 loop-holds : tie.Need-loop-holds Inv-loop μ-loop
-loop-holds c = gathered-start _ _ _ _
+loop-holds c = tested-start _ _
 
 loop-again : tie.Need-loop-again Inv-loop μ-loop
-loop-again c = search (gathered-on, needs)
+loop-again c = search (tested-on, needs)
 
 returns : tie.Need-returns Inv-loop μ-loop
-returns c = search (gathered-end, needs)
+returns c = search (below-tested, needs)
 
 pub below-narrow-spec : {M : Type 1} → statement M
 below-narrow-spec =
