@@ -1,11 +1,11 @@
--- `float::root` meets its contract: the loop keeps `Digits`, and the turns left fall.
+-- `root::root` meets its contract: the loop keeps `Digits`, and the turns left fall.
 -- Assumes nothing.
 use mathlib.Core.Logic.{inl, inr}
 use Prim.Native.Nat.{_-_, _<_}
 use native.Mathlib.Omega.{arith}
-use Rattle.float.proofs.Digit.{Digits, start, bounded, one, none, floor, same}
-use Rattle.float.proofs.root.Statement.{statement}
-use Rattle.float.proofs.root.Tie as tie
+use Rattle.root.proofs.Digit.{Digits, start, bounded, one, none, floor, same}
+use Rattle.root.proofs.root.Statement.{statement}
+use Rattle.root.proofs.root.Tie as tie
 
 abbrev Inv-loop : tie.InvT-loop
 Inv-loop m root₀ rest₀ a₀ i₀ root rest a i = Digits m root rest a i

@@ -5,8 +5,8 @@ use native.Mathlib.Nat.{mul-left-comm, pow-succ', lt-of-lt-of-le, mod-lt}
 use native.Mathlib.Numerals.{add-one}
 use native.Mathlib.Omega.{arith}
 use lib.Pow.{pow-add, pow-pos, pow-mono}
-use Rattle.float.specs.Sqrt.{Root}
-use Rattle.float.proofs.Floor.{sq-next, sq-twice}
+use Rattle.root.specs.Sqrt.{Root}
+use Rattle.root.proofs.Floor.{sq-next, sq-twice}
 
 -- After i turns `root` is the whole root of the first i pairs of digits of m * 2 ^ 54, a number of 54 pairs; `rest` is
 -- what those pairs are above its square; `a` holds the pairs to come, the next at its top.

@@ -10,7 +10,7 @@ use lib.Pow.{pow-pos}
 use lib.Ieee.{size}
 use lib.Ieee.Digits.{size-lt}
 use borrow.Author.Tests.{leb-true, leb-false}
-use Rattle.float.specs.Sqrt.{Root, cutRoot, wholeRoot}
+use Rattle.root.specs.Sqrt.{Root, cutRoot, wholeRoot}
 
 -- The square of the next number.
 pub sq-next : (r : ℕ) → (r + 1) * (r + 1) ≡ r * r + 2 * r + 1

@@ -1,4 +1,4 @@
--- `float::sqrt` meets its contract: the special values by the tests, any other by its bits, which `packed` takes.
+-- `root::sqrt` meets its contract: the special values by the tests, any other by its bits, which `packed` takes.
 -- Assumes nothing.
 use mathlib.Core.Path.{sym, _∙_, subst}
 use Prim.Native.Nat.{_+_, _/_, _%_, _^_}
@@ -8,10 +8,10 @@ use lib.Ieee.{Float, binary64, fits, toBits, ofBits, div}
 use lib.Ieee.Positive.{above}
 use borrow.Author.Needs.{needs}
 use borrow.Author.Tests.{not-true, not-false}
-use Rattle.float.proofs.Split.{of-negative, of-rest, of-inf, is-above, above-no-nan, Shift, Split, split-root}
-use Rattle.float.proofs.Split.{field-lt, at-top, at-sub, at-normal}
-use Rattle.float.proofs.sqrt.Statement.{statement}
-use Rattle.float.proofs.sqrt.Tie as tie
+use Rattle.root.proofs.Split.{of-negative, of-rest, of-inf, is-above, above-no-nan, Shift, Split, split-root}
+use Rattle.root.proofs.Split.{field-lt, at-top, at-sub, at-normal}
+use Rattle.root.proofs.sqrt.Statement.{statement}
+use Rattle.root.proofs.sqrt.Tie as tie
 
 -- After the two tests x is above zero, and it is a value that an f64 holds.
 module _ (c : tie.Else2) where

@@ -15,11 +15,11 @@ use lib.Ieee.Bits.{ofBits-toBits}
 use lib.Ieee.Exact.{HasValue, odd-sign}
 use lib.Ieee.Positive.{above}
 use borrow.Author.Tests.{ltb-true, ltb-false, le-leb}
 use Rattle.float.specs.Float.{zero64}
-use Rattle.float.specs.Sqrt.{sqrtOf, nearestRoot}
+use Rattle.root.specs.Sqrt.{sqrtOf, nearestRoot}
 use Rattle.float.proofs.Sign.{ofBits-is, plus-is}
-use Rattle.float.proofs.Round.{normal-is}
-use Rattle.float.proofs.Pack.{Packs, pow-lt-back}
+use Rattle.root.proofs.Round.{normal-is}
+use Rattle.root.proofs.Pack.{Packs, pow-lt-back}
 
 -- ---- the special values
 

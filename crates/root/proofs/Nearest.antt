@@ -10,10 +10,10 @@ use lib.Pow.{pow-pos}
 use lib.Ieee.{Float, nan, inf, fin, binary64, fits, toBits}
 use lib.Ieee.Exact.{HasValue, odd-sign}
 use lib.Ieee.Positive.{positive, above}
-use Rattle.float.specs.Sqrt.{Root, wholeRoot, sqrtOf, NearestRoot}
-use Rattle.float.proofs.Floor.{whole, sq-next}
-use Rattle.float.proofs.Pack.{Packs, Even, twice, once, no-odd-square, digits, nearest-is}
-use Rattle.float.proofs.Split.{Split, split-root, at-top, at-sub, at-normal}
+use Rattle.root.specs.Sqrt.{Root, wholeRoot, sqrtOf, NearestRoot}
+use Rattle.root.proofs.Floor.{whole, sq-next}
+use Rattle.root.proofs.Pack.{Packs, Even, twice, once, no-odd-square, digits, nearest-is}
+use Rattle.root.proofs.Split.{Split, split-root, at-top, at-sub, at-normal}
 
 -- ---- q, half of the whole root r of an even n, rounded up, against √n
 

@@ -12,9 +12,9 @@ use lib.Ieee.{binary64, size, odd, units, round, ofBits, nanBits}
 use lib.Ieee.Digits.{size-lt, size-le}
 use lib.Ieee.Bits.{nanBits-is}
 use lib.Ieee.Nearest.{closest}
-use Rattle.float.specs.Sqrt.{Root, wholeRoot, nearestRoot}
-use Rattle.float.proofs.Floor.{whole, sq-next, sq-twice, sq-lt-back, scaled-low, scaled-high}
-use Rattle.float.proofs.Round.{rounds-down, rounds-up, round-at, units-is, odd-more, pattern-is, odd-no-nan}
+use Rattle.root.specs.Sqrt.{Root, wholeRoot, nearestRoot}
+use Rattle.root.proofs.Floor.{whole, sq-next, sq-twice, sq-lt-back, scaled-low, scaled-high}
+use Rattle.root.proofs.Round.{rounds-down, rounds-up, round-at, units-is, odd-more, pattern-is, odd-no-nan}
 
 -- r * p by the half of r and its last digit.
 halves : (r p o : ℕ) → r ≡ 2 * (r / 2) + o → r * p ≡ 2 * (r / 2 * p) + o * p

@@ -1,12 +1,12 @@
--- `float::packed` meets its contract: the bits that it makes are those of the nearest root.
+-- `root::packed` meets its contract: the bits that it makes are those of the nearest root.
 -- Assumes nothing.
 use mathlib.Core.Path.{_∙_}
 use mathlib.Core.Logic.{inl, inr}
 use native.Mathlib.Omega.{arith}
 use borrow.Author.Needs.{needs}
-use Rattle.float.proofs.Pack.{Even, twice, once, short, bits-are, nearest-is, no-nan}
-use Rattle.float.proofs.packed.Statement.{statement}
-use Rattle.float.proofs.packed.Tie as tie
+use Rattle.root.proofs.Pack.{Even, twice, once, short, bits-are, nearest-is, no-nan}
+use Rattle.root.proofs.packed.Statement.{statement}
+use Rattle.root.proofs.packed.Tie as tie
 
 even : (c : tie.Joined1) → Even (c .before .args .m) (c .before .args .n) (c .if1 .even)
 even c =
