@@ -1,9 +1,9 @@
 -- The solve's default controls and the meaning of its status (solver.rs). Definitions only.
 use mathlib.Core.Bool.{Bool, true, false}
 use Prim.Native.Nat.{_^_}
-use Rattle.options.specs.Options.{ratio}
-use Rattle.options.specs.declared.solver.LinearSolverOptions.{LinearSolverOptions}
-use Rattle.options.specs.declared.solver.LinearSolverStatus.{LinearSolverStatus}
+use Rattle.float.specs.Float.{ratio}
+use Rattle.solver.specs.declared.LinearSolverOptions.{LinearSolverOptions}
+use Rattle.solver.specs.declared.LinearSolverStatus.{LinearSolverStatus}
 
 -- `Default` of solver.rs
 unfoldable pub defaultSolver : LinearSolverOptions

@@ -2,9 +2,9 @@
 -- Assumes nothing.
 use mathlib.Core.Path.{refl}
 use lib.Ieee.{round, ofBits}
-use Rattle.options.specs.Solver.{defaultSolver}
-use Rattle.options.proofs.solver.LinearSolverOptions.default.Statement.{statement}
-use Rattle.options.proofs.solver.LinearSolverOptions.default.Tie as tie
+use Rattle.solver.specs.Solver.{defaultSolver}
+use Rattle.solver.proofs.LinearSolverOptions.default.Statement.{statement}
+use Rattle.solver.proofs.LinearSolverOptions.default.Tie as tie
 
 returns : tie.Need-returns
 unfolding defaultSolver round ofBits

@@ -1,6 +1,6 @@
 // Types of a solve: its controls, and the report that it returns.
 ghost use mathlib.Core.Path.{_≡_};
-ghost use Rattle.options.specs.Solver.{defaultSolver, convergedOf};
+ghost use Rattle.solver.specs.Solver.{defaultSolver, convergedOf};
 
 pub struct LinearSolverOptions {
     pub absolute_tolerance: f64,
