@@ -1,9 +1,9 @@
--- `correction::correction_factor` meets its contract.
+-- `scaling::correction_factor` meets its contract.
 -- Assumes nothing.
-use Rattle.correction.proofs.Correction.{factor-done}
+use Rattle.scaling.proofs.Scaling.{factor-done}
 use borrow.Author.Needs.{needs}
-use Rattle.correction.proofs.correction_factor.Statement.{statement}
-use Rattle.correction.proofs.correction_factor.Tie as tie
+use Rattle.scaling.proofs.correction_factor.Statement.{statement}
+use Rattle.scaling.proofs.correction_factor.Tie as tie
 
 returns : tie.Need-returns
 returns c = search (factor-done)

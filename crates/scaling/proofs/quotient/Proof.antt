@@ -1,8 +1,8 @@
--- `correction::quotient` meets its contract: its test is the definition's.
+-- `scaling::quotient` meets its contract: its test is the definition's.
 -- Assumes nothing.
-use Rattle.correction.specs.Correction.{quotientOf}
-use Rattle.correction.proofs.quotient.Statement.{statement}
-use Rattle.correction.proofs.quotient.Tie as tie
+use Rattle.scaling.specs.Scaling.{quotientOf}
+use Rattle.scaling.proofs.quotient.Statement.{statement}
+use Rattle.scaling.proofs.quotient.Tie as tie
 
 returns : tie.Need-returns
 unfolding quotientOf

@@ -1,9 +1,9 @@
--- `correction::scale` meets its contract: question 26, and then question 27.
+-- `scaling::scale` meets its contract: question 26, and then question 27.
 -- Assumes nothing.
-use Rattle.correction.proofs.Correction.{scale-bad, scale-good, scale-wide}
+use Rattle.scaling.proofs.Scaling.{scale-bad, scale-good, scale-wide}
 use borrow.Author.Needs.{needs}
-use Rattle.correction.proofs.scale.Statement.{statement}
-use Rattle.correction.proofs.scale.Tie as tie
+use Rattle.scaling.proofs.scale.Statement.{statement}
+use Rattle.scaling.proofs.scale.Tie as tie
 
 returns : tie.Need-returns
 returns c = search (scale-bad)

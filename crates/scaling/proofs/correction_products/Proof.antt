@@ -1,14 +1,14 @@
--- `correction::correction_products` meets its contract. The loop's invariant: what is left to do from here gives both sums.
+-- `scaling::correction_products` meets its contract. The loop's invariant: what is left to do from here gives both sums.
 -- Assumes nothing.
 use Prim.Native.Nat.{_-_}
 use Rattle.store.specs.Region.{part}
 use Rattle.store.proofs.Loop.{Left, left-start, left-on, left-end}
-use Rattle.correction.specs.Correction.{both, productsTurn, productsOf}
-use Rattle.correction.proofs.Correction.{products-on}
+use Rattle.scaling.specs.Scaling.{both, productsTurn, productsOf}
+use Rattle.scaling.proofs.Scaling.{products-on}
 use native.Mathlib.Omega.{arith}
 use borrow.Author.Needs.{needs}
-use Rattle.correction.proofs.correction_products.Statement.{statement}
-use Rattle.correction.proofs.correction_products.Tie as tie
+use Rattle.scaling.proofs.correction_products.Statement.{statement}
+use Rattle.scaling.proofs.correction_products.Tie as tie
 
 abbrev Inv-loop : tie.InvT-loop
 Inv-loop f n correction residual product numerator₀ denominator₀ row₀ numerator denominator row =
