@@ -1,10 +1,10 @@
--- `store::float_at` meets its contract: past the end there is a NaN.
+-- `held::float_at` meets its contract: past the end there is a NaN.
 -- Assumes nothing.
 use lib.Ieee.{div, ofBits}
 use borrow.Author.Needs.{needs}
-use Rattle.store.proofs.Single.{past-end}
-use Rattle.store.proofs.float_at.Statement.{statement}
-use Rattle.store.proofs.float_at.Tie as tie
+use Rattle.held.proofs.Single.{past-end}
+use Rattle.held.proofs.float_at.Statement.{statement}
+use Rattle.held.proofs.float_at.Tie as tie
 
 returns-2 : tie.Need-returns-2
 unfolding div ofBits

@@ -9,8 +9,9 @@ use lib.ListN.{length, set, List·getD-eq-default}
 use lib.Seq.{getD-set-same, getD-set-other}
 use lib.Ieee.{Float, nan}
 use borrow.Author.Tests.{eqb-true, eqb-false}
-use Rattle.store.specs.Region.{at, Held, Put}
+use Rattle.store.specs.Region.{at}
 use Rattle.store.proofs.Each.{both-l, both-r}
+use Rattle.held.specs.Held.{Held, Put}
 
 -- Past the end there is a NaN.
 pub past-end : (F : List Float) (i : ℕ) → length F ≤ i → nan ≡ at F i

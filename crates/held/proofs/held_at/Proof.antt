@@ -1,9 +1,9 @@
--- `store::held_at` meets its contract.
+-- `held::held_at` meets its contract.
 -- Assumes nothing.
 use borrow.Author.Needs.{needs}
-use Rattle.store.proofs.Single.{held-is}
-use Rattle.store.proofs.held_at.Statement.{statement}
-use Rattle.store.proofs.held_at.Tie as tie
+use Rattle.held.proofs.Single.{held-is}
+use Rattle.held.proofs.held_at.Statement.{statement}
+use Rattle.held.proofs.held_at.Tie as tie
 
 returns : tie.Need-returns
 returns c = search (held-is, needs)

@@ -1,9 +1,9 @@
--- `store::put` meets its contract: the float watched is the one stored, or stays.
+-- `held::put` meets its contract: the float watched is the one stored, or stays.
 -- Assumes nothing.
 use borrow.Author.Needs.{needs}
-use Rattle.store.proofs.Single.{put-here, put-there}
-use Rattle.store.proofs.put.Statement.{statement}
-use Rattle.store.proofs.put.Tie as tie
+use Rattle.held.proofs.Single.{put-here, put-there}
+use Rattle.held.proofs.put.Statement.{statement}
+use Rattle.held.proofs.put.Tie as tie
 
 returns : tie.Need-returns
 returns c = search (put-here, needs)
