@@ -6,7 +6,7 @@ use lib.Dec.{eqb}
 use lib.Ieee.{Float, lt}
 use lib.ListN.{set}
 use Rattle.float.specs.Float.{div64, zero64, isFinite}
-use Rattle.float.specs.Sqrt.{sqrtOf}
+use Rattle.root.specs.Sqrt.{sqrtOf}
 use Rattle.refusal.specs.Refusal.{badPivot}
 use Rattle.refusal.specs.Outcome.{Outcome, accepted, ask, _>>=_}
 use Rattle.store.specs.Loop.{for}

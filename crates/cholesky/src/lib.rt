@@ -114,7 +114,7 @@ fn one_row(w: &[u32], f: &mut [f64], t: Terminal, level: u64, row: usize, start:
     columns(w, f, t, row, start);
     let value = pivot(w, f, t, row, start);
     if good_pivot(value) {
-        let root = float::sqrt(value);
+        let root = root::sqrt(value);
         f[l + start + row] = root;
         true
     } else {

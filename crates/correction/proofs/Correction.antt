@@ -1,24 +1,17 @@
--- The loops of `subtract`, `correction_products`, `add_scaled` and `add_plain`: a turn, and what the loop leaves; and the
--- ways out of `scale`. Assumes nothing.
-use mathlib.Core.Path.{_≡_, ap, _∙_}
-use mathlib.Core.Bool.{Bool, true, false, not, _&&_}
+-- The loops of `subtract`, `add_scaled` and `add_plain`: a turn, and what the loop leaves. Assumes nothing.
+use mathlib.Core.Path.{ap, _∙_}
 use mathlib.Core.List.{List}
 use Prim.Native.Nat.{ℕ, _+_, _-_, _≤_, _<_}
 use native.Mathlib.Omega.{arith}
-use borrow.Author.Tests.{not-true, not-false}
 use lib.ListN.{length, set}
 use lib.Ieee.{Float, nan}
-use Rattle.float.specs.Float.{add64, sub64, mul64, isFinite}
-use Rattle.refusal.specs.Refusal.{badCorrectionProduct, badCorrectionScale}
+use Rattle.float.specs.Float.{add64, sub64, mul64}
 use Rattle.store.specs.Loop.{for}
 use Rattle.store.specs.Region.{at, part, splice, Clear, Wrote, CopyOk}
 use Rattle.store.proofs.Loop.{Left, left-end}
 use Rattle.store.proofs.Region.{getD-part, wrote}
 use Rattle.store.proofs.Vector.{length-tab, tab-same, for-each}
-use Rattle.correction.specs.declared.Products.{Products}
-use Rattle.correction.specs.declared.Factor.{Factor}
-use Rattle.correction.specs.Correction.{subtractOf, both, productsTurn, productsOf, quotientOf, scaleOf, correctionFactorOf, factorOf}
-use Rattle.correction.specs.Correction.{addScaledOf, addPlainOf, SubtractOk, ScaledOk}
+use Rattle.correction.specs.Correction.{subtractOf, addScaledOf, addPlainOf, SubtractOk, ScaledOk}
 
 -- a turn of `subtract`, of the store
 unfoldable pub subtractStep : ℕ → ℕ → ℕ → ℕ → List Float → List Float
@@ -94,33 +87,3 @@ plain-done {F} {G} {n} {correction} {x} ok l h =
     ∙ for-each x n F (λ row H. add64 (at H (x + row)) (at H (correction + row)))
     (λ row b H same. rw (same (x + row) nan (λ p. omega arith), same (correction + row) nan (clear-off correction x n row free b)))
     ∙ ap (λ (v : List Float). splice x v F) (tab-same _ _ n (λ row b. simp getD-part))) (length-tab _ n)
-
--- A turn of `correction_products` as the code has it.
-pub products-on : (correction residual product n : ℕ) (F : List Float) (row : ℕ) (numerator denominator : Float) → row < n
-    → both (add64 numerator (mul64 (at F (correction + row)) (at F (residual + row))))
-    (add64 denominator (mul64 (at F (correction + row)) (at F (product + row))))
-    ≡ productsTurn (part correction n F) (part residual n F) (part product n F) row (both numerator denominator)
-unfolding productsTurn
-products-on correction residual product n F row numerator denominator h = simp getD-part
-
--- The three ways out of `scale`: a and b are the answers to question 26's tests, q is the quotient, r is question 27's.
-module _ (numerator denominator : Float) (a b : Bool) (first : a ≡ isFinite numerator) (second : b ≡ isFinite denominator) where
-  pub scale-bad : not (a && b) ≡ true → Factor.Refused badCorrectionProduct ≡ factorOf (scaleOf numerator denominator)
-  unfolding scaleOf
-  scale-bad t = rw (← first, ← second, not-true (a && b) t)
-
-  module _ (q : Float) (r : Bool) (t : not (a && b) ≡ false) (is : q ≡ quotientOf numerator denominator) (asked : r ≡ isFinite q) where
-    pub scale-good : r ≡ true → Factor.Factor q ≡ factorOf (scaleOf numerator denominator)
-    unfolding scaleOf
-    scale-good e = rw (← first, ← second, not-false (a && b) t, ← is, ← asked, e)
-
-    pub scale-wide : r ≡ false → Factor.Refused badCorrectionScale ≡ factorOf (scaleOf numerator denominator)
-    unfolding scaleOf
-    scale-wide e = rw (← first, ← second, not-false (a && b) t, ← is, ← asked, e)
-
--- The scale of the products is the correction's factor.
-pub factor-done : (n : ℕ) (correction residual product : List Float) {p : Products} {r : Factor}
-    → p ≡ productsOf n correction residual product → r ≡ factorOf (scaleOf (p .numerator) (p .denominator))
-    → r ≡ factorOf (correctionFactorOf n correction residual product)
-unfolding correctionFactorOf
-factor-done n correction residual product e t = rw e at t

@@ -7,7 +7,8 @@ use Prim.Native.Nat.{ℕ, _+_, _≤_, _<_}
 use native.Mathlib.Omega.{arith}
 use lib.Ieee.{Float}
 use Rattle.float.specs.Float.{sub64, mul64, div64}
-use Rattle.store.specs.Region.{at, idx, Put}
+use Rattle.store.specs.Region.{at, idx}
+use Rattle.held.specs.Held.{Put}
 use Rattle.matrix.specs.declared.SymmetricMatrix.{SymmetricMatrix}
 use Rattle.matrix.specs.Turns.{FacesOk}
 use Rattle.sweeps.specs.Turns.{Watched}

@@ -2,7 +2,8 @@
 ghost use mathlib.Core.Path.{_≡_};
 ghost use Prim.Native.Nat.{_+_, _<_, _≤_};
 ghost use lib.ListN.{length};
-ghost use Rattle.store.specs.Region.{part, Wrote, Held};
+ghost use Rattle.store.specs.Region.{part, Wrote};
+ghost use Rattle.held.specs.Held.{Held};
 ghost use Rattle.matrix.specs.Kernel.{kernelAt};
 ghost use Rattle.matrix.specs.Turns.{FacesOk};
 ghost use Rattle.sweeps.specs.Turns.{Watched};
@@ -44,7 +45,7 @@ fn pivot_faces(
         let neighbor = store::index_at(w, neighbors, face, rows);
         let a = f[coefficients + face];
         let left = f[d + neighbor] - a * a / pivot;
-        next = store::put(f, d + neighbor, left, near, watched, next);
+        next = held::put(f, d + neighbor, left, near, watched, next);
         face += 1;
     }
     next
@@ -67,7 +68,7 @@ fn pivot_row(
     let lo = store::wide(w[s.offsets + row]);
     let hi = store::wide(w[s.offsets + row + 1]);
     let next = d + (row + 1);
-    let held = store::float_at(f, next);
+    let held = held::float_at(f, next);
     let stays = pivot_faces(
         w,
         f,
@@ -82,7 +83,7 @@ fn pivot_row(
         next,
         held,
     );
-    store::held_at(f, next, near, stays)
+    held::held_at(f, next, near, stays)
 }
 
 // Question 16 of each row, whose pivot then goes to its neighbours.
@@ -93,7 +94,7 @@ fn dic_pivots(w: &[u32], f: &mut [f64], s: SymmetricMatrix, d: usize, level: u64
 {
     let rows = s.rows;
     let near = sweeps::few_faces(w, s.offsets, rows);
-    let mut pivot = store::float_at(f, d);
+    let mut pivot = held::float_at(f, d);
     let mut row = 0;
     while row < rows {
         if is_pivot(pivot) {

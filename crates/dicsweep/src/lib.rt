@@ -3,7 +3,8 @@ ghost use mathlib.Core.Path.{_≡_};
 ghost use Prim.Native.Nat.{_+_, _<_};
 ghost use lib.ListN.{length};
 ghost use Rattle.float.specs.Float.{add64};
-ghost use Rattle.store.specs.Region.{at, part, Held};
+ghost use Rattle.store.specs.Region.{at, part};
+ghost use Rattle.held.specs.Held.{Held};
 ghost use Rattle.matrix.specs.Kernel.{kernelAt};
 ghost use Rattle.matrix.specs.Turns.{FacesOk};
 ghost use Rattle.sweeps.specs.Sweep.{dicSweepOf};
@@ -34,7 +35,7 @@ fn add_faces(
     let mut face = lo;
     while face < hi {
         let neighbor = store::index_at(w, neighbors, face, rows);
-        let other = store::float_near(f, v + neighbor, near, watched, held);
+        let other = held::float_near(f, v + neighbor, near, watched, held);
         value = value + f[coefficients + face] * other;
         face += 1;
     }
@@ -76,7 +77,7 @@ fn lower_row(
     let hi = store::wide(w[offsets + row + 1]);
     let value = scale(f, dic, correction, row, start);
     let next = correction + (row + 1);
-    let held = store::float_at(f, next);
+    let held = held::float_at(f, next);
     let stays = sweeps::cast_faces(
         w,
         f,
@@ -91,7 +92,7 @@ fn lower_row(
         next,
         held,
     );
-    store::held_at(f, next, near, stays)
+    held::held_at(f, next, near, stays)
 }
 
 // The forward substitution.
@@ -109,7 +110,7 @@ fn lower(
     ensures { λ _. ⌜ Stored (lowerTurn (now (w .entry)) offsets neighbors coefficients dic correction) 0 rows (now (f .entry)) (now (f .exit)) ⌝ }
 {
     let near = sweeps::few_faces(w, offsets, rows);
-    let mut start = store::float_at(f, correction);
+    let mut start = held::float_at(f, correction);
     let mut row = 0;
     while row < rows {
         start = lower_row(
@@ -185,7 +186,7 @@ fn upper(
     ensures { λ _. ⌜ Stored (upperTurn (now (w .entry)) offsets neighbors coefficients dic rows x correction) 0 rows (now (f .entry)) (now (f .exit)) ⌝ }
 {
     let near = sweeps::few_faces(w, offsets, rows);
-    let mut held = store::float_at(f, correction + rows);
+    let mut held = held::float_at(f, correction + rows);
     let mut i = 0;
     while i < rows {
         let row = rows - 1 - i;
@@ -206,7 +207,7 @@ fn upper(
         );
         let sum = f[x + row] + value;
         f[correction + row] = value;
-        held = store::put(f, x + row, sum, near, correction + row, value);
+        held = held::put(f, x + row, sum, near, correction + row, value);
         i += 1;
     }
 }

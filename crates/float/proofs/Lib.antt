@@ -1,9 +1,3 @@
 pub mod Compare
 pub mod Saturate
 pub mod Sign
-pub mod Digit
-pub mod Floor
-pub mod Round
-pub mod Pack
-pub mod Split
-pub mod Nearest

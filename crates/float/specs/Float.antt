@@ -1,6 +1,7 @@
 -- The operators and methods of f64 that the solver uses, as IEEE 754 has them (`lib.Ieee`). Definitions only.
 use mathlib.Core.Bool.{Bool, true, false, cond, _||_}
-use lib.Ieee.{Float, nan, inf, fin, binary64, ofBits, neg, add, sub, mul, div, lt, isNan}
+use Prim.Native.Nat.{ℕ}
+use lib.Ieee.{Float, nan, inf, fin, binary64, ofBits, round, neg, add, sub, mul, div, lt, isNan}
 
 -- `x + y` of two f64: the exact sum, rounded to nearest, ties to even
 abbrev pub add64 : Float → Float → Float
@@ -29,6 +30,10 @@ negZero = neg zero64
 -- `1.0`
 abbrev pub one64 : Float
 one64 = ofBits binary64 0x3ff0_0000_0000_0000
+
+-- the f64 nearest to n / d
+abbrev pub ratio : ℕ → ℕ → Float
+ratio n d = round binary64 false n d
 
 -- `x.is_finite()`: neither a NaN nor an infinity
 unfoldable pub isFinite : Float → Bool

@@ -1,2 +1,1 @@
 pub mod Float
-pub mod Sqrt

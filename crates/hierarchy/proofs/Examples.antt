@@ -7,7 +7,7 @@ use mathlib.Core.List.{List, [], _∷_, map}
 use Prim.Native.Nat.{ℕ}
 use lib.Ieee.{Float, binary64, ofBits, add, sub, mul, div, lt, le, eq}
 use Rattle.float.specs.Float.{zero64, one64, isFinite, absOf}
-use Rattle.float.specs.Sqrt.{sqrtOf}
+use Rattle.root.specs.Sqrt.{sqrtOf}
 use Rattle.store.specs.Loop.{iter, for}
 use Rattle.store.specs.Vector.{tab, each}
 use Rattle.options.specs.declared.MultigridOptions.{MultigridOptions}

@@ -6,10 +6,9 @@ use mathlib.Core.List.{List}
 use Prim.Native.Nat.{ℕ, _+_, _<_, _^_}
 use lib.IntN.{pos}
 use lib.Ieee.{Float, binary64, ofBits, ofInt, round}
-use Rattle.float.specs.Float.{add64, mul64, div64, absOf, maxNum, isFinite}
-use Rattle.float.specs.Sqrt.{sqrtOf}
+use Rattle.float.specs.Float.{add64, mul64, div64, ratio, absOf, maxNum, isFinite}
+use Rattle.root.specs.Sqrt.{sqrtOf}
 use Rattle.options.specs.declared.MultigridResidualNorm.{MultigridResidualNorm}
-use Rattle.options.specs.Options.{ratio}
 use Rattle.store.specs.Region.{at, part}
 use Rattle.store.proofs.Region.{getD-part}
 use Rattle.vector.specs.declared.Product.the-variants.{Finite, NotFinite}

@@ -3,7 +3,7 @@ use mathlib.Core.List.{List}
 use Prim.Native.Nat.{ℕ}
 use lib.Ieee.{Float}
 use Rattle.float.specs.Float.{add64, mul64, div64, negZero, absOf}
-use Rattle.float.specs.Sqrt.{sqrtOf}
+use Rattle.root.specs.Sqrt.{sqrtOf}
 use Rattle.options.specs.declared.MultigridResidualNorm.{MultigridResidualNorm}
 use Rattle.store.specs.Loop.{for}
 use Rattle.store.specs.Region.{at}

@@ -4,9 +4,8 @@ use mathlib.Core.List.{List}
 use Prim.Native.Nat.{ℕ, _+_, _≤_, _^_}
 use lib.IntN.{pos}
 use lib.Ieee.{Float, binary64, lt, ofInt}
-use Rattle.float.specs.Float.{add64, sub64, mul64, div64, zero64, one64, absOf, maxNum}
+use Rattle.float.specs.Float.{add64, sub64, mul64, div64, zero64, one64, ratio, absOf, maxNum}
 use Rattle.options.specs.declared.MultigridResidualNorm.{MultigridResidualNorm}
-use Rattle.options.specs.Options.{ratio}
 use Rattle.store.specs.Region.{at}
 use Rattle.measure.specs.Measure.{sumOf}
 

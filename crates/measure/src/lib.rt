@@ -57,7 +57,7 @@ fn value(f: &[f64], n: usize, residual: usize, norm: MultigridResidualNorm, fact
     ensures { λ r. ⌜ r ≡ valueOf norm n (part residual n (now (f .entry))) factor ⌝ }
 {
     match norm {
-        MultigridResidualNorm::AbsoluteL2 => float::sqrt(sum_squares(f, n, residual)),
+        MultigridResidualNorm::AbsoluteL2 => root::sqrt(sum_squares(f, n, residual)),
         MultigridResidualNorm::NormalizedL1 => sum_sizes(f, n, residual) / factor,
     }
 }

@@ -14,7 +14,7 @@ use Rattle.store.proofs.Region.{length-splice}
 use Rattle.store.proofs.Vector.{length-tab}
 use Rattle.options.specs.declared.MultigridOptions.{MultigridOptions}
 use Rattle.options.specs.declared.Handle.{Handle}
-use Rattle.options.specs.declared.solver.LinearSolverOptions.{LinearSolverOptions}
+use Rattle.solver.specs.declared.LinearSolverOptions.{LinearSolverOptions}
 use Rattle.refusal.specs.Refusal.{unsoundStores}
 use Rattle.refusal.specs.Outcome.{Outcome, accepted, refused}
 use Rattle.refusal.proofs.Outcome.{ask-yes}

@@ -11,7 +11,7 @@ use lib.Ieee.{Float}
 use Rattle.store.specs.Region.{Kept}
 use Rattle.store.proofs.Region.{kept-self}
 use Rattle.options.specs.declared.Handle.{Handle}
-use Rattle.options.specs.declared.solver.LinearSolverOptions.{LinearSolverOptions}
+use Rattle.solver.specs.declared.LinearSolverOptions.{LinearSolverOptions}
 use Rattle.refusal.specs.Refusal.{unsoundStores}
 use Rattle.layout.specs.Layout.{viewOf}
 use Rattle.sound.specs.Sound.{soundOf, scratchStart}

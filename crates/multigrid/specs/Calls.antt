@@ -6,7 +6,7 @@ use Prim.Native.Nat.{ℕ, _/_}
 use lib.ListN.{length}
 use lib.Ieee.{Float}
 use Rattle.options.specs.declared.Handle.{Handle}
-use Rattle.options.specs.declared.solver.LinearSolverOptions.{LinearSolverOptions}
+use Rattle.solver.specs.declared.LinearSolverOptions.{LinearSolverOptions}
 use Rattle.refusal.specs.Refusal.{unsoundStores}
 use Rattle.refusal.specs.Outcome.{Outcome, ask}
 use Rattle.hierarchy.specs.Level.{Hierarchy}

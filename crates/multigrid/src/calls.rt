@@ -2,10 +2,10 @@
 ghost use mathlib.Core.Path.{_≡_};
 ghost use Rattle.multigrid.specs.Calls.{SolveCall, UpdateCall, countedOf};
 use options::Handle;
-use options::LinearSolverOptions;
 use refresh::Updated;
 use refusal::Refusal;
 use solve::Solved;
+use solver::LinearSolverOptions;
 
 // How many records at the front of the statistics are the levels'.
 pub enum Counted {

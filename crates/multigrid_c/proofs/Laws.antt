@@ -6,7 +6,7 @@ use Rattle.hierarchy.specs.Build.{Input}
 use Rattle.build.specs.declared.Built.{Built}
 use Rattle.multigrid.specs.New.{NewDone}
 use Rattle.options.specs.declared.Handle.{Handle}
-use Rattle.options.specs.declared.solver.LinearSolverOptions.{LinearSolverOptions}
+use Rattle.solver.specs.declared.LinearSolverOptions.{LinearSolverOptions}
 use Rattle.solve.specs.declared.Solved.{Solved}
 use Rattle.refresh.specs.declared.Updated.{Updated}
 use Rattle.told.specs.Told.{Told, ToldUpdate, ToldSolve}

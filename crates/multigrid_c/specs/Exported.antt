@@ -8,7 +8,7 @@ use Rattle.build.specs.declared.Built.{Built}
 use Rattle.build.specs.Contract.{lentOf, builtOf}
 use Rattle.options.specs.declared.Handle.{Handle}
 use Rattle.options.specs.declared.MultigridOptions.{MultigridOptions}
-use Rattle.options.specs.declared.solver.LinearSolverOptions.{LinearSolverOptions}
+use Rattle.solver.specs.declared.LinearSolverOptions.{LinearSolverOptions}
 use Rattle.solve.specs.Contract as solve
 use Rattle.refresh.specs.Contract as refresh
 use Rattle.told.specs.Told.{Told, ToldUpdate, ToldSolve, ToldCount}

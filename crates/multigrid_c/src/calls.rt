@@ -4,7 +4,7 @@ ghost use lib.ListN.{length};
 ghost use Rattle.flat.specs.Flat.{optionsOf};
 ghost use Rattle.multigrid_c.specs.Exported.{handleIn, solverIn, ExportedUpdate, ExportedSolve};
 use options::Handle;
-use options::LinearSolverOptions;
+use solver::LinearSolverOptions;
 
 #[no_mangle]
 pub extern "C" fn multigrid_update_values(

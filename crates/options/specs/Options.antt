@@ -2,18 +2,14 @@
 use mathlib.Core.Bool.{Bool, true, false, not, _&&_}
 use Prim.Native.Nat.{ℕ, _^_}
 use lib.Dec.{leb}
-use lib.Ieee.{Float, binary64, ofBits, round, lt}
-use Rattle.float.specs.Float.{isFinite}
+use lib.Ieee.{Float, binary64, ofBits, lt}
+use Rattle.float.specs.Float.{ratio, isFinite}
 use Rattle.options.specs.declared.MultigridSmoother.{MultigridSmoother}
 use Rattle.options.specs.declared.MultigridResidualNorm.{MultigridResidualNorm}
 use Rattle.options.specs.declared.MultigridCoarseSolver.{MultigridCoarseSolver}
 use Rattle.options.specs.declared.MultigridOptions.{MultigridOptions}
 use Rattle.refusal.specs.Refusal.{invalidControls, notCholesky}
 use Rattle.refusal.specs.Outcome.{Outcome, passed, ask, _>>_}
-
--- the f64 nearest to n / d
-abbrev pub ratio : ℕ → ℕ → Float
-ratio n d = round binary64 false n d
 
 -- `Default` of options.rs
 unfoldable pub defaultOptions : MultigridOptions

@@ -1,17 +1,13 @@
-// Controls of the multigrid solver, and the types of a solve.
+// Controls of the multigrid solver, and the handle that a build answers with.
 ghost use mathlib.Core.Path.{_≡_};
 ghost use Rattle.options.specs.Options.{defaultOptions, validOf, controlsAsked};
 ghost use Rattle.refusal.specs.Outcome.{verdictOf};
 
 mod counts;
-mod solver;
 
 pub use counts::post_sweeps_at;
 pub use counts::pre_sweeps_at;
 use refusal::Verdict;
-pub use solver::LinearSolveReport;
-pub use solver::LinearSolverOptions;
-pub use solver::LinearSolverStatus;
 
 pub enum MultigridSmoother {
     GaussSeidel,

@@ -11,7 +11,7 @@ use Rattle.faces.specs.declared.Faces.{Faces}
 use Rattle.matrix.specs.declared.SymmetricMatrix.{SymmetricMatrix}
 use Rattle.values.specs.declared.values.Entries.{Entries}
 use Rattle.cholesky.specs.declared.Terminal.{Terminal}
-use Rattle.correction.specs.declared.Factor.{Factor}
+use Rattle.scaling.specs.declared.Factor.{Factor}
 use Rattle.acceleration.specs.declared.Corrected.{Corrected}
 pub use Rattle.telling.specs.Telling.{flag, flagOf, writtenOf, answerOf, Told}
 

@@ -4,13 +4,13 @@ ghost use Prim.Native.Nat.{_≤_};
 ghost use lib.ListN.{length};
 ghost use Rattle.store.specs.Region.{part, Wrote, CopyOk};
 ghost use Rattle.transfer.specs.Transfer.{RestrictOk, ProlongOk, restrictOf, prolongOf};
-ghost use Rattle.correction.specs.Correction.{SubtractOk, ProductsOk, ScaledOk, subtractOf, correctionFactorOf, factorOf};
-ghost use Rattle.correction.specs.Correction.{addScaledOf, addPlainOf};
+ghost use Rattle.correction.specs.Correction.{SubtractOk, ScaledOk, subtractOf, addScaledOf, addPlainOf};
+ghost use Rattle.scaling.specs.Scaling.{ProductsOk, correctionFactorOf, factorOf};
 ghost use Rattle.acceleration.specs.Gcr.{correctOf};
 ghost use Rattle.acceleration.specs.Contract.{pairAt, memoryAt, correctedOf, CorrectOk, CorrectedBy};
 ghost use Rattle.probe.specs.Probe.{Scaled, Counted};
 use acceleration::Corrected;
-use correction::Factor;
+use scaling::Factor;
 
 #[no_mangle]
 pub extern "C" fn probe_restrict(
@@ -89,7 +89,7 @@ pub extern "C" fn probe_correction_factor(
         (now (out .entry)) (now (out .exit)) r ⌝ }
 {
     scaled(
-        correction::correction_factor(f, n, correction, residual, product),
+        scaling::correction_factor(f, n, correction, residual, product),
         out,
     )
 }

@@ -3,7 +3,7 @@ ghost use mathlib.Core.Path.{_≡_};
 ghost use Prim.Native.Nat.{_+_, _*_, min};
 ghost use lib.Ieee.{binary64, toBits, ofBits};
 ghost use Rattle.float.specs.Float.{isFinite, absOf, maxNum, squareOf};
-ghost use Rattle.float.specs.Sqrt.{sqrtOf};
+ghost use Rattle.root.specs.Sqrt.{sqrtOf};
 ghost use Rattle.probe.specs.Probe.{flag};
 use telling::number;
 
@@ -39,7 +39,7 @@ pub extern "C" fn probe_square(x: f64) -> f64
 pub extern "C" fn probe_sqrt(x: f64) -> f64
     ensures { λ r. ⌜ r ≡ sqrtOf x ⌝ }
 {
-    float::sqrt(x)
+    root::sqrt(x)
 }
 
 #[no_mangle]

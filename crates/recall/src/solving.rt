@@ -4,9 +4,9 @@ use lists::least;
 use lists::reading;
 use lists::stores;
 use options::Handle;
-use options::LinearSolverOptions;
-use options::LinearSolverStatus;
 use solve::Solved;
+use solver::LinearSolverOptions;
+use solver::LinearSolverStatus;
 
 // How much of right-hand side and start a solve gets, its controls, and where its answer starts in the text.
 struct SolveCall {

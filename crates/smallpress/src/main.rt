@@ -4,15 +4,15 @@ use build::Built;
 use libc::STDOUT_FILENO;
 use multigrid::Counted;
 use options::Handle;
-use options::LinearSolveReport;
-use options::LinearSolverOptions;
-use options::LinearSolverStatus;
 use options::MultigridCoarseSolver;
 use options::MultigridOptions;
 use options::MultigridResidualNorm;
 use options::MultigridSmoother;
 use refusal::Refusal;
 use solve::Solved;
+use solver::LinearSolveReport;
+use solver::LinearSolverOptions;
+use solver::LinearSolverStatus;
 
 // The defaults but Cholesky, AbsoluteL2 and plain cycles.
 fn controls() -> MultigridOptions {

@@ -9,8 +9,8 @@ use lib.Ieee.{Float, le}
 use Rattle.float.specs.Float.{zero64, isFinite}
 use Rattle.store.specs.Vector.{filled}
 use Rattle.options.specs.declared.MultigridOptions.{MultigridOptions}
-use Rattle.options.specs.declared.solver.LinearSolverOptions.{LinearSolverOptions}
-use Rattle.options.specs.declared.solver.LinearSolverStatus.{LinearSolverStatus}
+use Rattle.solver.specs.declared.LinearSolverOptions.{LinearSolverOptions}
+use Rattle.solver.specs.declared.LinearSolverStatus.{LinearSolverStatus}
 use Rattle.options.specs.Counts.{preSweepsOf, postSweepsOf}
 use Rattle.refusal.specs.declared.Refusal.{Refusal}
 use Rattle.refusal.specs.Outcome.{Outcome, accepted, refused, ask, _>>=_}

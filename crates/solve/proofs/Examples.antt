@@ -6,15 +6,15 @@ use mathlib.Core.List.{List, [], _∷_}
 use Prim.Native.Nat.{ℕ}
 use lib.Ieee.{Float, binary64, ofBits, add, sub, mul, div, lt, le, eq, ne}
 use Rattle.float.specs.Float.{zero64, one64, isFinite, maxNum}
-use Rattle.float.specs.Sqrt.{sqrtOf}
+use Rattle.root.specs.Sqrt.{sqrtOf}
 use Rattle.store.specs.Loop.{iter, for}
 use Rattle.store.specs.Vector.{tab, each}
 use Rattle.options.specs.declared.MultigridOptions.{MultigridOptions}
 use Rattle.options.specs.declared.MultigridSmoother.{MultigridSmoother}
 use Rattle.options.specs.declared.MultigridResidualNorm.{MultigridResidualNorm}
 use Rattle.options.specs.declared.MultigridCoarseSolver.{MultigridCoarseSolver}
-use Rattle.options.specs.declared.solver.LinearSolverOptions.{LinearSolverOptions}
-use Rattle.options.specs.declared.solver.LinearSolverStatus.{LinearSolverStatus}
+use Rattle.solver.specs.declared.LinearSolverOptions.{LinearSolverOptions}
+use Rattle.solver.specs.declared.LinearSolverStatus.{LinearSolverStatus}
 use Rattle.refusal.specs.Outcome.{accepted}
 use Rattle.vector.specs.Dot as dot
 use Rattle.matrix.specs.Kernel as matrix

@@ -11,8 +11,8 @@ use lib.Ieee.{Float, le}
 use Rattle.store.specs.Region.{part, Kept}
 use Rattle.store.proofs.Region.{kept-on, kept-self, kept-part}
 use Rattle.options.specs.declared.Handle.{Handle}
-use Rattle.options.specs.declared.solver.LinearSolverStatus.{LinearSolverStatus}
-use Rattle.options.specs.declared.solver.LinearSolveReport.{LinearSolveReport}
+use Rattle.solver.specs.declared.LinearSolverStatus.{LinearSolverStatus}
+use Rattle.solver.specs.declared.LinearSolveReport.{LinearSolveReport}
 use Rattle.refusal.specs.declared.Refusal.{Refusal}
 use Rattle.refusal.specs.Outcome.{Outcome, accepted, refused, _>>=_}
 use Rattle.refusal.proofs.Outcome.{then-accepted, then-refused}

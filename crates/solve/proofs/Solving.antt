@@ -17,9 +17,9 @@ use Rattle.store.proofs.Region.{wrote-at, wrote-off, kept-wrote, kept-on, kept-
 use Rattle.store.proofs.Vector.{length-tab, getD-tab}
 use Rattle.store.proofs.Each.{both-l, both-r}
 use Rattle.options.specs.declared.Handle.{Handle}
-use Rattle.options.specs.declared.solver.LinearSolverOptions.{LinearSolverOptions}
-use Rattle.options.specs.declared.solver.LinearSolverStatus.{LinearSolverStatus}
-use Rattle.options.specs.declared.solver.LinearSolveReport.{LinearSolveReport}
+use Rattle.solver.specs.declared.LinearSolverOptions.{LinearSolverOptions}
+use Rattle.solver.specs.declared.LinearSolverStatus.{LinearSolverStatus}
+use Rattle.solver.specs.declared.LinearSolveReport.{LinearSolveReport}
 use Rattle.refusal.specs.declared.Refusal.{Refusal}
 use Rattle.refusal.specs.Refusal.{wrongLength, badInput, badNormalization, badResidual}
 use Rattle.refusal.specs.declared.Verdict.{Verdict}

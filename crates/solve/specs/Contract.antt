@@ -8,7 +8,7 @@ use lib.Ieee.{Float}
 use Rattle.store.specs.Region.{part, lay, Kept}
 use Rattle.store.specs.Vector.{filled}
 use Rattle.options.specs.declared.Handle.{Handle}
-use Rattle.options.specs.declared.solver.LinearSolverOptions.{LinearSolverOptions}
+use Rattle.solver.specs.declared.LinearSolverOptions.{LinearSolverOptions}
 use Rattle.refusal.specs.Outcome.{Outcome, accepted, refused}
 use Rattle.layout.specs.Layout.{viewOf}
 use Rattle.sound.specs.Sound.{scratchStart}

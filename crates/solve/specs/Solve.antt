@@ -8,9 +8,9 @@ use lib.ListN.{length}
 use Rattle.float.specs.Float.{zero64, isFinite}
 use Rattle.store.specs.Vector.{filled}
 use Rattle.options.specs.declared.MultigridOptions.{MultigridOptions}
-use Rattle.options.specs.declared.solver.LinearSolverOptions.{LinearSolverOptions}
-use Rattle.options.specs.declared.solver.LinearSolverStatus.{LinearSolverStatus}
-use Rattle.options.specs.declared.solver.LinearSolveReport.{LinearSolveReport}
+use Rattle.solver.specs.declared.LinearSolverOptions.{LinearSolverOptions}
+use Rattle.solver.specs.declared.LinearSolverStatus.{LinearSolverStatus}
+use Rattle.solver.specs.declared.LinearSolveReport.{LinearSolveReport}
 use Rattle.options.specs.Options.{tolerable}
 use Rattle.refusal.specs.Refusal.{wrongLength, badInput, badNormalization, badResidual}
 use Rattle.refusal.specs.Outcome.{Outcome, accepted, refused, passed, ask, _>>=_, _>>_}

@@ -9,7 +9,7 @@ use lib.ListN.{length}
 use Rattle.float.specs.Float.{isFinite}
 use Rattle.store.specs.Region.{part, Kept}
 use Rattle.options.specs.declared.Handle.{Handle}
-use Rattle.options.specs.declared.solver.LinearSolverOptions.{LinearSolverOptions}
+use Rattle.solver.specs.declared.LinearSolverOptions.{LinearSolverOptions}
 use Rattle.refusal.specs.declared.Refusal.{Refusal}
 use Rattle.refusal.specs.Refusal.{wrongLength, badInput, badNormalization}
 use Rattle.refusal.specs.Outcome.{Outcome, accepted, refused, ask, _>>=_}

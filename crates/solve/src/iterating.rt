@@ -8,8 +8,8 @@ use crate::Solved;
 use crate::Step;
 use crate::stepping;
 use options::Handle;
-use options::LinearSolveReport;
-use options::LinearSolverStatus;
+use solver::LinearSolveReport;
+use solver::LinearSolverStatus;
 
 pub fn report(
     status: LinearSolverStatus,

@@ -10,11 +10,11 @@ ghost use Rattle.refusal.specs.Outcome.{verdictOf};
 ghost use Rattle.solve.specs.Steps.{askedOf, BeginOk, begunAt, attemptAt, Ready, Ran};
 use matrix::SymmetricMatrix;
 use options::Handle;
-use options::LinearSolveReport;
-use options::LinearSolverOptions;
-use options::LinearSolverStatus;
 use refusal::Refusal;
 use refusal::Verdict;
+use solver::LinearSolveReport;
+use solver::LinearSolverOptions;
+use solver::LinearSolverStatus;
 use vector::Product;
 
 mod iterating;

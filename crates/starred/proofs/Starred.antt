@@ -3,7 +3,7 @@ use mathlib.Core.Path.{_≡_, refl}
 use mathlib.Core.Bool.{true}
 use lib.Ieee.{ofBits, toBits, lt, le, add, sub, mul, div}
 use Rattle.float.specs.Float.{absOf, isFinite}
-use Rattle.float.specs.Sqrt.{sqrtOf}
+use Rattle.root.specs.Sqrt.{sqrtOf}
 use Rattle.store.specs.Loop.{for, iter}
 use Rattle.store.specs.Vector.{tab}
 use Rattle.aggregation.specs.Pairs.{strengthsOf, considerOf, entryOf, strongestOf, placeOf, pairRowOf, turnOf, pairsOf}

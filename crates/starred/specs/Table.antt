@@ -6,7 +6,7 @@ use lib.Dec.{eqb}
 use lib.IntN.{ℤ, pos, negℤ}
 use lib.Ieee.{Float, binary64, ofBits, ofInt, toBits}
 use Rattle.float.specs.Float.{zero64, one64}
-use Rattle.float.specs.Sqrt.{sqrtOf}
+use Rattle.root.specs.Sqrt.{sqrtOf}
 use Rattle.store.specs.Vector.{filled}
 use Rattle.aggregation.specs.Pairs.{Weighted, weighted, strengthsOf, pairsOf}
 use Rattle.pattern.specs.Pattern.{Pattern, entries, coarse, coarseOffsets, coarseColumns, coarsePositions}

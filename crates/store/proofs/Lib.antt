@@ -3,4 +3,3 @@ pub mod Region
 pub mod Vector
 pub mod Each
 pub mod Turns
-pub mod Single

@@ -1,10 +1,9 @@
 -- Regions of a store: reading one, laying a list over one, and what a function that writes one ensures. Definitions only.
 -- `splice` never changes the length: what would stand past the end of the store is lost, so most laws ask nothing of it.
 use mathlib.Core.Path.{_≡_}
-use mathlib.Core.Bool.{Bool, true}
 use mathlib.Core.List.{List, [], _∷_}
 use Prim.Native.Nat.{ℕ, zero, suc, _+_, _-_, _≤_, min}
-use lib.ListN.{length, getD, set, take, drop}
+use lib.ListN.{length, getD, take, drop}
 use lib.Ieee.{Float, nan}
 
 -- the float at index i of a store; past its end a NaN, which no proved function reads
@@ -45,15 +44,6 @@ pub record Wrote {A : Type 0} (b n : ℕ) (v F G : List A) : Type 0 where
 pub record Kept {A : Type 0} (p : ℕ) (F G : List A) : Type 0 where
   pub below : take p G ≡ take p F
   pub size : length G ≡ length F
-
--- A caller that is near holds what stands at `watched`.
-pub record Held (near : Bool) (watched : ℕ) (F : List Float) (held : Float) : Type 0 where
-  pub is : near ≡ true → held ≡ at F watched
-
--- What a function that stores v at i ensures: of F it made G, and r is what a caller that is near then holds.
-pub record Put (i : ℕ) (v : Float) (near : Bool) (watched : ℕ) (F G : List Float) (r : Float) : Type 0 where
-  pub is : G ≡ set F i v
-  pub held : Held near watched G r
 
 -- n elements at `from` and n at `to`, which do not meet, in a store of that size
 pub record CopyOk (size n from to : ℕ) : Type 0 where

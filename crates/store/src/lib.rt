@@ -1,10 +1,10 @@
-// Small functions over lent stores: indices, single floats, fills and copies. The laws of loops and regions that every other crate
-// cites are in proofs/.
+// Small functions over lent stores: indices, fills and copies. The laws of loops and regions that every other crate cites are
+// in proofs/.
 ghost use mathlib.Core.Path.{_≡_};
 ghost use Prim.Native.Nat.{_+_, _<_, _≤_};
 ghost use lib.ListN.{length};
 ghost use lib.Ieee.{binary64, ofBits};
-ghost use Rattle.store.specs.Region.{at, idx, part, Wrote, Held, Put, CopyOk};
+ghost use Rattle.store.specs.Region.{idx, part, Wrote, CopyOk};
 ghost use Rattle.store.specs.Vector.{filled};
 
 // A word as an index.
@@ -22,41 +22,6 @@ pub fn index_at(w: &[u32], base: usize, k: usize, n: usize) -> usize
     ensures { λ r. ⌜ r < n ⌝ }
 {
     wide(w[base + k])
-}
-
-// The float at i; past the end a NaN, as in definitions.
-pub fn float_at(f: &[f64], i: usize) -> f64
-    ensures { λ r. ⌜ r ≡ at (now (f .entry)) i ⌝ }
-{
-    if i < f.len() { f[i] } else { 0.0 / 0.0 }
-}
-
-// The float at i, where the caller, if it is near, holds the one at `watched`: what was stored a moment ago is not read
-// again, so that a loop need not wait for its own store.
-pub fn float_near(f: &[f64], i: usize, near: bool, watched: usize, held: f64) -> f64
-    requires { ⌜ i < length (now f) ⌝ }
-    requires { ⌜ Held near watched (now f) held ⌝ }
-    ensures { λ r. ⌜ r ≡ at (now (f .entry)) i ⌝ }
-{
-    if near & (i == watched) { held } else { f[i] }
-}
-
-// The float at i, which the caller, if it is near, holds.
-pub fn held_at(f: &[f64], i: usize, near: bool, held: f64) -> f64
-    requires { ⌜ Held near i (now f) held ⌝ }
-    ensures { λ r. ⌜ r ≡ at (now (f .entry)) i ⌝ }
-{
-    if near { held } else { float_at(f, i) }
-}
-
-// Stores v at i, and answers, if the caller is near, what then stands at `watched`, where `held` stood.
-pub fn put(f: &mut [f64], i: usize, v: f64, near: bool, watched: usize, held: f64) -> f64
-    requires { ⌜ i < length (now f) ⌝ }
-    requires { ⌜ Held near watched (now f) held ⌝ }
-    ensures { λ r. ⌜ Put i v near watched (now (f .entry)) (now (f .exit)) r ⌝ }
-{
-    f[i] = v;
-    if near & (i == watched) { v } else { held }
 }
 
 // n times v, at `to`.

@@ -9,7 +9,8 @@ use lib.ListN.{length, set}
 use lib.Ieee.{Float}
 use Rattle.float.specs.Float.{add64, sub64, mul64, zero64}
 use Rattle.store.specs.Loop.{for}
-use Rattle.store.specs.Region.{at, idx, Held, Put}
+use Rattle.store.specs.Region.{at, idx}
+use Rattle.held.specs.Held.{Held, Put}
 use Rattle.store.proofs.Loop.{Left, left-end}
 use Rattle.matrix.specs.Turns.{FacesOk}
 use Rattle.sweeps.specs.Turns.{Stored, Watched, Handed, gatherTurn, castTurn, freshAt, forwardTurn, backwardTurn, lowerTurn, upperAt, upperTurn, Gathered, Fresh, Scaled, Upper, SweepOk}

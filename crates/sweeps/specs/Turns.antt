@@ -7,7 +7,8 @@ use lib.ListN.{length, set}
 use lib.Ieee.{Float}
 use Rattle.float.specs.Float.{add64, sub64, mul64, zero64}
 use Rattle.store.specs.Loop.{for}
-use Rattle.store.specs.Region.{at, idx, Held}
+use Rattle.store.specs.Region.{at, idx}
+use Rattle.held.specs.Held.{Held}
 
 -- what a loop leaves in a store
 pub record Stored (turn : ℕ → List Float → List Float) (lo hi : ℕ) (F G : List Float) : Type 0 where

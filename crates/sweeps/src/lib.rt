@@ -4,7 +4,8 @@ ghost use Prim.Native.Nat.{_+_, _/_, _<_};
 ghost use lib.Dec.{leb};
 ghost use lib.ListN.{length};
 ghost use Rattle.float.specs.Float.{sub64};
-ghost use Rattle.store.specs.Region.{at, idx, part, Held};
+ghost use Rattle.store.specs.Region.{at, idx, part};
+ghost use Rattle.held.specs.Held.{Held};
 ghost use Rattle.matrix.specs.Kernel.{kernelAt};
 ghost use Rattle.matrix.specs.Turns.{FacesOk};
 ghost use Rattle.sweeps.specs.Sweep.{gaussSeidelOf};
@@ -71,7 +72,7 @@ pub fn cast_faces(
     while face < hi {
         let neighbor = store::index_at(w, neighbors, face, rows);
         let left = f[v + neighbor] - f[coefficients + face] * value;
-        next = store::put(f, v + neighbor, left, near, watched, next);
+        next = held::put(f, v + neighbor, left, near, watched, next);
         face += 1;
     }
     next
@@ -138,7 +139,7 @@ fn forward_row(
     let lo = store::wide(w[offsets + row]);
     let hi = store::wide(w[offsets + row + 1]);
     let next = work + (row + 1);
-    let held = store::float_at(f, next);
+    let held = held::float_at(f, next);
     let cast = cast_faces(
         w,
         f,
@@ -153,8 +154,8 @@ fn forward_row(
         next,
         held,
     );
-    let stays = store::put(f, x + row, value, near, next, cast);
-    store::held_at(f, next, near, stays)
+    let stays = held::put(f, x + row, value, near, next, cast);
+    held::held_at(f, next, near, stays)
 }
 
 // The rows upward.
@@ -173,7 +174,7 @@ fn forward(
     ensures { λ _. ⌜ Stored (forwardTurn (now (w .entry)) offsets neighbors coefficients inverse x work) 0 rows (now (f .entry)) (now (f .exit)) ⌝ }
 {
     let near = few_faces(w, offsets, rows);
-    let mut start = store::float_at(f, work);
+    let mut start = held::float_at(f, work);
     let mut row = 0;
     while row < rows {
         start = forward_row(

@@ -4,8 +4,8 @@ use mathlib.Core.List.{List}
 use Prim.Native.Nat.{ℕ}
 use lib.Ieee.{Float}
 use lib.ListN.{set}
-use Rattle.options.specs.declared.solver.LinearSolverStatus.{LinearSolverStatus}
-use Rattle.options.specs.declared.solver.LinearSolveReport.{LinearSolveReport}
+use Rattle.solver.specs.declared.LinearSolverStatus.{LinearSolverStatus}
+use Rattle.solver.specs.declared.LinearSolveReport.{LinearSolveReport}
 use Rattle.refusal.specs.declared.Refusal.{Refusal}
 use Rattle.build.specs.declared.Built.{Built}
 use Rattle.solve.specs.declared.Solved.{Solved}

@@ -5,9 +5,9 @@ ghost use lib.ListN.{length};
 ghost use Rattle.told.specs.Told.{three, statusOf, Told, ToldUpdate, ToldSolve, ToldCount};
 use build::Built;
 use multigrid::Counted;
-use options::LinearSolverStatus;
 use refresh::Updated;
 use solve::Solved;
+use solver::LinearSolverStatus;
 
 // Three numbers at the front of `place`.
 fn put(place: &mut [u64], first: u64, second: u64, third: u64)

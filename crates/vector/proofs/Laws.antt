@@ -7,7 +7,7 @@ use Prim.Native.Nat.{ℕ, suc, _+_, _*_, _/_, _≤_, _<_, min, zero-le}
 use native.Mathlib.Omega.{arith}
 use lib.Ieee.{Float}
 use Rattle.float.specs.Float.{add64, mul64, negZero, isFinite}
-use Rattle.float.specs.Sqrt.{sqrtOf}
+use Rattle.root.specs.Sqrt.{sqrtOf}
 use Rattle.store.specs.Loop.{for}
 use Rattle.store.specs.Region.{at, part}
 use Rattle.store.specs.Vector.{each}

@@ -4,7 +4,7 @@ use mathlib.Core.List.{List}
 use Prim.Native.Nat.{ℕ, _+_, _*_, _/_, min}
 use lib.Ieee.{Float}
 use Rattle.float.specs.Float.{add64, mul64, negZero, isFinite}
-use Rattle.float.specs.Sqrt.{sqrtOf}
+use Rattle.root.specs.Sqrt.{sqrtOf}
 use Rattle.store.specs.Loop.{for}
 use Rattle.store.specs.Region.{at}
 use Rattle.store.specs.Vector.{each}

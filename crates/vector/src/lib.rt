@@ -127,7 +127,7 @@ pub fn norm_l2(f: &[f64], a: usize, n: usize) -> Product
     ensures { λ r. ⌜ r ≡ normOf n (part a n (now (f .entry))) ⌝ }
 {
     match dot(f, a, a, n) {
-        Product::Finite(squared) => finite(float::sqrt(squared)),
+        Product::Finite(squared) => finite(root::sqrt(squared)),
         Product::NotFinite => Product::NotFinite,
     }
 }

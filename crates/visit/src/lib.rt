@@ -5,10 +5,10 @@ ghost use Prim.Native.Nat.{_+_, _*_, _≤_};
 ghost use lib.ListN.{length};
 ghost use Rattle.visit.specs.Visit.{residualPlace, smoothedAt, scaledAt, correctedAt, raisedAt};
 ghost use Rattle.visit.specs.Visit.{InnerOk, Moved, Resided, Restricted, Downed};
-use correction::Factor;
 use matrix::SymmetricMatrix;
 use options::MultigridSmoother;
 use refusal::Verdict;
+use scaling::Factor;
 
 // A level that is not the last: its matrix, its DIC reciprocals, the aggregate of each row, the start of its vectors, and the rows of
 // the next level.
@@ -103,7 +103,7 @@ fn correct_scaled(w: &[u32], f: &mut [f64], g: Inner, sweeps: u64) -> Verdict
     let e = s + 3 * n;
     let product = s + 4 * n;
     matrix::apply(w, f, g.matrix, e, product);
-    match correction::correction_factor(f, n, e, from, product) {
+    match scaling::correction_factor(f, n, e, from, product) {
         Factor::Refused(q) => Verdict::Refused(q),
         Factor::Factor(factor) => {
             correction::add_scaled(f, n, factor, e, from, product, g.matrix.inverse, s + n);

@@ -9,7 +9,7 @@ use lib.ListN.{length}
 use native.Mathlib.Omega.{arith}
 use lib.Ieee.{Float, binary64, ofBits, add, sub, mul, div, lt, le, eq, ne}
 use Rattle.float.specs.Float.{zero64, one64, isFinite, maxNum}
-use Rattle.float.specs.Sqrt.{sqrtOf}
+use Rattle.root.specs.Sqrt.{sqrtOf}
 use Rattle.store.specs.Loop.{iter, for}
 use Rattle.store.specs.Region.{part, lay, splice}
 use Rattle.store.specs.Vector.{tab, each, filled}

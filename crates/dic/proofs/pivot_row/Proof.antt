@@ -1,6 +1,6 @@
 -- `dic::pivot_row` meets its contract.
 -- Assumes nothing.
-use Rattle.store.proofs.Single.{held-read}
+use Rattle.held.proofs.Single.{held-read}
 use Rattle.dic.proofs.Turns.{faces-pivot, pivot-rowed}
 use borrow.Author.Needs.{needs}
 use native.Mathlib.Omega.{arith}

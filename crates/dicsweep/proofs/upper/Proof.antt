@@ -7,7 +7,7 @@ use lib.ListN.{length, length-set}
 use lib.Seq.{getD-set-same}
 use lib.Ieee.{nan}
 use Rattle.store.specs.Loop.{for}
-use Rattle.store.specs.Region.{Held}
+use Rattle.held.specs.Held.{Held}
 use Rattle.store.proofs.Loop.{Left, left-start, left-on}
 use Rattle.sweeps.specs.Turns.{upperTurn}
 use Rattle.sweeps.proofs.Turns.{sweep-resize, upper-on, stored}

@@ -5,7 +5,7 @@ use mathlib.Core.Path.{_≡_, refl}
 use Prim.Native.Nat.{_-_}
 use lib.ListN.{length}
 use Rattle.store.specs.Loop.{for}
-use Rattle.store.specs.Region.{Held}
+use Rattle.held.specs.Held.{Held}
 use Rattle.store.proofs.Loop.{Left, left-start, left-on}
 use Rattle.matrix.proofs.Turns.{near-of}
 use Rattle.sweeps.specs.Turns.{castTurn}

@@ -1,6 +1,6 @@
 -- `sweeps::forward_row` meets its contract.
 -- Assumes nothing.
-use Rattle.store.proofs.Single.{held-read}
+use Rattle.held.proofs.Single.{held-read}
 use Rattle.sweeps.proofs.Turns.{faces-beside, forwarded}
 use borrow.Author.Needs.{needs}
 use native.Mathlib.Omega.{arith}

@@ -1,7 +1,7 @@
 -- `solve::iterating::report` meets its contract.
 -- Assumes nothing.
 use mathlib.Core.Path.{ap}
-use Rattle.options.specs.declared.solver.LinearSolveReport.{LinearSolveReport}
+use Rattle.solver.specs.declared.LinearSolveReport.{LinearSolveReport}
 use borrow.Author.Needs.{needs}
 use Rattle.solve.proofs.iterating.report.Statement.{statement}
 use Rattle.solve.proofs.iterating.report.Tie as tie

@@ -1,0 +1,53 @@
+-- `scaling::correction_products` meets its contract. The loop's invariant: what is left to do from here gives both sums.
+-- Assumes nothing.
+use Prim.Native.Nat.{_-_}
+use Rattle.store.specs.Region.{part}
+use Rattle.store.proofs.Loop.{Left, left-start, left-on, left-end}
+use Rattle.scaling.specs.Scaling.{both, productsTurn, productsOf}
+use Rattle.scaling.proofs.Scaling.{products-on}
+use native.Mathlib.Omega.{arith}
+use borrow.Author.Needs.{needs}
+use Rattle.scaling.proofs.correction_products.Statement.{statement}
+use Rattle.scaling.proofs.correction_products.Tie as tie
+
+abbrev Inv-loop : tie.InvT-loop
+Inv-loop f n correction residual product numerator₀ denominator₀ row₀ numerator denominator row =
+    Left (productsTurn (part correction n f) (part residual n f) (part product n f)) row n (both numerator denominator)
+    (productsOf n (part correction n f) (part residual n f) (part product n f))
+
+abbrev μ-loop : tie.MeasureT-loop
+μ-loop f n correction residual product numerator₀ denominator₀ row₀ numerator denominator row = n - row
+
+loop-holds : tie.Need-loop-holds Inv-loop μ-loop
+unfolding productsOf
+loop-holds c = left-start
+
+loop-again : tie.Need-loop-again Inv-loop μ-loop
+loop-again c = search (left-on, products-on, needs)
+
+returns : tie.Need-returns Inv-loop μ-loop
+returns c = search (left-end)
+
+pub correction-products-spec : {M : Type 1} → statement M
+correction-products-spec =
+    tie.close
+    (tie.spec
+    Inv-loop
+    μ-loop
+    loop-holds
+    (λ c. omega arith)
+    (λ c. omega arith)
+    (λ c. omega arith)
+    (λ c. omega arith)
+    (λ c. omega arith)
+    (λ c. omega arith)
+    (λ c. omega arith)
+    (λ c. omega arith)
+    (λ c. omega arith)
+    (λ c. omega arith)
+    (λ c. omega arith)
+    (λ c. omega arith)
+    (λ c. omega arith)
+    (λ c. omega arith)
+    loop-again
+    returns)

@@ -1,0 +1,46 @@
+// Types of a solve: its controls, and the report that it returns.
+ghost use mathlib.Core.Path.{_≡_};
+ghost use Rattle.solver.specs.Solver.{defaultSolver, convergedOf};
+
+pub struct LinearSolverOptions {
+    pub absolute_tolerance: f64,
+    pub relative_tolerance: f64,
+    pub max_iterations: u64,
+}
+
+impl LinearSolverOptions {
+    pub fn default() -> LinearSolverOptions
+        ensures { λ r. ⌜ r ≡ defaultSolver ⌝ }
+    {
+        LinearSolverOptions {
+            absolute_tolerance: 1.0e-10,
+            relative_tolerance: 1.0e-8,
+            max_iterations: 1_000,
+        }
+    }
+}
+
+pub enum LinearSolverStatus {
+    Converged,
+    MaxIterations,
+}
+
+pub struct LinearSolveReport {
+    pub status: LinearSolverStatus,
+    pub iterations: u64,
+    pub initial_residual: f64,
+    pub final_residual: f64,
+    pub relative_residual: f64,
+}
+
+impl LinearSolveReport {
+    pub fn converged(self) -> bool
+        ensures { λ r. ⌜ r ≡ convergedOf (self .status) ⌝ }
+    {
+        let status = self.status;
+        match status {
+            LinearSolverStatus::Converged => true,
+            LinearSolverStatus::MaxIterations => false,
+        }
+    }
+}
