@@ -31,8 +31,9 @@ use Rattle.build.specs.Contract.{lentOf}
 use Rattle.sound.specs.Sound.{soundOf}
 use Rattle.built.proofs.Sound.{built-sound}
 use Rattle.statistics.specs.Fresh.{freshOf}
+use Rattle.stepping.specs.Iteration.{systemOf}
 use Rattle.solve.specs.declared.Solved.{Solved}
-use Rattle.solve.specs.Solve.{Solution, systemOf, solveOf}
+use Rattle.solve.specs.Solve.{Solution, solveOf}
 use Rattle.solve.specs.Contract.{countersOf, solvedAt, answerOf, solutionOf}
 use Rattle.solve.specs.Contract as solving
 use Rattle.refresh.specs.declared.Updated.{Updated}

@@ -8,8 +8,9 @@ use Rattle.solver.specs.declared.LinearSolverOptions.{LinearSolverOptions}
 use Rattle.refusal.specs.Outcome.{accepted}
 use Rattle.hierarchy.specs.Level.{Hierarchy}
 use Rattle.hierarchy.specs.Build.{Lent, Input, buildOf}
+use Rattle.stepping.specs.Iteration.{systemOf}
 use Rattle.solve.specs.declared.Solved.{Solved}
-use Rattle.solve.specs.Solve.{systemOf, solveOf}
+use Rattle.solve.specs.Solve.{solveOf}
 use Rattle.solve.specs.Contract.{answerOf, solutionOf}
 use Rattle.refresh.specs.declared.Updated.{Updated}
 use Rattle.multigrid.specs.Calls.{SolveCall, UpdateCall}

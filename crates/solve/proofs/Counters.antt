@@ -18,7 +18,8 @@ use Rattle.measure.specs.Normalization.{thresholdOf}
 use Rattle.transfer.specs.Transfer.{restrictOf, prolongOf}
 use Rattle.hierarchy.specs.Level.{Level}
 use Rattle.cycle.specs.Cycle.{Cycled, cycled, visited, iterated, rowsIn, rowsFirst, smoothed, ended, residualIn, correctedOf, endOf, upOf, cycleOf}
-use Rattle.solve.specs.Solve.{State, System, Solution, lengthsOk, inputOk, residualOf, measuredOf, movedOf, stepOf, solution, begun, iterateOf, runOf, factorOf, solveOf}
+use Rattle.stepping.specs.Iteration.{State, System, residualOf, measuredOf, movedOf, stepOf}
+use Rattle.solve.specs.Solve.{Solution, lengthsOk, inputOk, solution, begun, iterateOf, runOf, factorOf, solveOf}
 use Rattle.solve.specs.Contract.{answerOf, solutionOf}
 
 -- ---- outcomes that look alike

@@ -26,6 +26,7 @@ use Rattle.measure.specs.Measure as measure
 use Rattle.measure.specs.Normalization as normalization
 use Rattle.hierarchy.specs.Level.{Hierarchy}
 use Rattle.cycle.specs.Cycle as cycle
+use Rattle.stepping.specs.Iteration as iteration
 use Rattle.solve.specs.Solve as solve
 
 abbrev two : Float
@@ -99,7 +100,7 @@ abbrev asked : LinearSolverOptions
 asked = record { «absolute_tolerance» = zero64; «relative_tolerance» = half; «max_iterations» = 5 }
 
 -- `smallpress`: converged after one iteration, from a residual of 2 to zero, at 1, 1, with one visit
-small-press : solve.solveOf (solve.systemOf (controls MultigridResidualNorm.AbsoluteL2 0) oneLevel) asked (two ∷ zero64 ∷ []) (zero64 ∷ zero64 ∷ []) (2 ∷ 0 ∷ 0 ∷ 0 ∷ [])
+small-press : solve.solveOf (iteration.systemOf (controls MultigridResidualNorm.AbsoluteL2 0) oneLevel) asked (two ∷ zero64 ∷ []) (zero64 ∷ zero64 ∷ []) (2 ∷ 0 ∷ 0 ∷ 0 ∷ [])
     ≡ accepted (record {
       report = record {
         status = LinearSolverStatus.Converged;
@@ -111,5 +112,5 @@ small-press : solve.solveOf (solve.systemOf (controls MultigridResidualNorm.Abso
       x = one64 ∷ one64 ∷ [];
       counts = 2 ∷ 1 ∷ 0 ∷ 0 ∷ [];
     })
-unfolding solve.solveOf solve.inputOk solve.runOf solve.iterateOf solve.stepOf solve.movedOf cycle.cycleOf cycle.endOf cycle.countOf terminal.terminalOf terminal.solutionOf terminal.scatterOf terminal.gatherOf terminal.diagonalOf factor.solveFactorOf factor.lowRow factor.highRow factor.lowTerm factor.highTerm tri measure.measureOf measure.valueOf measure.squaresOf measure.squareAt measure.sumOf measure.sumTurn dot.allFinite dot.productOf normalization.normalizationOf normalization.relativeOf matrix.applyOf matrix.spreadOf matrix.spreadRow matrix.spreadFace correction.subtractOf correction.addPlainOf isFinite maxNum sqrtOf each tab for iter lt le eq ne ofBits add sub mul div
+unfolding solve.solveOf solve.inputOk solve.runOf solve.iterateOf iteration.stepOf iteration.movedOf cycle.cycleOf cycle.endOf cycle.countOf terminal.terminalOf terminal.solutionOf terminal.scatterOf terminal.gatherOf terminal.diagonalOf factor.solveFactorOf factor.lowRow factor.highRow factor.lowTerm factor.highTerm tri measure.measureOf measure.valueOf measure.squaresOf measure.squareAt measure.sumOf measure.sumTurn dot.allFinite dot.productOf normalization.normalizationOf normalization.relativeOf matrix.applyOf matrix.spreadOf matrix.spreadRow matrix.spreadFace correction.subtractOf correction.addPlainOf isFinite maxNum sqrtOf each tab for iter lt le eq ne ofBits add sub mul div
 small-press = refl

@@ -16,14 +16,16 @@ use Rattle.solver.specs.declared.LinearSolveReport.{LinearSolveReport}
 use Rattle.refusal.specs.declared.Refusal.{Refusal}
 use Rattle.refusal.specs.Outcome.{Outcome, accepted, refused, _>>=_}
 use Rattle.refusal.proofs.Outcome.{then-accepted, then-refused}
-use Rattle.solve.specs.declared.Regions.{Regions}
+use Rattle.stepping.specs.declared.Regions.{Regions}
+use Rattle.stepping.specs.declared.Step.{Step}
+use Rattle.stepping.specs.Iteration.{System, State, stepOf}
+use Rattle.stepping.specs.Steps.{systemAt, Ready, StepOk, stateAt, stepAt, StepDone}
+use Rattle.stepping.proofs.Placing.{vectors, system-kept}
+use Rattle.stepping.proofs.Moving.{accepted-one}
 use Rattle.solve.specs.declared.Solved.{Solved}
-use Rattle.solve.specs.declared.Step.{Step}
-use Rattle.solve.specs.Solve.{System, State, Solution, reportOf, solution, stepOf, iterateOf}
-use Rattle.solve.specs.Contract.{systemAt, answerOf}
-use Rattle.solve.specs.Steps.{Ready, StepOk, stateAt, stepAt, StepDone, Ran, iterateAt, Iterating}
-use Rattle.solve.proofs.Moving.{accepted-one}
-use Rattle.solve.proofs.Placing.{vectors, system-kept}
+use Rattle.solve.specs.Solve.{Solution, reportOf, solution, iterateOf}
+use Rattle.solve.specs.Contract.{answerOf}
+use Rattle.solve.specs.Steps.{Ran, iterateAt, Iterating}
 
 module _ {g : Regions} {out : Outcome Solution} {F G : List Float} {u : List ℕ} (kept : Kept (g .solution) F G) where
   -- An accepted solve leaves its state and reports it.

@@ -1,6 +1,3 @@
-pub mod Placing
-pub mod Moving
-pub mod Advancing
 pub mod Iterations
 pub mod Solving
 pub mod Examples

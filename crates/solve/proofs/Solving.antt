@@ -38,12 +38,14 @@ use Rattle.sound.specs.declared.Walk.{Walk}
 use Rattle.sound.specs.Sound.{walkOf, isSound, handleSound, scratchStart, scratchEnd, cycleStart, soundOf}
 use Rattle.sound.proofs.Question.{handle-few}
 use Rattle.copies.specs.Copies.{EnterOk, Entered, LeaveOk, Taken}
-use Rattle.solve.specs.declared.Regions.{Regions}
+use Rattle.stepping.specs.declared.Regions.{Regions}
+use Rattle.stepping.specs.Iteration.{System, State, measured, residualOf, measuredOf}
+use Rattle.stepping.specs.Steps.{systemAt, regionsAt, Opened, Ready, VectorsOk, Renewed, productAt, stateAt}
+use Rattle.stepping.proofs.Placing.{vectors, rows-is, system-kept, sums-is, kernel-is, kernel-rows}
 use Rattle.solve.specs.declared.Solved.{Solved}
-use Rattle.solve.specs.Solve.{System, State, Solution, measured, residualOf, measuredOf, factorOf, reportOf, runOf, iterateOf, lengthsOk, inputOk, solveOf}
-use Rattle.solve.specs.Contract.{systemAt, solvedAt, countersOf, answerOf, solutionOf, statisticsOf, SolveDone}
-use Rattle.solve.specs.Steps.{regionsAt, Opened, Ready, VectorsOk, Renewed, productAt, stateAt, Ran, iterateAt, askedOf, attemptOf, attemptAt, begunAt, BeginOk}
-use Rattle.solve.proofs.Placing.{vectors, rows-is, system-kept, sums-is, kernel-is, kernel-rows}
+use Rattle.solve.specs.Solve.{Solution, factorOf, reportOf, runOf, iterateOf, lengthsOk, inputOk, solveOf}
+use Rattle.solve.specs.Contract.{solvedAt, countersOf, answerOf, solutionOf, statisticsOf, SolveDone}
+use Rattle.solve.specs.Steps.{Ran, iterateAt, askedOf, attemptOf, attemptAt, begunAt, BeginOk}
 use Rattle.solve.proofs.Iterations.{ran-accepted, ran-refused}
 
 -- ---- from question 22 on

@@ -10,18 +10,14 @@ use Rattle.store.specs.Vector.{filled}
 use Rattle.options.specs.declared.Handle.{Handle}
 use Rattle.solver.specs.declared.LinearSolverOptions.{LinearSolverOptions}
 use Rattle.refusal.specs.Outcome.{Outcome, accepted, refused}
-use Rattle.layout.specs.Layout.{viewOf}
 use Rattle.sound.specs.Sound.{scratchStart}
+use Rattle.stepping.specs.Steps.{systemAt}
 use Rattle.solve.specs.declared.Solved.{Solved}
-use Rattle.solve.specs.Solve.{System, Solution, systemOf, solveOf}
+use Rattle.solve.specs.Solve.{Solution, solveOf}
 
 -- the counters that a solve starts from: the statistics of its levels, in a table with room for 128 levels, the most that there are
 abbrev pub countersOf : ℕ → List ℕ → List ℕ
 countersOf levels t = lay (part 0 (4 * levels) t) (filled 512 0)
-
--- the hierarchy in the stores, as a solve has it
-abbrev pub systemAt : Handle → List ℕ → List Float → System
-systemAt h w F = systemOf (h .options) (viewOf (h .levels) w F 0)
 
 -- the solve in stores that pass question 19
 abbrev pub solvedAt : Handle → List ℕ → List Float → List ℕ → List Float → List Float → LinearSolverOptions → Outcome Solution

@@ -1,15 +1,16 @@
 // The iterations of a solve, and its report.
 ghost use mathlib.Core.Path.{_≡_};
 ghost use lib.ListN.{length};
+ghost use Rattle.stepping.specs.Steps.{Ready};
 ghost use Rattle.solve.specs.Solve.{reportOf};
-ghost use Rattle.solve.specs.Steps.{Ready, iterateAt, Ran};
-use crate::Regions;
+ghost use Rattle.solve.specs.Steps.{iterateAt, Ran};
 use crate::Solved;
-use crate::Step;
-use crate::stepping;
 use options::Handle;
 use solver::LinearSolveReport;
 use solver::LinearSolverStatus;
+use stepping::Regions;
+use stepping::Step;
+use stepping::iteration;
 
 pub fn report(
     status: LinearSolverStatus,
@@ -47,7 +48,7 @@ pub fn iterate(
     let mut last = initial;
     let mut done = 0;
     while done < limit {
-        let after = stepping::step(h, w, f, t, g, factor, used);
+        let after = iteration::step(h, w, f, t, g, factor, used);
         match after {
             Step::Done {
                 used: stored,

@@ -1,49 +1,30 @@
-// mod.rs: the iterations of a solve over regions of the store.
+// mod.rs: the solve in lent stores: its input, its iterations on copies, and what it leaves.
 ghost use mathlib.Core.Path.{_≡_};
 ghost use mathlib.Core.Bool.{true};
 ghost use Prim.Native.Nat.{_/_};
 ghost use lib.ListN.{length};
 ghost use Rattle.sound.specs.Sound.{soundOf};
+ghost use Rattle.stepping.specs.Steps.{Ready};
 ghost use Rattle.solve.specs.Solve.{inputOk};
 ghost use Rattle.solve.specs.Contract.{solvedAt, SolveDone};
 ghost use Rattle.refusal.specs.Outcome.{verdictOf};
-ghost use Rattle.solve.specs.Steps.{askedOf, BeginOk, begunAt, attemptAt, Ready, Ran};
-use matrix::SymmetricMatrix;
+ghost use Rattle.solve.specs.Steps.{askedOf, BeginOk, begunAt, attemptAt, Ran};
 use options::Handle;
 use refusal::Refusal;
 use refusal::Verdict;
 use solver::LinearSolveReport;
 use solver::LinearSolverOptions;
 use solver::LinearSolverStatus;
+use stepping::Regions;
+use stepping::iteration;
+use stepping::places;
 use vector::Product;
 
 mod iterating;
-mod places;
-mod stepping;
 
 // The report of a solve, or its refusal.
 pub enum Solved {
     Report(LinearSolveReport),
-    Refused(Refusal),
-}
-
-// Where the finest matrix and the vectors of a solve stand, and their length.
-pub struct Regions {
-    pub matrix: SymmetricMatrix,
-    pub rows: usize,
-    pub sums: usize,
-    pub rhs: usize,
-    pub solution: usize,
-    pub directions: usize,
-    pub images: usize,
-    pub residual: usize,
-    pub correction: usize,
-    pub product: usize,
-}
-
-// An iteration: the pairs stored now and the norm of the residual, or a refusal.
-pub enum Step {
-    Done { used: usize, last: f64 },
     Refused(Refusal),
 }
 
@@ -88,7 +69,7 @@ fn attempt(
 {
     let options = h.options;
     let norm = options.residual_norm;
-    stepping::renew(w, f, g);
+    iteration::renew(w, f, g);
     let factor = measure::normalization(f, g.rows, g.solution, g.rhs, g.product, g.sums, norm);
     if !float::is_finite(factor) {
         return Solved::Refused(refusal::BAD_NORMALIZATION);

@@ -28,13 +28,12 @@ use Rattle.measure.specs.Measure.{measureOf}
 use Rattle.layout.specs.Layout.{rowsAt, viewOf}
 use Rattle.cycle.specs.Cycle.{Cycled, cycleOf}
 use Rattle.cycle.specs.Contract.{cycleAt, CycleOk, CycleDone}
-use Rattle.solve.specs.declared.Regions.{Regions}
-use Rattle.solve.specs.declared.Step.{Step}
-use Rattle.solve.specs.Solve.{System, State, measured, residualOf, measuredOf, movedOf, stepOf}
-use Rattle.solve.specs.Contract.{systemAt}
-use Rattle.solve.specs.Steps.{Ready, StepOk, VectorsOk, Renewed, Moved, MoveOk, moveOf, moveAt, afterOf, afterAt, stateAt, stepAt, AdvanceDone, StepDone}
-use Rattle.solve.proofs.Moving.{kernel-above, accepted-one, memory-kept}
-use Rattle.solve.proofs.Placing.{vectors, move-ok, cycle-ok, rows-is, correction-is, system-kept, kernel-is, kernel-rows}
+use Rattle.stepping.specs.declared.Regions.{Regions}
+use Rattle.stepping.specs.declared.Step.{Step}
+use Rattle.stepping.specs.Iteration.{System, State, measured, residualOf, measuredOf, movedOf, stepOf}
+use Rattle.stepping.specs.Steps.{systemAt, Ready, StepOk, VectorsOk, Renewed, Moved, MoveOk, moveOf, moveAt, afterOf, afterAt, stateAt, stepAt, AdvanceDone, StepDone}
+use Rattle.stepping.proofs.Moving.{kernel-above, accepted-one, memory-kept}
+use Rattle.stepping.proofs.Placing.{vectors, move-ok, cycle-ok, rows-is, correction-is, system-kept, kernel-is, kernel-rows}
 
 -- ---- after the cycle
 

@@ -1,9 +1,9 @@
--- `solve::stepping::move_solution` meets its contract: the plain sum, or GCR with the correction's image.
+-- `stepping::iteration::move_solution` meets its contract: the plain sum, or GCR with the correction's image.
 -- Assumes nothing.
 use borrow.Author.Needs.{needs}
-use Rattle.solve.proofs.Moving.{plain-ok, moved-plain, image-ok, correct-ok, moved-gcr}
-use Rattle.solve.proofs.stepping.move_solution.Statement.{statement}
-use Rattle.solve.proofs.stepping.move_solution.Tie as tie
+use Rattle.stepping.proofs.Moving.{plain-ok, moved-plain, image-ok, correct-ok, moved-gcr}
+use Rattle.stepping.proofs.iteration.move_solution.Statement.{statement}
+use Rattle.stepping.proofs.iteration.move_solution.Tie as tie
 
 add-plain-requires : tie.Need-add-plain-requires
 add-plain-requires c κs = plain-ok (c .before .before .before .before .pre)

@@ -1,6 +1,6 @@
 // Where the finest matrix and the vectors of a solve stand.
 ghost use mathlib.Core.Path.{_≡_};
-ghost use Rattle.solve.specs.Steps.{Opened, regionsAt};
+ghost use Rattle.stepping.specs.Steps.{Opened, regionsAt};
 use crate::Regions;
 use options::Handle;
 

@@ -1,12 +1,12 @@
--- `solve::places::regions` meets its contract: no place wraps, and each is the definition's.
+-- `stepping::places::regions` meets its contract: no place wraps, and each is the definition's.
 -- Assumes nothing.
 use mathlib.Core.Path.{_∙_, ap}
 use Rattle.layout.specs.Parts.{kernelIn}
-use Rattle.solve.proofs.Placing.{levels-ok, memory-ok, first-ok, places-fit, places-are}
+use Rattle.stepping.proofs.Placing.{levels-ok, memory-ok, first-ok, places-fit, places-are}
 use native.Mathlib.Omega.{arith}
 use borrow.Author.Needs.{needs}
-use Rattle.solve.proofs.places.regions.Statement.{statement}
-use Rattle.solve.proofs.places.regions.Tie as tie
+use Rattle.stepping.proofs.places.regions.Statement.{statement}
+use Rattle.stepping.proofs.places.regions.Tie as tie
 
 scratch-start-requires : tie.Need-scratch-start-requires
 scratch-start-requires c κs = levels-ok (c .before .pre)

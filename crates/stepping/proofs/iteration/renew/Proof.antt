@@ -1,9 +1,9 @@
--- `solve::stepping::renew` meets its contract: the product, then the subtraction.
+-- `stepping::iteration::renew` meets its contract: the product, then the subtraction.
 -- Assumes nothing.
 use borrow.Author.Needs.{needs}
-use Rattle.solve.proofs.Moving.{product-ok, subtract-ok, renewed}
-use Rattle.solve.proofs.stepping.renew.Statement.{statement}
-use Rattle.solve.proofs.stepping.renew.Tie as tie
+use Rattle.stepping.proofs.Moving.{product-ok, subtract-ok, renewed}
+use Rattle.stepping.proofs.iteration.renew.Statement.{statement}
+use Rattle.stepping.proofs.iteration.renew.Tie as tie
 
 apply-requires : tie.Need-apply-requires
 apply-requires c κs = product-ok (c .before .before .before .pre)

@@ -1,10 +1,10 @@
--- `solve::stepping::advance` meets its contract: the solution moved, its residual, and the norm.
+-- `stepping::iteration::advance` meets its contract: the solution moved, its residual, and the norm.
 -- Assumes nothing.
-use Rattle.solve.proofs.Placing.{move-ok}
-use Rattle.solve.proofs.Advancing.{renew-ok, measure-ok, advance-yes, advance-bad, advance-no}
+use Rattle.stepping.proofs.Placing.{move-ok}
+use Rattle.stepping.proofs.Advancing.{renew-ok, measure-ok, advance-yes, advance-bad, advance-no}
 use borrow.Author.Needs.{needs}
-use Rattle.solve.proofs.stepping.advance.Statement.{statement}
-use Rattle.solve.proofs.stepping.advance.Tie as tie
+use Rattle.stepping.proofs.iteration.advance.Statement.{statement}
+use Rattle.stepping.proofs.iteration.advance.Tie as tie
 
 move-solution-requires : tie.Need-move-solution-requires
 move-solution-requires c κs = move-ok (c .before .before .before .before .pre .ready) (c .before .before .before .before .pre .fits)

@@ -20,8 +20,8 @@ use Rattle.acceleration.specs.declared.Corrected.{Corrected}
 use Rattle.acceleration.specs.Gcr.{Pair, Corrections, correctOf}
 use Rattle.acceleration.specs.Contract.{pairAt, memoryAt, CorrectOk, CorrectedBy, correctedOf}
 use Rattle.acceleration.proofs.Passes.{memory-same}
-use Rattle.solve.specs.declared.Regions.{Regions}
-use Rattle.solve.specs.Steps.{VectorsOk, MoveOk, Renewed, Moved, moveAt, productAt}
+use Rattle.stepping.specs.declared.Regions.{Regions}
+use Rattle.stepping.specs.Steps.{VectorsOk, MoveOk, Renewed, Moved, moveAt, productAt}
 
 -- A matrix that ends below a place ends below a higher one.
 pub kernel-above : {w : List ℕ} {low high : ℕ} {s : SymmetricMatrix} → KernelOk w low s → low ≤ high → KernelOk w high s

@@ -1,6 +1,6 @@
 // One iteration: a cycle on the residual, the solution moved by its correction, and the true residual.
 ghost use lib.ListN.{length};
-ghost use Rattle.solve.specs.Steps.{VectorsOk, Renewed, MoveOk, Moved, StepOk, AdvanceDone, StepDone, moveAt};
+ghost use Rattle.stepping.specs.Steps.{VectorsOk, Renewed, MoveOk, Moved, StepOk, AdvanceDone, StepDone, moveAt};
 use crate::Regions;
 use crate::Step;
 use acceleration::Corrected;

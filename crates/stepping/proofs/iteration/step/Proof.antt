@@ -1,9 +1,9 @@
--- `solve::stepping::step` meets its contract: the zero correction, the cycle, and what follows.
+-- `stepping::iteration::step` meets its contract: the zero correction, the cycle, and what follows.
 -- Assumes nothing.
-use Rattle.solve.proofs.Advancing.{fill-ok, start-ok, after-ok, step-on, step-no}
+use Rattle.stepping.proofs.Advancing.{fill-ok, start-ok, after-ok, step-on, step-no}
 use borrow.Author.Needs.{needs}
-use Rattle.solve.proofs.stepping.step.Statement.{statement}
-use Rattle.solve.proofs.stepping.step.Tie as tie
+use Rattle.stepping.proofs.iteration.step.Statement.{statement}
+use Rattle.stepping.proofs.iteration.step.Tie as tie
 
 fill-requires : tie.Need-fill-requires
 fill-requires c κs = fill-ok (c .before .before .before .pre)

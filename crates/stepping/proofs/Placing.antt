@@ -23,10 +23,9 @@ use Rattle.sound.proofs.Facts.{Passed, passed}
 use Rattle.sound.proofs.Sizes.{place-zero, first-head}
 use Rattle.cycle.specs.Cycle as cycle
 use Rattle.cycle.specs.Contract.{CycleOk}
-use Rattle.solve.specs.declared.Regions.{Regions}
-use Rattle.solve.specs.Solve.{kernelFirst}
-use Rattle.solve.specs.Contract.{systemAt}
-use Rattle.solve.specs.Steps.{regionsAt, Opened, Ready, VectorsOk, MoveOk, StepOk}
+use Rattle.stepping.specs.declared.Regions.{Regions}
+use Rattle.stepping.specs.Iteration.{kernelFirst}
+use Rattle.stepping.specs.Steps.{systemAt, regionsAt, Opened, Ready, VectorsOk, MoveOk, StepOk}
 
 -- Scratch ends behind where it starts.
 scratch-to : (k : ℕ) (w : List ℕ) (a s : ℕ) → s ≤ scratchEnd k w a s
