@@ -10,7 +10,7 @@ use Rattle.store.specs.Region.{part, Wrote}
 use Rattle.store.proofs.Region.{wrote-at, kept-part}
 use Rattle.refusal.specs.declared.Verdict.{Verdict}
 use Rattle.matrix.specs.declared.SymmetricMatrix.{SymmetricMatrix}
-use Rattle.values.specs.declared.values.Entries.{Entries}
+use Rattle.values.specs.declared.entries.Entries.{Entries}
 use Rattle.values.specs.Update.{updateAt, UpdateOk, Updated}
 use Rattle.values.proofs.UpdateLaws.{within-wrote, within-on, within-more, within-kept}
 use Rattle.layout.specs.declared.Place.{Place}

@@ -9,7 +9,7 @@ use Rattle.aggregation.specs.declared.Graph.{Graph}
 use Rattle.pattern.specs.declared.Coarsening.{Coarsening}
 use Rattle.faces.specs.declared.Faces.{Faces}
 use Rattle.matrix.specs.declared.SymmetricMatrix.{SymmetricMatrix}
-use Rattle.values.specs.declared.values.Entries.{Entries}
+use Rattle.values.specs.declared.entries.Entries.{Entries}
 use Rattle.cholesky.specs.declared.Terminal.{Terminal}
 use Rattle.scaling.specs.declared.Factor.{Factor}
 use Rattle.acceleration.specs.declared.Corrected.{Corrected}

@@ -17,7 +17,7 @@ use Rattle.refusal.proofs.Outcome.{then-accepted, then-refused}
 use Rattle.vector.specs.Dot.{allFinite}
 use Rattle.matrix.specs.declared.SymmetricMatrix.{SymmetricMatrix}
 use Rattle.matrix.specs.Kernel.{kernelAt, KernelOk}
-use Rattle.values.specs.declared.values.Entries.{Entries}
+use Rattle.values.specs.declared.entries.Entries.{Entries}
 use Rattle.values.specs.Update.{Coefficients, updateAt, UpdateOk, Updated}
 use Rattle.dic.specs.Dic.{dicOf, settled, Settled, DicOk}
 use Rattle.cholesky.specs.declared.Terminal.{Terminal}

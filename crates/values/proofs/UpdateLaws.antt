@@ -23,7 +23,7 @@ use Rattle.store.proofs.Region.{length-part, length-splice, getD-part, getD-spl
 use Rattle.store.proofs.Vector.{length-tab, getD-tab, tab-same, for-each}
 use Rattle.store.proofs.Each.{Tested, both-l, both-r, each-at, tested-start, tested-on, tested-done}
 use Rattle.matrix.specs.declared.SymmetricMatrix.{SymmetricMatrix}
-use Rattle.values.specs.declared.values.Entries.{Entries}
+use Rattle.values.specs.declared.entries.Entries.{Entries}
 use Rattle.values.specs.Update.{isPositive, diagonalAsked, diagonalGood, entryOf, Coefficients, updateOf, updateAt, Within, Holds, UpdateOk, Updated, EntriesOk, pickTurn, after, diagonalAt, writtenTo, RowsSettled, RowsUpdated, RowsAsked}
 
 -- ---- the frame

@@ -12,7 +12,7 @@ use Rattle.refusal.specs.Outcome.{Outcome, accepted, refused, passed, ask, _>>_
 use Rattle.store.specs.Region.{at, idx, part, splice}
 use Rattle.store.specs.Vector.{tab, each}
 use Rattle.matrix.specs.declared.SymmetricMatrix.{SymmetricMatrix}
-use Rattle.values.specs.declared.values.Entries.{Entries}
+use Rattle.values.specs.declared.entries.Entries.{Entries}
 
 -- `d.is_finite() && d > 0.0`
 unfoldable pub isPositive : Float → Bool

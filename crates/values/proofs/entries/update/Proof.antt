@@ -1,9 +1,9 @@
--- `values::values::update` meets its contract.
+-- `values::entries::update` meets its contract.
 -- Assumes nothing.
 use Rattle.values.proofs.UpdateLaws.{rows-entries, faces-entries, update-no, update-yes}
 use borrow.Author.Needs.{needs}
-use Rattle.values.proofs.values.update.Statement.{statement}
-use Rattle.values.proofs.values.update.Tie as tie
+use Rattle.values.proofs.entries.update.Statement.{statement}
+use Rattle.values.proofs.entries.update.Tie as tie
 
 update-rows-requires : tie.Need-update-rows-requires
 update-rows-requires c κs = search (rows-entries, needs)

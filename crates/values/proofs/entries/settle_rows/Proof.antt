@@ -1,4 +1,4 @@
--- `values::values::settle_rows` meets its contract. The loop's invariant: the rows passed are written, and the answer so far is theirs.
+-- `values::entries::settle_rows` meets its contract. The loop's invariant: the rows passed are written, and the answer so far is theirs.
 -- Assumes nothing.
 use mathlib.Core.Path.{_≡_, refl}
 use Prim.Native.Nat.{_-_}
@@ -6,8 +6,8 @@ use lib.ListN.{length, length-set}
 use Rattle.values.proofs.UpdateLaws.{entry-of, Settling, settling-start, settle-on, rows-settled}
 use native.Mathlib.Omega.{arith}
 use borrow.Author.Needs.{needs}
-use Rattle.values.proofs.values.settle_rows.Statement.{statement}
-use Rattle.values.proofs.values.settle_rows.Tie as tie
+use Rattle.values.proofs.entries.settle_rows.Statement.{statement}
+use Rattle.values.proofs.entries.settle_rows.Tie as tie
 
 abbrev Inv-loop : tie.InvT-loop
 Inv-loop w f₀ rows entries places values diagonal inverse ok₀ row₀ f ok row =

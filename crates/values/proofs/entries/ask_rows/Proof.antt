@@ -1,11 +1,11 @@
--- `values::values::ask_rows` meets its contract. The loop's invariant: the questions left give the answer.
+-- `values::entries::ask_rows` meets its contract. The loop's invariant: the questions left give the answer.
 -- Assumes nothing.
 use Prim.Native.Nat.{_-_}
 use Rattle.values.proofs.UpdateLaws.{Asking, asking-start, asking-done, row-bad, row-bad-reciprocal, row-on}
 use native.Mathlib.Omega.{arith}
 use borrow.Author.Needs.{needs}
-use Rattle.values.proofs.values.ask_rows.Statement.{statement}
-use Rattle.values.proofs.values.ask_rows.Tie as tie
+use Rattle.values.proofs.entries.ask_rows.Statement.{statement}
+use Rattle.values.proofs.entries.ask_rows.Tie as tie
 
 abbrev Inv-loop : tie.InvT-loop
 Inv-loop f rows diagonal level row₀ row = Asking level rows diagonal f row

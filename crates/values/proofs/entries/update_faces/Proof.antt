@@ -1,4 +1,4 @@
--- `values::values::update_faces` meets its contract. The loop's invariant: what is left to do from here gives what the whole gives.
+-- `values::entries::update_faces` meets its contract. The loop's invariant: what is left to do from here gives what the whole gives.
 -- Assumes nothing.
 use mathlib.Core.Path.{_≡_, refl}
 use Prim.Native.Nat.{_-_}
@@ -9,8 +9,8 @@ use Rattle.values.specs.Update.{pickTurn}
 use Rattle.values.proofs.UpdateLaws.{entry-of, pick-on, picked}
 use native.Mathlib.Omega.{arith}
 use borrow.Author.Needs.{needs}
-use Rattle.values.proofs.values.update_faces.Statement.{statement}
-use Rattle.values.proofs.values.update_faces.Tie as tie
+use Rattle.values.proofs.entries.update_faces.Statement.{statement}
+use Rattle.values.proofs.entries.update_faces.Tie as tie
 
 abbrev Inv-loop : tie.InvT-loop
 Inv-loop w f₀ faces entries places values coefficients face₀ f face =

@@ -1,9 +1,9 @@
--- `values::values::is_positive` meets its contract.
+-- `values::entries::is_positive` meets its contract.
 -- Assumes nothing.
 use Rattle.values.specs.Update.{isPositive}
 use borrow.Author.Needs.{needs}
-use Rattle.values.proofs.values.is_positive.Statement.{statement}
-use Rattle.values.proofs.values.is_positive.Tie as tie
+use Rattle.values.proofs.entries.is_positive.Statement.{statement}
+use Rattle.values.proofs.entries.is_positive.Tie as tie
 
 returns : tie.Need-returns
 unfolding isPositive

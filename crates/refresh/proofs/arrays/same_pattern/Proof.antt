@@ -1,9 +1,9 @@
--- `refresh::asking::same_pattern` meets its contract.
+-- `refresh::arrays::same_pattern` meets its contract.
 -- Assumes nothing.
 use Rattle.refresh.proofs.Questions.{pattern-same}
 use borrow.Author.Needs.{needs}
-use Rattle.refresh.proofs.asking.same_pattern.Statement.{statement}
-use Rattle.refresh.proofs.asking.same_pattern.Tie as tie
+use Rattle.refresh.proofs.arrays.same_pattern.Statement.{statement}
+use Rattle.refresh.proofs.arrays.same_pattern.Tie as tie
 
 returns : tie.Need-returns
 returns c =

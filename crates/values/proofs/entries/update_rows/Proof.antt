@@ -1,10 +1,10 @@
--- `values::values::update_rows` meets its contract: every row is good, or the questions one by one give the verdict.
+-- `values::entries::update_rows` meets its contract: every row is good, or the questions one by one give the verdict.
 -- Assumes nothing.
 use borrow.Author.Needs.{needs}
 use Rattle.values.proofs.UpdateLaws.{rows-good, rows-asked}
 use native.Mathlib.Omega.{arith}
-use Rattle.values.proofs.values.update_rows.Statement.{statement}
-use Rattle.values.proofs.values.update_rows.Tie as tie
+use Rattle.values.proofs.entries.update_rows.Statement.{statement}
+use Rattle.values.proofs.entries.update_rows.Tie as tie
 
 settle-rows-requires : tie.Need-settle-rows-requires
 settle-rows-requires c κs = search needs
