@@ -39,9 +39,9 @@ use Rattle.solve.specs.Contract as solving
 use Rattle.refresh.specs.declared.Updated.{Updated}
 use Rattle.refresh.specs.Contract.{updatedAt, hierarchyOf}
 use Rattle.refresh.specs.Contract as refreshing
-use Rattle.multigrid.specs.New.{statisticsOf, NewDone}
-use Rattle.multigrid.proofs.Builds.{made-is}
-use Rattle.multigrid.specs.Calls.{solvedOf, SolveCall, updatedOf, UpdateCall}
+use Rattle.making.specs.New.{statisticsOf, NewDone}
+use Rattle.making.proofs.Builds.{made-is}
+use Rattle.calling.specs.Calls.{solvedOf, SolveCall, updatedOf, UpdateCall}
 use Rattle.multigrid.specs.Trace.{Event, Trace, withValues, booked, Fresh, Agrees}
 use Rattle.solve.proofs.Counters.{same-answer, same-solution}
 use Rattle.refresh.proofs.First.{update-first}

@@ -1,4 +1,1 @@
-pub mod New
-pub mod Stores
-pub mod Calls
 pub mod Trace

@@ -13,7 +13,7 @@ use Rattle.solve.specs.declared.Solved.{Solved}
 use Rattle.solve.specs.Solve.{solveOf}
 use Rattle.solve.specs.Contract.{answerOf, solutionOf}
 use Rattle.refresh.specs.declared.Updated.{Updated}
-use Rattle.multigrid.specs.Calls.{SolveCall, UpdateCall}
+use Rattle.calling.specs.Calls.{SolveCall, UpdateCall}
 
 -- ---- the calls
 

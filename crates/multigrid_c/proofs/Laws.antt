@@ -4,13 +4,13 @@ use Prim.Native.Nat.{ℕ}
 use lib.Ieee.{Float}
 use Rattle.hierarchy.specs.Build.{Input}
 use Rattle.build.specs.declared.Built.{Built}
-use Rattle.multigrid.specs.New.{NewDone}
+use Rattle.making.specs.New.{NewDone}
 use Rattle.options.specs.declared.Handle.{Handle}
 use Rattle.solver.specs.declared.LinearSolverOptions.{LinearSolverOptions}
 use Rattle.solve.specs.declared.Solved.{Solved}
 use Rattle.refresh.specs.declared.Updated.{Updated}
 use Rattle.told.specs.Told.{Told, ToldUpdate, ToldSolve}
-use Rattle.multigrid.specs.Calls.{SolveCall, UpdateCall}
+use Rattle.calling.specs.Calls.{SolveCall, UpdateCall}
 use Rattle.multigrid_c.specs.Exported.{Exported, ExportedUpdate, ExportedSolve}
 
 -- A build and its answer told in numbers are an export.

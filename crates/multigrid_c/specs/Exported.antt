@@ -12,8 +12,8 @@ use Rattle.solver.specs.declared.LinearSolverOptions.{LinearSolverOptions}
 use Rattle.solve.specs.Contract as solve
 use Rattle.refresh.specs.Contract as refresh
 use Rattle.told.specs.Told.{Told, ToldUpdate, ToldSolve, ToldCount}
-use Rattle.multigrid.specs.New.{NewDone}
-use Rattle.multigrid.specs.Calls.{SolveCall, UpdateCall, solvedOf, updatedOf, countedOf}
+use Rattle.making.specs.New.{NewDone}
+use Rattle.calling.specs.Calls.{SolveCall, UpdateCall, solvedOf, updatedOf, countedOf}
 
 -- the answer to a build in stores w and F with the words of statistics s
 abbrev pub dueOf : List ℕ → List Float → List ℕ → Input → Built

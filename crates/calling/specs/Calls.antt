@@ -17,7 +17,7 @@ use Rattle.solve.specs.Solve.{Solution}
 use Rattle.solve.specs.Contract.{solvedAt, SolveDone}
 use Rattle.refresh.specs.declared.Updated.{Updated}
 use Rattle.refresh.specs.Contract.{updatedAt, UpdateDone}
-use Rattle.multigrid.specs.declared.calls.Counted.{Counted}
+use Rattle.calling.specs.declared.Counted.{Counted}
 
 -- a solve: question 19, and then that of the hierarchy in the stores
 abbrev pub solvedOf : Handle → List ℕ → List Float → List ℕ → List Float → List Float → LinearSolverOptions → Outcome Solution

@@ -1,9 +1,9 @@
--- `multigrid::new` meets its contract: weights that are not given play no part.
+-- `making::new` meets its contract: weights that are not given play no part.
 -- Assumes nothing.
 use borrow.Author.Needs.{needs}
-use Rattle.multigrid.proofs.Builds.{new-done}
-use Rattle.multigrid.proofs.new.Statement.{statement}
-use Rattle.multigrid.proofs.new.Tie as tie
+use Rattle.making.proofs.Builds.{new-done}
+use Rattle.making.proofs.new.Statement.{statement}
+use Rattle.making.proofs.new.Tie as tie
 
 returns : tie.Need-returns
 returns c = new-done _ _ _ _ _ _ (c .before .before .before .before .before .before .with-weights .ensures)

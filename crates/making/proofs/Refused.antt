@@ -9,9 +9,9 @@ use Rattle.refusal.specs.declared.Refusal.{Refusal}
 use Rattle.hierarchy.specs.Build.{Input, buildOf}
 use Rattle.build.specs.declared.Built.{Built}
 use Rattle.build.specs.Contract.{lentOf}
-use Rattle.multigrid.specs.New.{statisticsOf, NewDone}
-use Rattle.multigrid.specs.Stores.{Zeroed}
-use Rattle.multigrid.proofs.Builds.{refused-is}
+use Rattle.making.specs.New.{statisticsOf, NewDone}
+use Rattle.making.specs.Stores.{Zeroed}
+use Rattle.making.proofs.Builds.{refused-is}
 
 -- Where a build refuses every word of both stores and of the statistics is zero.
 pub refused-zeroed : {w z : List ℕ} {F G : List Float} {s t : List ℕ} {x : Input} {r : Built} {q : Refusal}

@@ -1,6 +1,6 @@
 // mod.rs: the calls on a hierarchy that was built: `update_values`, `solve` and `statistics`.
 ghost use mathlib.Core.Path.{_≡_};
-ghost use Rattle.multigrid.specs.Calls.{SolveCall, UpdateCall, countedOf};
+ghost use Rattle.calling.specs.Calls.{SolveCall, UpdateCall, countedOf};
 use options::Handle;
 use refresh::Updated;
 use refusal::Refusal;

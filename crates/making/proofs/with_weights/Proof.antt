@@ -1,9 +1,9 @@
--- `multigrid::with_weights` meets its contract: a build and then its statistics.
+-- `making::with_weights` meets its contract: a build and then its statistics.
 -- Assumes nothing.
 use borrow.Author.Needs.{needs}
-use Rattle.multigrid.proofs.Builds.{levels-fit, with-done}
-use Rattle.multigrid.proofs.with_weights.Statement.{statement}
-use Rattle.multigrid.proofs.with_weights.Tie as tie
+use Rattle.making.proofs.Builds.{levels-fit, with-done}
+use Rattle.making.proofs.with_weights.Statement.{statement}
+use Rattle.making.proofs.with_weights.Tie as tie
 
 publish-requires : tie.Need-publish-requires
 publish-requires c κs = levels-fit (c .before .before .before .before .before .before .build .ensures)

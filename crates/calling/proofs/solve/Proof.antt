@@ -1,10 +1,10 @@
 -- `solve` asks the index check, and then solves.
 -- Assumes nothing.
 use mathlib.Core.Path.{sym, _∙_}
-use Rattle.multigrid.proofs.Ways.{solve-sound, solve-unsound}
+use Rattle.calling.proofs.Ways.{solve-sound, solve-unsound}
 use borrow.Author.Needs.{needs}
-use Rattle.multigrid.proofs.calls.solve.Statement.{statement}
-use Rattle.multigrid.proofs.calls.solve.Tie as tie
+use Rattle.calling.proofs.solve.Statement.{statement}
+use Rattle.calling.proofs.solve.Tie as tie
 
 solve-requires : tie.Need-solve-requires
 solve-requires c κs = sym (c .before .before .before .before .check .ensures) ∙ c .before .before .before .if1 .taken

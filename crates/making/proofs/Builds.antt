@@ -29,7 +29,7 @@ use Rattle.layout.specs.Layout.{viewOf}
 use Rattle.build.specs.declared.Built.{Built}
 use Rattle.build.specs.Contract.{handleOf, builtOf, lentOf, BuildDone}
 use Rattle.build.specs.Steps.{inputOf}
-use Rattle.multigrid.specs.New.{statisticsOf, NewDone}
+use Rattle.making.specs.New.{statisticsOf, NewDone}
 use Rattle.statistics.specs.Fresh.{freshOf}
 use Rattle.statistics.proofs.Publishing.{fresh-is}
 use Rattle.publishing.specs.Published.{LevelsFit, publishedOf, Published}

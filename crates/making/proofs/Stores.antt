@@ -9,9 +9,9 @@ use Rattle.options.specs.declared.Handle.{Handle}
 use Rattle.hierarchy.specs.Build.{Input, buildOf}
 use Rattle.build.specs.declared.Built.{Built}
 use Rattle.build.specs.Contract.{builtOf, lentOf}
-use Rattle.multigrid.specs.New.{NewDone}
-use Rattle.multigrid.specs.Stores.{Same}
-use Rattle.multigrid.proofs.Builds.{made-is}
+use Rattle.making.specs.New.{NewDone}
+use Rattle.making.specs.Stores.{Same}
+use Rattle.making.proofs.Builds.{made-is}
 
 -- Two calls with the same input, in stores and statistics of the same lengths, whatever these held, give the same answer and the same
 -- statistics, and where accepted the same hierarchy.

@@ -20,7 +20,7 @@ use Rattle.solve.specs.Contract as solving
 use Rattle.refresh.specs.declared.Updated.{Updated}
 use Rattle.refresh.specs.Contract as refreshing
 use Rattle.refresh.proofs.Moving.{kept-moved, view-moved}
-use Rattle.multigrid.specs.Calls.{solvedOf, SolveCall, updatedOf, UpdateCall}
+use Rattle.calling.specs.Calls.{solvedOf, SolveCall, updatedOf, UpdateCall}
 
 -- ---- solve
 
