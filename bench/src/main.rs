@@ -13,6 +13,8 @@ mod measure;
 mod pairs;
 #[cfg(feature = "library")]
 mod solve;
+#[cfg(feature = "library")]
+mod stack;
 mod sweeps;
 
 use compare::random::Random;
@@ -180,18 +182,23 @@ const ROWS: &[Row] = &[
     },
 ];
 
-/// What the words of the command ask for: the rounds, the rows whose names start so, and the sides of the grids.
+/// What the words of the command ask for: the rounds, the rows whose names start so, and the sides of the grids; or the stack.
 struct Asked {
     rounds: usize,
     only: String,
     sides: Vec<usize>,
+    stack: bool,
 }
 
 fn main() -> ExitCode {
     match asked() {
+        #[cfg(feature = "library")]
+        Ok(asked) if asked.stack => status(stack::run()),
         Ok(asked) => run(&asked),
         Err(sentence) => {
-            eprintln!("bench: {sentence}\nusage: bench [--rounds NUMBER] [--only NAME] [--side NUMBER]");
+            eprintln!(
+                "bench: {sentence}\nusage: bench [--rounds NUMBER] [--only NAME] [--side NUMBER] [--stack]"
+            );
             ExitCode::from(2)
         }
     }
@@ -202,9 +209,14 @@ fn asked() -> Result<Asked, String> {
         rounds: ROUNDS,
         only: String::new(),
         sides: SIDES.to_vec(),
+        stack: false,
     };
     let mut words = std::env::args().skip(1);
     while let Some(word) = words.next() {
+        if word == "--stack" {
+            asked.stack = true;
+            continue;
+        }
         match (word.as_str(), words.next()) {
             ("--rounds", Some(word)) => asked.rounds = number(&word)?,
             ("--side", Some(word)) => asked.sides = vec![number(&word)?],
@@ -251,10 +263,14 @@ fn run(asked: &Asked) -> ExitCode {
             missed |= row.wanted(side).is_some_and(|most| medians.ratio() > most);
         }
     }
-    if missed {
-        ExitCode::FAILURE
-    } else {
+    status(!missed)
+}
+
+fn status(good: bool) -> ExitCode {
+    if good {
         ExitCode::SUCCESS
+    } else {
+        ExitCode::FAILURE
     }
 }
 
