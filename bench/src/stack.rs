@@ -3,7 +3,7 @@
 use crate::grid::Grid;
 use compare::library;
 use compare::random::Random;
-use multigrid::lent::{self, CsrMatrix, Handle};
+use multigrid::lent::{self, CsrMatrix};
 use multigrid::{LinearSolverOptions, MultigridOptions, Stores};
 use oracle::MultigridCoarseSolver;
 use std::alloc::{Layout, alloc, dealloc};
@@ -13,7 +13,7 @@ use std::ptr;
 /// What a call may take.
 const MOST: usize = 64 * 1024;
 /// The most levels that controls allow.
-const LEVELS: usize = 128;
+const LEVELS: u64 = 128;
 
 const SIZE: usize = 1 << 20;
 const PAGE: usize = 4096;
@@ -74,117 +74,125 @@ fn bytes(call: &mut dyn FnMut()) -> usize {
     deepest(call) - deepest(&mut || ())
 }
 
-/// A hierarchy that as many levels as there may be, of a row each, stand in: no build makes so many of so little, but a call
-/// answers for any stores. An update gives it its numbers.
-fn levels_of_one_row(options: &MultigridOptions) -> (Handle, Stores) {
-    let matrix = CsrMatrix {
-        rows: 1,
-        row_offsets: &[0, 1],
-        column_indices: &[0],
-        values: &[2.0],
-    };
-    let charge = lent::Charge::most(&matrix, options, LEVELS as u64);
-    let mut stores = Stores::new(charge, LEVELS as u64);
-    // Rows, last or not, coupled rows; offsets; columns; starts of faces; diagonals; and of a level that is not the last the
-    // aggregate of the row and the position of the entry.
-    let inner = [1, 0, 0, 0, 1, 0, 0, 0, 0, 0, 0];
-    let last = [1, 1, 0, 0, 1, 0, 0, 0, 0];
-    let words: Vec<u32> = inner.repeat(LEVELS - 1).into_iter().chain(last).collect();
-    stores.words[..words.len()].copy_from_slice(&words);
-    let handle = Handle {
-        options: *options,
-        levels: LEVELS as u64,
-        rows: 1,
-        entries: 1,
-    };
-    (handle, stores)
+/// A matrix of our own, with face weights.
+struct Mesh {
+    offsets: Vec<u32>,
+    columns: Vec<u32>,
+    values: Vec<f64>,
+    weights: Vec<f64>,
 }
 
-fn controls() -> MultigridOptions {
-    let options = oracle::MultigridOptions {
-        coarse_solver: MultigridCoarseSolver::Cholesky,
-        ..oracle::MultigridOptions::default()
-    };
-    MultigridOptions {
-        max_levels: LEVELS as u64,
-        ..library::options(&options)
+impl Mesh {
+    fn of(grid: &Grid) -> Self {
+        let words = |numbers: &[usize]| numbers.iter().map(|&number| number as u32).collect();
+        Self {
+            offsets: words(grid.matrix.row_offsets()),
+            columns: words(grid.matrix.column_indices()),
+            values: grid.matrix.values().to_vec(),
+            weights: grid.weights.clone(),
+        }
+    }
+
+    /// A star, whose weights stand in the row of its centre alone: no other row looks for a partner, so that a level takes one
+    /// row from the one before.
+    fn star(rows: usize) -> Self {
+        let (mut offsets, mut columns) = (vec![0], Vec::new());
+        let (mut values, mut weights) = (Vec::new(), Vec::new());
+        let mut put = |column: usize, value: f64, weight: f64| {
+            columns.push(column as u32);
+            values.push(value);
+            weights.push(weight);
+        };
+        put(0, rows as f64, 0.0);
+        (1..rows).for_each(|leaf| put(leaf, -1.0, leaf as f64));
+        for leaf in 1..rows {
+            put(0, -1.0, 0.0);
+            put(leaf, 2.0, 0.0);
+        }
+        offsets.extend((1..=rows).map(|row| (rows + 2 * (row - 1)) as u32));
+        Self {
+            offsets,
+            columns,
+            values,
+            weights,
+        }
+    }
+
+    fn lent(&self) -> CsrMatrix<'_> {
+        CsrMatrix {
+            rows: self.offsets.len() - 1,
+            row_offsets: &self.offsets,
+            column_indices: &self.columns,
+            values: &self.values,
+        }
     }
 }
 
-/// Update and solve of a hierarchy, after what `built` says of a build.
-fn calls(
-    name: &str,
-    built: Option<usize>,
-    matrix: CsrMatrix<'_>,
-    handle: &Handle,
-    stores: &mut Stores,
-) -> bool {
-    let (rows, columns, values) = (matrix.row_offsets, matrix.column_indices, matrix.values);
-    let rhs = vec![1.0; matrix.rows];
-    let mut x = vec![0.0; matrix.rows];
-    let asked = LinearSolverOptions {
-        absolute_tolerance: 0.0,
-        relative_tolerance: 1e-8,
-        max_iterations: 200,
-    };
+/// Default controls but Cholesky.
+fn controls() -> MultigridOptions {
+    library::options(&oracle::MultigridOptions {
+        coarse_solver: MultigridCoarseSolver::Cholesky,
+        ..oracle::MultigridOptions::default()
+    })
+}
+
+/// Some iterations.
+const ASKED: LinearSolverOptions = LinearSolverOptions {
+    absolute_tolerance: 0.0,
+    relative_tolerance: 1e-8,
+    max_iterations: 200,
+};
+
+/// Every call on a mesh, in stores for so many times its finest level; whether each takes less than the most.
+fn calls(name: &str, mesh: &Mesh, options: &MultigridOptions, levels: u64) -> bool {
+    let matrix = mesh.lent();
+    let charge = lent::Charge::most(&matrix, options, levels);
+    let mut stores = Stores::new(charge, options.max_levels);
+    let mut answer = None;
+    let build = bytes(&mut || {
+        answer = lent::build(matrix, Some(&mesh.weights), options, &mut stores).ok();
+    });
+    let handle = answer.expect("the mesh has a hierarchy");
     let update = bytes(&mut || {
-        lent::update_values(handle, rows, columns, values, stores).expect("an update is accepted");
+        lent::update_values(
+            &handle,
+            &mesh.offsets,
+            &mesh.columns,
+            &mesh.values,
+            &mut stores,
+        )
+        .expect("an update is accepted");
     });
+    let (rhs, mut x) = (vec![1.0; matrix.rows], vec![0.0; matrix.rows]);
     let solve = bytes(&mut || {
-        lent::solve(handle, stores, &rhs, &mut x, asked).expect("there is a solution");
+        lent::solve(&handle, &mut stores, &rhs, &mut x, ASKED).expect("there is a solution");
     });
-    let count = bytes(&mut || {
-        lent::statistics(handle, stores).expect("the stores are sound");
+    let statistics = bytes(&mut || {
+        lent::statistics(&handle, &stores).expect("the stores are sound");
     });
-    let told = built.map_or(String::from("-"), |built| built.to_string());
     println!(
-        "{name:<28} {:>7} {told:>7} {update:>7} {solve:>7} {count:>11}",
+        "{name:<20} {:>7} {build:>7} {update:>7} {solve:>7} {statistics:>11}",
         handle.levels
     );
-    [built.unwrap_or(0), update, solve, count]
+    [build, update, solve, statistics]
         .iter()
         .all(|&bytes| bytes < MOST)
 }
 
 /// Whether every call takes less than 64 KiB.
 pub fn run() -> bool {
-    let options = controls();
     println!("bytes of stack, the wrapper's included; less than {MOST} wanted");
     println!(
-        "{:<28} {:>7} {:>7} {:>7} {:>7} {:>11}",
+        "{:<20} {:>7} {:>7} {:>7} {:>7} {:>11}",
         "mesh", "levels", "build", "update", "solve", "statistics"
     );
-    let grid = Grid::new(&mut Random::new(crate::SEED), 256);
-    let words = |numbers: &[usize]| -> Vec<u32> { numbers.iter().map(|&n| n as u32).collect() };
-    let (offsets, columns) = (
-        words(grid.matrix.row_offsets()),
-        words(grid.matrix.column_indices()),
-    );
-    let matrix = CsrMatrix {
-        rows: grid.matrix.nrows(),
-        row_offsets: &offsets,
-        column_indices: &columns,
-        values: grid.matrix.values(),
+    let grid = Mesh::of(&Grid::new(&mut Random::new(crate::SEED), 256));
+    let within = calls("grid of 256x256", &grid, &controls(), 3);
+    let deepest = MultigridOptions {
+        merge_levels: 1,
+        max_levels: LEVELS,
+        coarsest_cells: 200 - (LEVELS - 1),
+        ..controls()
     };
-    let mut stores = Stores::new(lent::Charge::most(&matrix, &options, 3), options.max_levels);
-    let mut handle = None;
-    let built = bytes(&mut || {
-        handle = lent::build(matrix, Some(&grid.weights), &options, &mut stores).ok()
-    });
-    let handle = handle.expect("a grid has a hierarchy");
-    let within = calls("grid of 256x256", Some(built), matrix, &handle, &mut stores);
-    let (handle, mut stores) = levels_of_one_row(&options);
-    let matrix = CsrMatrix {
-        rows: 1,
-        row_offsets: &[0, 1],
-        column_indices: &[0],
-        values: &[2.0],
-    };
-    calls(
-        "levels of one row, by hand",
-        None,
-        matrix,
-        &handle,
-        &mut stores,
-    ) && within
+    calls("star of 200 rows", &Mesh::star(200), &deepest, LEVELS) && within
 }
