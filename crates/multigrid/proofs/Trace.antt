@@ -41,7 +41,8 @@ use Rattle.refresh.specs.Contract.{updatedAt, hierarchyOf}
 use Rattle.refresh.specs.Contract as refreshing
 use Rattle.making.specs.New.{statisticsOf, NewDone}
 use Rattle.making.proofs.Builds.{made-is}
-use Rattle.calling.specs.Calls.{solvedOf, SolveCall, updatedOf, UpdateCall}
+use Rattle.updatecall.specs.Call.{updatedOf, UpdateCall}
+use Rattle.solvecall.specs.Call.{solvedOf, SolveCall}
 use Rattle.multigrid.specs.Trace.{Event, Trace, withValues, booked, Fresh, Agrees}
 use Rattle.solve.proofs.Counters.{same-answer, same-solution}
 use Rattle.refresh.proofs.First.{update-first}

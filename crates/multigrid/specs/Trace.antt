@@ -13,7 +13,8 @@ use Rattle.solve.specs.declared.Solved.{Solved}
 use Rattle.solve.specs.Solve.{solveOf}
 use Rattle.solve.specs.Contract.{answerOf, solutionOf}
 use Rattle.refresh.specs.declared.Updated.{Updated}
-use Rattle.calling.specs.Calls.{SolveCall, UpdateCall}
+use Rattle.updatecall.specs.Call.{UpdateCall}
+use Rattle.solvecall.specs.Call.{SolveCall}
 
 -- ---- the calls
 

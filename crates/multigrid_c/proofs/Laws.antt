@@ -10,7 +10,8 @@ use Rattle.solver.specs.declared.LinearSolverOptions.{LinearSolverOptions}
 use Rattle.solve.specs.declared.Solved.{Solved}
 use Rattle.refresh.specs.declared.Updated.{Updated}
 use Rattle.told.specs.Told.{Told, ToldUpdate, ToldSolve}
-use Rattle.calling.specs.Calls.{SolveCall, UpdateCall}
+use Rattle.updatecall.specs.Call.{UpdateCall}
+use Rattle.solvecall.specs.Call.{SolveCall}
 use Rattle.multigrid_c.specs.Exported.{Exported, ExportedUpdate, ExportedSolve}
 
 -- A build and its answer told in numbers are an export.

@@ -13,7 +13,9 @@ use Rattle.solve.specs.Contract as solve
 use Rattle.refresh.specs.Contract as refresh
 use Rattle.told.specs.Told.{Told, ToldUpdate, ToldSolve, ToldCount}
 use Rattle.making.specs.New.{NewDone}
-use Rattle.calling.specs.Calls.{SolveCall, UpdateCall, solvedOf, updatedOf, countedOf}
+use Rattle.updatecall.specs.Call.{UpdateCall, updatedOf}
+use Rattle.solvecall.specs.Call.{SolveCall, solvedOf}
+use Rattle.countcall.specs.Call.{countedOf}
 
 -- the answer to a build in stores w and F with the words of statistics s
 abbrev pub dueOf : List ℕ → List Float → List ℕ → Input → Built

@@ -10,7 +10,7 @@ use Rattle.refusal.specs.declared.Refusal.{Refusal}
 use Rattle.build.specs.declared.Built.{Built}
 use Rattle.solve.specs.declared.Solved.{Solved}
 use Rattle.refresh.specs.declared.Updated.{Updated}
-use Rattle.calling.specs.declared.Counted.{Counted}
+use Rattle.countcall.specs.declared.Counted.{Counted}
 
 -- three elements at the front of a list
 abbrev pub three : {A : Type 0} → List A → A → A → A → List A

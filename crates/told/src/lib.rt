@@ -4,7 +4,7 @@ ghost use mathlib.Core.Path.{_≡_};
 ghost use lib.ListN.{length};
 ghost use Rattle.told.specs.Told.{three, statusOf, Told, ToldUpdate, ToldSolve, ToldCount};
 use build::Built;
-use calling::Counted;
+use countcall::Counted;
 use refresh::Updated;
 use solve::Solved;
 use solver::LinearSolverStatus;

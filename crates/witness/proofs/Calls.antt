@@ -46,7 +46,8 @@ use Rattle.solve.specs.Solve as solve
 use Rattle.refresh.specs.declared.Updated.{Updated}
 use Rattle.renewing.specs.Update as update
 use Rattle.making.specs.New.{NewDone, statisticsOf}
-use Rattle.calling.specs.Calls.{SolveCall, UpdateCall}
+use Rattle.updatecall.specs.Call.{UpdateCall}
+use Rattle.solvecall.specs.Call.{SolveCall}
 use Rattle.multigrid.specs.Trace.{Trace, withValues, Agrees}
 use Rattle.multigrid.proofs.Trace.{refreshed-is-fresh}
 use Rattle.witness.specs.Calls.{two, half, controls, cell, handle, asked, converged, calls}

@@ -2,10 +2,10 @@
 -- Assumes nothing.
 use mathlib.Core.Path.{sym, _∙_}
 use Rattle.refresh.proofs.Sounding.{update-ready}
-use Rattle.calling.proofs.Ways.{update-sound, update-unsound}
+use Rattle.updatecall.proofs.Ways.{update-sound, update-unsound}
 use borrow.Author.Needs.{needs}
-use Rattle.calling.proofs.update_values.Statement.{statement}
-use Rattle.calling.proofs.update_values.Tie as tie
+use Rattle.updatecall.proofs.update_values.Statement.{statement}
+use Rattle.updatecall.proofs.update_values.Tie as tie
 
 update-requires : tie.Need-update-requires
 update-requires c κs = update-ready _ _ _ _ (sym (c .before .before .check .ensures) ∙ c .before .if1 .taken)

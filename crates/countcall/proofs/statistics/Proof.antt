@@ -2,8 +2,8 @@
 -- Assumes nothing.
 use mathlib.Core.Path.{sym, _∙_}
 use borrow.Author.Needs.{needs}
-use Rattle.calling.proofs.statistics.Statement.{statement}
-use Rattle.calling.proofs.statistics.Tie as tie
+use Rattle.countcall.proofs.statistics.Statement.{statement}
+use Rattle.countcall.proofs.statistics.Tie as tie
 
 returns : tie.Need-returns
 returns c = rw (sym (c .before .check .ensures) ∙ c .if1 .taken)
