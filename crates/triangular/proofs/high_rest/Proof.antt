@@ -1,4 +1,4 @@
--- `coarse::high_rest` meets its contract. The loop's invariant: the products that are left give what all of them give.
+-- `triangular::high_rest` meets its contract. The loop's invariant: the products that are left give what all of them give.
 -- Assumes nothing.
 use borrow.Author.Needs.{needs}
 use native.Mathlib.Omega.{arith}
@@ -7,9 +7,9 @@ use Rattle.store.specs.Loop.{for}
 use Rattle.store.specs.Region.{at}
 use Rattle.store.proofs.Loop.{Left, left-start, left-on}
 use Rattle.packed.proofs.Triangles.{UpAt, up-next, up-on}
-use Rattle.coarse.proofs.Substitution.{crossTurn, cross-on, high-done}
-use Rattle.coarse.proofs.high_rest.Statement.{statement}
-use Rattle.coarse.proofs.high_rest.Tie as tie
+use Rattle.triangular.proofs.Substitution.{crossTurn, cross-on, high-done}
+use Rattle.triangular.proofs.high_rest.Statement.{statement}
+use Rattle.triangular.proofs.high_rest.Tie as tie
 
 abbrev Inv-loop : tie.InvT-loop
 Inv-loop f n l x row start value₀ own₀ k₀ value own k = UpAt n k own × (row + 1 ≤ k) × Left (crossTurn f l x row) k n value (for (crossTurn f l x row) (row + 1) n (at f (x + row)))

@@ -1,4 +1,4 @@
--- `coarse::lower_solve` meets its contract. The loop's invariant: the rows that are left give what all of them give.
+-- `triangular::lower_solve` meets its contract. The loop's invariant: the rows that are left give what all of them give.
 -- Assumes nothing.
 use borrow.Author.Needs.{needs}
 use native.Mathlib.Omega.{arith}
@@ -8,9 +8,9 @@ use lib.ListN.{length}
 use Rattle.store.specs.Loop.{for}
 use Rattle.store.proofs.Loop.{Left, left-start, left-on}
 use Rattle.packed.proofs.Triangles.{UpAt, up-start, up-on}
-use Rattle.coarse.proofs.Substitution.{lowTurn, low-ok, low-on, lowered}
-use Rattle.coarse.proofs.lower_solve.Statement.{statement}
-use Rattle.coarse.proofs.lower_solve.Tie as tie
+use Rattle.triangular.proofs.Substitution.{lowTurn, low-ok, low-on, lowered}
+use Rattle.triangular.proofs.lower_solve.Statement.{statement}
+use Rattle.triangular.proofs.lower_solve.Tie as tie
 
 abbrev Inv-loop : tie.InvT-loop
 Inv-loop f₀ n l x start₀ row₀ f start row = (length f ≡ length f₀) × UpAt n row start × (row ≤ n) × Left (lowTurn l x) row n f (for (lowTurn l x) 0 n f₀)

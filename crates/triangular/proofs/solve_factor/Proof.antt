@@ -1,9 +1,9 @@
--- `coarse::solve_factor` meets its contract.
+-- `triangular::solve_factor` meets its contract.
 -- Assumes nothing.
 use borrow.Author.Needs.{needs}
-use Rattle.coarse.proofs.Substitution.{copy-ok, solve-wrote, solve-lowered, solved}
-use Rattle.coarse.proofs.solve_factor.Statement.{statement}
-use Rattle.coarse.proofs.solve_factor.Tie as tie
+use Rattle.triangular.proofs.Substitution.{copy-ok, solve-wrote, solve-lowered, solved}
+use Rattle.triangular.proofs.solve_factor.Statement.{statement}
+use Rattle.triangular.proofs.solve_factor.Tie as tie
 
 copy-requires : tie.Need-copy-requires
 copy-requires c κs = search (copy-ok)

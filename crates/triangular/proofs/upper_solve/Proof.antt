@@ -1,4 +1,4 @@
--- `coarse::upper_solve` meets its contract. The loop's invariant: the rows that are left give what all of them give.
+-- `triangular::upper_solve` meets its contract. The loop's invariant: the rows that are left give what all of them give.
 -- Assumes nothing.
 use borrow.Author.Needs.{needs}
 use native.Mathlib.Omega.{arith}
@@ -8,9 +8,9 @@ use lib.ListN.{length}
 use Rattle.store.specs.Loop.{for}
 use Rattle.store.proofs.Loop.{Left, left-start, left-on}
 use Rattle.packed.proofs.Triangles.{DownAt, down-start, down-row, down-on}
-use Rattle.coarse.proofs.Substitution.{highTurn, solve-resize, high-on, raised}
-use Rattle.coarse.proofs.upper_solve.Statement.{statement}
-use Rattle.coarse.proofs.upper_solve.Tie as tie
+use Rattle.triangular.proofs.Substitution.{highTurn, solve-resize, high-on, raised}
+use Rattle.triangular.proofs.upper_solve.Statement.{statement}
+use Rattle.triangular.proofs.upper_solve.Tie as tie
 
 abbrev Inv-loop : tie.InvT-loop
 Inv-loop f₀ n l x top start₀ j₀ f start j = (length f ≡ length f₀) × DownAt n j start × Left (highTurn n l x) j n f (for (highTurn n l x) 0 n f₀)

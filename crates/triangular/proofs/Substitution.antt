@@ -14,8 +14,8 @@ use Rattle.store.proofs.Loop.{for-map, for-same, Left, left-end}
 use Rattle.store.proofs.Region.{length-part, getD-part, getD-splice-in, getD-splice-below, part-splice, part-splice-below, set-splice, splice-part, wrote, wrote-at, wrote-off, wrote-again}
 use Rattle.packed.specs.Triangle.{tri, RowAt, lessOf, LessOk, Less}
 use Rattle.packed.proofs.Triangles.{tri-at, UpAt, up-end}
-use Rattle.coarse.specs.Factor.{lowTerm, highTerm, lowRow, highRow, solveFactorOf}
-use Rattle.coarse.specs.Contract.{SolveOk, Lowered, High, Raised}
+use Rattle.triangular.specs.Factor.{lowTerm, highTerm, lowRow, highRow, solveFactorOf}
+use Rattle.triangular.specs.Contract.{SolveOk, Lowered, High, Raised}
 
 -- a turn of `lower_solve`
 unfoldable pub lowTurn : ℕ → ℕ → ℕ → List Float → List Float
