@@ -1,11 +1,11 @@
--- `acceleration::pass` meets its contract. The loop's invariant: the pass over what is left gives the whole.
+-- `directions::pass` meets its contract. The loop's invariant: the pass over what is left gives the whole.
 -- Assumes nothing.
 use borrow.Author.Needs.{needs}
 use native.Mathlib.Omega.{arith}
 use Prim.Native.Nat.{_-_}
-use Rattle.acceleration.proofs.Passes.{Passing, passing-start, passing-ok, passing-on, passing-no, passing-end}
-use Rattle.acceleration.proofs.pass.Statement.{statement}
-use Rattle.acceleration.proofs.pass.Tie as tie
+use Rattle.directions.proofs.Passes.{Passing, passing-start, passing-ok, passing-on, passing-no, passing-end}
+use Rattle.directions.proofs.pass.Statement.{statement}
+use Rattle.directions.proofs.pass.Tie as tie
 
 abbrev Inv-loop : tie.InvT-loop
 Inv-loop f₀ n used directions images direction image p₀ q₀ index₀ f p q index = Passing n used index directions images p q direction image f₀ f

@@ -1,9 +1,9 @@
--- `acceleration::step` meets its contract.
+-- `directions::step` meets its contract.
 -- Assumes nothing.
 use borrow.Author.Needs.{needs}
-use Rattle.acceleration.proofs.Passes.{image-ok, direction-ok, step-yes, step-no}
-use Rattle.acceleration.proofs.step.Statement.{statement}
-use Rattle.acceleration.proofs.step.Tie as tie
+use Rattle.directions.proofs.Passes.{image-ok, direction-ok, step-yes, step-no}
+use Rattle.directions.proofs.step.Statement.{statement}
+use Rattle.directions.proofs.step.Tie as tie
 
 lessen-requires : tie.Need-lessen-requires
 lessen-requires c κs = search (image-ok)

@@ -12,8 +12,8 @@ use Rattle.store.specs.Region.{at, part, splice, Wrote}
 use Rattle.store.proofs.Loop.{Left, left-end}
 use Rattle.store.proofs.Region.{getD-part, wrote}
 use Rattle.store.proofs.Vector.{length-tab, tab-same, for-each}
-use Rattle.acceleration.specs.Gcr.{lessOf, moreOf, overOf}
-use Rattle.acceleration.specs.Contract.{AxpyOk}
+use Rattle.directions.specs.Directions.{lessOf, moreOf, overOf}
+use Rattle.directions.specs.Contract.{AxpyOk}
 
 -- a turn of `lessen`
 unfoldable pub lessTurn : Float → ℕ → ℕ → ℕ → List Float → List Float

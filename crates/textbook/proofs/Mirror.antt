@@ -11,7 +11,7 @@ use Rattle.store.proofs.Region.{le-or-lt}
 use Rattle.exact.proofs.Product.{dense-mirror}
 use Rattle.pattern.specs.Pattern.{Pattern, entries, rowOf, columnOf, Valid, Rising, Mirrored}
 use Rattle.pattern.proofs.Row.{row-is, row-in}
-use Rattle.galerkin.specs.Theorem.{WholeValues, fineMatrix}
+use Rattle.textbook.specs.Theorem.{WholeValues, fineMatrix}
 
 module _ (p : Pattern) (valid : Valid p) (rising : Rising p) where
   -- An entry between two of one row is of that row.

@@ -17,8 +17,8 @@ use Rattle.store.proofs.Region.{wrote-at, wrote-off}
 use Rattle.vector.specs.declared.Product.{Product}
 use Rattle.vector.specs.declared.Product.the-variants.{Finite, NotFinite}
 use Rattle.vector.specs.Dot.{dotOf, productOf, normOf, allFinite}
-use Rattle.acceleration.specs.Gcr.{Pair, moreOf, overOf, normalOf, advanceOf}
-use Rattle.acceleration.specs.Contract.{pairAt, AxpyOk, NormalOk, Normal, AdvanceOk, Advanced}
+use Rattle.directions.specs.Directions.{Pair, moreOf, overOf, normalOf, advanceOf}
+use Rattle.directions.specs.Contract.{pairAt, AxpyOk, NormalOk, Normal, AdvanceOk, Advanced}
 
 -- ---- both regions finite
 

@@ -15,8 +15,8 @@ use Rattle.store.proofs.Region.{wrote-at, wrote-off}
 use Rattle.vector.specs.declared.Product.{Product}
 use Rattle.vector.specs.declared.Product.the-variants.{Finite, NotFinite}
 use Rattle.vector.specs.Dot.{dotOf, productOf}
-use Rattle.acceleration.specs.Gcr.{lessOf, stepOf, passOf, twiceOf}
-use Rattle.acceleration.specs.Contract.{pairAt, memoryAt, AxpyOk, Between, StepOk, Stepped, PassOk}
+use Rattle.directions.specs.Directions.{lessOf, stepOf, passOf}
+use Rattle.directions.specs.Contract.{pairAt, memoryAt, AxpyOk, Between, StepOk, Stepped, PassOk}
 
 -- ---- frames
 
@@ -25,7 +25,7 @@ between-self : {lo hi : ℕ} {F : List Float} → Between lo hi F F
 between-self = record { below = λ a m l. refl; above = λ a m l. refl; size = refl }
 
 -- One frame after another.
-between-on : {lo hi : ℕ} {F G H : List Float} → Between lo hi F G → Between lo hi G H → Between lo hi F H
+pub between-on : {lo hi : ℕ} {F G H : List Float} → Between lo hi F G → Between lo hi G H → Between lo hi F H
 between-on g h =
     record {
       below = λ a m l. h .below a m l ∙ g .below a m l;
@@ -154,7 +154,7 @@ passing-end {F} {G} {n} {used} {index} s h =
     let z : used - index ≡ 0 = omega arith in
     record { is = rw z at (s .left); frame = s .frame }
 
--- ---- two passes
+-- ---- the stored pairs
 
 -- The stored pairs are as they were where both their regions are.
 pub memory-same : (k n p q : ℕ) (F G : List Float) → ((a m : ℕ) → p ≤ a → a + m ≤ p + k * n → part a m G ≡ part a m F)
@@ -168,23 +168,3 @@ memory-same (suc k) n p q F G same also =
       also q n (omega arith) (omega arith),
       memory-same k n (p + n) (q + n) F G (λ a b l u. same a b (omega arith) (omega arith)) (λ a b l u. also a b (omega arith) (omega arith)),
     )
-
-module _ {F G : List Float} {n used p q direction image : ℕ} {r : Bool} (ok : PassOk (length F) n used p q direction image)
-    (d : Stepped n direction image (passOf n (memoryAt used n p q F) (pairAt n direction image F)) F G r) where
-  -- Both passes made: the answer is the second's.
-  pub twice-yes : {H : List Float} {s : Bool} → r ≡ true
-      → Stepped n direction image (passOf n (memoryAt used n p q G) (pairAt n direction image G)) G H s
-      → Stepped n direction image (twiceOf n (memoryAt used n p q F) (pairAt n direction image F)) F H s
-  unfolding twiceOf
-  twice-yes t c =
-      let e : accepted (pairAt n direction image G) ≡ passOf n (memoryAt used n p q F) (pairAt n direction image F) = rw t at (d .is) in
-      let below : (a m : ℕ) → a + m ≤ direction → part a m G ≡ part a m F = d .frame .below in
-      let m = memory-same used n p q F G (λ a m _ u. below a m (omega arith)) (λ a m _ u. below a m (omega arith)) in
-      record { is = rw (← e, ← m) (c .is); frame = between-on (d .frame) (c .frame) }
-
-  -- The first pass refused.
-  pub twice-no : r ≡ false → Stepped n direction image (twiceOf n (memoryAt used n p q F) (pairAt n direction image F)) F G false
-  unfolding twiceOf
-  twice-no t =
-      let e : refused badDotProduct ≡ passOf n (memoryAt used n p q F) (pairAt n direction image F) = rw t at (d .is) in
-      record { is = rw (← e); frame = d .frame }

@@ -12,9 +12,9 @@ use Rattle.store.specs.Region.{at, idx}
 use Rattle.store.proofs.Loop.{for-count}
 use Rattle.store.proofs.Region.{le-or-lt}
 use Rattle.pattern.specs.Pattern.{Pattern, entries, rowOf, columnOf, Valid, Rising}
 use Rattle.galerkin.specs.Values.{meanOf, averageFace, symmetrizeOf}
-use Rattle.galerkin.specs.Theorem.{FacesOf, Symmetrized}
-use Rattle.galerkin.proofs.Mirror.{entry-once}
+use Rattle.textbook.specs.Theorem.{FacesOf, Symmetrized}
+use Rattle.textbook.proofs.Mirror.{entry-once}
 
 module _ (p : Pattern) (valid : Valid p) (rising : Rising p) (faces : ℕ) (upper lower : List ℕ) (of : FacesOf p faces upper lower)
     (v : List Float) (long : length v ≡ entries p) where

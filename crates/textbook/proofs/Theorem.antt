@@ -27,9 +27,9 @@ use Rattle.pattern.specs.Pattern.{Pattern, entries, rowOf, columnOf, Valid, Ris
 use Rattle.pattern.proofs.Number.{bool?, same?}
 use Rattle.pattern.proofs.Row.{row-in, joins-only}
 use Rattle.pattern.proofs.Coarse.{position-below, position-exactly}
 use Rattle.galerkin.specs.Values.{addEntry, sumsOf, meanOf, averageFace, symmetrizeOf, galerkinOf}
-use Rattle.galerkin.specs.Theorem.{WholeValues, MirrorPairs, fineMatrix, coarseMatrix, Exactly}
-use Rattle.galerkin.proofs.Mirror.{fine-symmetric}
+use Rattle.textbook.specs.Theorem.{WholeValues, MirrorPairs, fineMatrix, coarseMatrix, Exactly}
+use Rattle.textbook.proofs.Mirror.{fine-symmetric}
 
 -- ---- the sums
 
