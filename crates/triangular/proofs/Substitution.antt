@@ -33,6 +33,10 @@ highTurn n l x j F =
 
 -- ---- the code's turns
 
+-- A row below n lies in the triangle.
+pub up-row : {n row start : ℕ} → UpAt n row start → row < n → start + row + 1 ≤ tri n
+up-row u h = omega (arith, u .fits)
+
 -- What `less` requires in a row of the forward substitution.
 pub low-ok : {size size' n l x row start : ℕ} → SolveOk size n l x → size' ≡ size → UpAt n row start → row < n → LessOk size' (l + start) x row
 low-ok ok e u h = record { ps = omega arith; qs = omega arith }
