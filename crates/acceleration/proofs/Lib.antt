@@ -1,4 +1,2 @@
-pub mod Vectors
-pub mod Passes
-pub mod Normal
+pub mod Twice
 pub mod Ways

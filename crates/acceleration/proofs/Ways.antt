@@ -20,9 +20,11 @@ use Rattle.refusal.proofs.Outcome.{refuses}
 use Rattle.store.specs.Region.{part}
 use Rattle.store.proofs.Region.{le-or-lt}
 use Rattle.acceleration.specs.declared.Corrected.{Corrected}
-use Rattle.acceleration.specs.Gcr.{Pair, Corrections, twiceOf, normalOf, advanceOf, keptOf, correctOf}
-use Rattle.acceleration.specs.Contract.{pairAt, memoryAt, Stepped, PassOk, NormalOk, Normal, AdvanceOk, Advanced, Restarted, CorrectOk, CorrectedBy}
-use Rattle.acceleration.proofs.Passes.{memory-same}
+use Rattle.directions.specs.Directions.{Pair, normalOf, advanceOf}
+use Rattle.directions.specs.Contract.{pairAt, memoryAt, Stepped, PassOk, NormalOk, Normal, AdvanceOk, Advanced}
+use Rattle.directions.proofs.Passes.{memory-same}
+use Rattle.acceleration.specs.Gcr.{Corrections, twiceOf, keptOf, correctOf}
+use Rattle.acceleration.specs.Contract.{Restarted, CorrectOk, CorrectedBy}
 
 -- ---- the memory
 

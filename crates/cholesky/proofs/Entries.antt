@@ -52,11 +52,7 @@ module _ {t : Terminal} (w : List ℕ) (F : List Float) {column from to e : ℕ}
   seek-none h = let z : to - e ≡ 0 = omega arith in rw z at (s .left)
 
 module _ {w : List ℕ} {size : ℕ} {t : Terminal} (ok : TerminalOk w size t) where
-  -- A coupled row is a row of the level.
-  pub near-row : (row : ℕ) → row < t .size → idx w (t .coupled + row) < t .rows
-  near-row row h = ok .near row h
-
-  -- Its entries lie in the stores.
+  -- The entries of a row lie in the stores.
   pub seek-ok : {own to : ℕ} → own < t .rows → to ≡ idx w (t .offsets + own + 1) → SeekOk (length w) size t to
   seek-ok {own} {to} h e =
       let i = ok .ends own h in

@@ -1,2 +1,1 @@
-pub mod Substitution
 pub mod Terminals

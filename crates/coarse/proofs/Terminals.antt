@@ -19,9 +19,10 @@ use Rattle.vector.specs.Dot.{allFinite}
 use Rattle.packed.specs.Triangle.{tri}
 use Rattle.cholesky.specs.declared.Terminal.{Terminal}
 use Rattle.cholesky.specs.Contract.{coupledAt, factorAt}
-use Rattle.coarse.specs.Factor.{solveFactorOf}
+use Rattle.triangular.specs.Factor.{solveFactorOf}
+use Rattle.triangular.specs.Contract.{SolveOk}
 use Rattle.coarse.specs.Terminal.{diagonalOf, gatherOf, scatterOf, solutionOf, terminalOf}
-use Rattle.coarse.specs.Contract.{SolveOk, SpreadOk, DiagonalOk, CoupledOk, SolutionOk, Outside, CoupledSolved, Solved}
+use Rattle.coarse.specs.Contract.{SpreadOk, DiagonalOk, CoupledOk, SolutionOk, Outside, CoupledSolved, Solved}
 
 -- a turn of `diagonal`
 unfoldable pub diagonalTurn : ℕ → ℕ → ℕ → ℕ → List Float → List Float

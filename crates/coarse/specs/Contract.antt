@@ -1,36 +1,17 @@
--- What the functions that solve by the factor require and ensure. Definitions only.
+-- What the functions of the terminal solve require and ensure. Definitions only.
 use mathlib.Core.Path.{_≡_}
 use mathlib.Core.List.{List}
-use Prim.Native.Nat.{ℕ, _+_, _-_, _≤_, _<_}
+use Prim.Native.Nat.{ℕ, _+_, _≤_, _<_}
 use lib.Ieee.{Float}
 use lib.ListN.{length}
 use Rattle.refusal.specs.declared.Verdict.{Verdict}
 use Rattle.refusal.specs.Outcome.{verdictOf}
-use Rattle.store.specs.Loop.{for}
-use Rattle.store.specs.Region.{at, idx, part, Clear, Wrote}
+use Rattle.store.specs.Region.{idx, part, Clear}
 use Rattle.packed.specs.Triangle.{tri}
 use Rattle.cholesky.specs.declared.Terminal.{Terminal}
 use Rattle.cholesky.specs.Contract.{coupledAt, factorAt}
-use Rattle.coarse.specs.Factor.{lowRow, highTerm, highRow, solveFactorOf}
+use Rattle.triangular.specs.Factor.{solveFactorOf}
 use Rattle.coarse.specs.Terminal.{gatherOf, scatterOf, solutionOf, terminalOf}
-
--- the factor of n rows below x
-pub record SolveOk (size n l x : ℕ) : Type 0 where
-  pub ls : l + tri n ≤ x
-  pub xs : x + n ≤ size
-
--- the forward substitution in place, and where the factor ends
-pub record Lowered (n l x : ℕ) (F G : List Float) (top : ℕ) : Type 0 where
-  pub wrote : Wrote x n (for (lowRow (part l (tri n) F)) 0 n (part x n F)) F G
-  pub ends : top ≡ tri n
-
--- x[row] less the column under the diagonal by x
-pub record High (F : List Float) (n l x row : ℕ) (r : Float) : Type 0 where
-  pub is : r ≡ for (highTerm (part l (tri n) F) row (part x n F)) (row + 1) n (at (part x n F) row)
-
--- the backward substitution in place
-pub record Raised (n l x : ℕ) (F G : List Float) : Type 0 where
-  pub wrote : Wrote x n (for (λ j. highRow (part l (tri n) F) n (n - 1 - j)) 0 n (part x n F)) F G
 
 -- so many coupled rows, each below n, with n elements at x and as many as there are coupled rows at u
 pub record SpreadOk (w : List ℕ) (size n count coupled x u : ℕ) : Type 0 where

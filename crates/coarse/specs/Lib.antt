@@ -1,3 +1,2 @@
-pub mod Factor
 pub mod Terminal
 pub mod Contract

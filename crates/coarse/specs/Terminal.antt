@@ -10,7 +10,7 @@ use Rattle.store.specs.Loop.{for}
 use Rattle.store.specs.Region.{at, idx}
 use Rattle.store.specs.Vector.{tab}
 use Rattle.vector.specs.Dot.{allFinite}
-use Rattle.coarse.specs.Factor.{solveFactorOf}
+use Rattle.triangular.specs.Factor.{solveFactorOf}
 
 -- `x[row] = rhs[row] * inverse[row]`: what a row without connections needs
 unfoldable pub diagonalOf : ℕ → List Float → List Float → List Float

@@ -1,26 +1,46 @@
 -- The inner functions' turns as the code has them, and what one requires of the next.
 -- Assumes nothing.
-use mathlib.Core.Path.{_≡_, _∙_}
+use mathlib.Core.Path.{_≡_, refl, _∙_}
 use mathlib.Core.Bool.{Bool}
 use mathlib.Core.List.{List}
 use Prim.Native.Nat.{ℕ, _+_, _≤_, _<_}
 use native.Mathlib.Omega.{arith}
+use lib.ListN.{length, length-set}
 use lib.Ieee.{Float}
 use Rattle.float.specs.Float.{sub64, mul64, div64}
+use Rattle.store.specs.Loop.{for}
 use Rattle.store.specs.Region.{at, idx}
-use Rattle.held.specs.Held.{Put}
+use Rattle.held.specs.Held.{Held, Put}
+use Rattle.store.proofs.Loop.{Left, left-start, left-on}
+use Rattle.sweeps.proofs.Turns.{watched-ran}
 use Rattle.matrix.specs.declared.SymmetricMatrix.{SymmetricMatrix}
 use Rattle.matrix.specs.Turns.{FacesOk}
 use Rattle.sweeps.specs.Turns.{Watched}
 use Rattle.dic.specs.Dic.{DicOk}
 use Rattle.dic.specs.Turns.{pivotTurn, PivotRowed}
 
--- A face that takes a pivot to its neighbour.
-pub pivot-put : (w : List ℕ) (neighbors coefficients d e j watched : ℕ) (near : Bool) (F G : List Float) (pivot r : Float) → j ≡ idx w (neighbors + e)
-    → Put (d + j) (sub64 (at F (d + j)) (div64 (mul64 (at F (coefficients + e)) (at F (coefficients + e))) pivot)) near watched F G r
-    → G ≡ pivotTurn w neighbors coefficients d pivot e F
-unfolding pivotTurn
-pivot-put w neighbors coefficients d e j watched near F G pivot r h c = c .is ∙ rw h
+-- The invariant of the loop over a row's faces: what is left to do from `face` gives what the whole gives.
+pub record Facing (w : List ℕ) (neighbors coefficients d lo hi watched : ℕ) (pivot : Float) (near : Bool) (F G : List Float) (face : ℕ) (r : Float) : Type 0 where
+  pub size : length G ≡ length F
+  pub left : Left (pivotTurn w neighbors coefficients d pivot) face hi G (for (pivotTurn w neighbors coefficients d pivot) lo hi F)
+  pub held : Held near watched G r
+
+module _ {w : List ℕ} {neighbors coefficients d lo hi watched : ℕ} {pivot : Float} {near : Bool} {F : List Float} where
+  -- At the start nothing is written.
+  pub facing-start : {r : Float} → Held near watched F r → Facing w neighbors coefficients d lo hi watched pivot near F F lo r
+  facing-start h = record { size = refl; left = left-start; held = h }
+
+  module _ {G : List Float} {face : ℕ} {r : Float} (p : Facing w neighbors coefficients d lo hi watched pivot near F G face r) where
+    -- A face that takes the pivot to its neighbour.
+    pub facing-on : {j : ℕ} {H : List Float} {s : Float} → face < hi → j ≡ idx w (neighbors + face)
+        → Put (d + j) (sub64 (at G (d + j)) (div64 (mul64 (at G (coefficients + face)) (at G (coefficients + face))) pivot)) near watched G H s
+        → Facing w neighbors coefficients d lo hi watched pivot near F H (face + 1) s
+    unfolding pivotTurn
+    facing-on h e c = record { size = rw (c .is) (simp length-set (p .size)); left = left-on (p .left) h (c .is ∙ rw e); held = c .held }
+
+    -- The last face is passed.
+    pub facing-end : hi ≤ face → Watched (pivotTurn w neighbors coefficients d pivot) lo hi F G near watched r
+    facing-end h = watched-ran (p .left) (p .held) h
 
 -- The layout holds in a store of the same size.
 pub dic-resize : {w : List ℕ} {size size' d : ℕ} {s : SymmetricMatrix} → DicOk w size s d → size' ≡ size → DicOk w size' s d

@@ -13,7 +13,7 @@ use Rattle.store.proofs.Each.{both-l, both-r}
 use Rattle.pattern.specs.Pattern.{howMany, Pattern, entries, columnOf, rowOf, Valid, Rising}
 use Rattle.pattern.proofs.Number.{bool?, some-at, some-which, many-first, many-sub}
 use Rattle.pattern.proofs.Row.{offset-mono, row-is, row-in}
-use Rattle.galerkin.proofs.Mirror.{column-rises}
+use Rattle.textbook.proofs.Mirror.{column-rises}
 use Rattle.faces.specs.Faces.{hasEntry, standsAt}
 
 module _ (p : Pattern) where

@@ -18,8 +18,8 @@ use Rattle.store.proofs.Vector.{getD-tab}
 use Rattle.pattern.specs.Pattern.{howMany, Pattern, entries, columnOf, rowOf, Valid, Rising, Mirrored, Diagonal}
 use Rattle.pattern.proofs.Number.{bool?, many-mono, many-lt}
 use Rattle.pattern.proofs.Place.{those-at}
-use Rattle.galerkin.specs.Theorem.{FacesOf}
-use Rattle.galerkin.proofs.Mirror.{entry-once}
+use Rattle.textbook.specs.Theorem.{FacesOf}
+use Rattle.textbook.proofs.Mirror.{entry-once}
 use Rattle.faces.specs.Faces.{above, facesOf, uppersOf, faceOffsetsOf, neighborsOf, hasEntry, standsAt, mirrorOf, mirroredOf, lowersOf, diagonalsAsked, diagonalsOf, coupledOf, coupledCountOf, coupledRowsOf}
 use Rattle.faces.proofs.Pick.{many-few, many-apart, many-into, those-which}
 use Rattle.faces.proofs.Entries.{has-at, has-which, stands-there}

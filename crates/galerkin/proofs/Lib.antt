@@ -1,5 +1,2 @@
 pub mod Region
 pub mod Turns
-pub mod Mirror
-pub mod Faces
-pub mod Theorem

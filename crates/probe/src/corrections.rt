@@ -7,7 +7,8 @@ ghost use Rattle.transfer.specs.Transfer.{RestrictOk, ProlongOk, restrictOf, pr
 ghost use Rattle.correction.specs.Correction.{SubtractOk, ScaledOk, subtractOf, addScaledOf, addPlainOf};
 ghost use Rattle.scaling.specs.Scaling.{ProductsOk, correctionFactorOf, factorOf};
 ghost use Rattle.acceleration.specs.Gcr.{correctOf};
-ghost use Rattle.acceleration.specs.Contract.{pairAt, memoryAt, correctedOf, CorrectOk, CorrectedBy};
+ghost use Rattle.directions.specs.Contract.{pairAt, memoryAt};
+ghost use Rattle.acceleration.specs.Contract.{correctedOf, CorrectOk, CorrectedBy};
 ghost use Rattle.probe.specs.Probe.{Scaled, Counted};
 use acceleration::Corrected;
 use scaling::Factor;

@@ -6,9 +6,10 @@ ghost use Rattle.store.specs.Region.{part, Wrote};
 ghost use Rattle.packed.specs.Triangle.{tri};
 ghost use Rattle.cholesky.specs.Factor.{choleskyOf};
 ghost use Rattle.cholesky.specs.Contract.{csrAt, coupledAt, factorAt, TerminalOk, Factored};
-ghost use Rattle.coarse.specs.Factor.{solveFactorOf};
+ghost use Rattle.triangular.specs.Factor.{solveFactorOf};
 ghost use Rattle.coarse.specs.Terminal.{terminalOf};
-ghost use Rattle.coarse.specs.Contract.{SolveOk, SolutionOk, Solved};
+ghost use Rattle.coarse.specs.Contract.{SolutionOk, Solved};
+ghost use Rattle.triangular.specs.Contract.{SolveOk};
 ghost use Rattle.probe.specs.Probe.{systemOf, Told};
 use cholesky::Terminal;
 use telling::answer;
@@ -64,7 +65,7 @@ pub extern "C" fn probe_solve_factor(f: &mut [f64], n: usize, l: usize, rhs: usi
     ensures { λ _. ⌜ Wrote x n (solveFactorOf n (part l (tri n) (now (f .entry))) (part rhs n (now (f .entry))))
         (now (f .entry)) (now (f .exit)) ⌝ }
 {
-    coarse::solve_factor(f, n, l, rhs, x);
+    triangular::solve_factor(f, n, l, rhs, x);
 }
 
 #[no_mangle]

@@ -18,7 +18,7 @@ use Rattle.solver.specs.declared.LinearSolverStatus.{LinearSolverStatus}
 use Rattle.refusal.specs.Outcome.{accepted}
 use Rattle.vector.specs.Dot as dot
 use Rattle.matrix.specs.Kernel as matrix
-use Rattle.coarse.specs.Factor as factor
+use Rattle.triangular.specs.Factor as factor
 use Rattle.coarse.specs.Terminal as terminal
 use Rattle.packed.specs.Triangle.{tri}
 use Rattle.correction.specs.Correction as correction

@@ -29,7 +29,7 @@ use Rattle.vector.specs.declared.Product.{Product}
 use Rattle.vector.specs.Dot.{allFinite}
 use Rattle.matrix.specs.Kernel.{Kernel, kernelAt, applyOf}
 use Rattle.correction.specs.Correction.{subtractOf}
-use Rattle.acceleration.specs.Contract.{memoryAt}
+use Rattle.directions.specs.Contract.{memoryAt}
 use Rattle.measure.specs.Measure.{measureOf}
 use Rattle.measure.specs.Normalization.{normalizationOf, thresholdOf, NormalizationOk}
 use Rattle.hierarchy.specs.Level.{Hierarchy}

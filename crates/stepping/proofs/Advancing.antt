@@ -22,8 +22,10 @@ use Rattle.matrix.specs.Kernel.{Kernel, kernelAt, applyOf}
 use Rattle.matrix.proofs.Kernel.{kernel-kept}
 use Rattle.correction.specs.Correction.{subtractOf}
 use Rattle.acceleration.specs.declared.Corrected.{Corrected}
-use Rattle.acceleration.specs.Gcr.{Pair, Corrections}
-use Rattle.acceleration.specs.Contract.{memoryAt, correctedOf}
+use Rattle.directions.specs.Directions.{Pair}
+use Rattle.acceleration.specs.Gcr.{Corrections}
+use Rattle.directions.specs.Contract.{memoryAt}
+use Rattle.acceleration.specs.Contract.{correctedOf}
 use Rattle.measure.specs.Measure.{measureOf}
 use Rattle.layout.specs.Layout.{rowsAt, viewOf}
 use Rattle.cycle.specs.Cycle.{Cycled, cycleOf}

@@ -17,9 +17,11 @@ use Rattle.matrix.specs.declared.SymmetricMatrix.{SymmetricMatrix}
 use Rattle.matrix.specs.Kernel.{Kernel, KernelOk, kernelAt, applyOf}
 use Rattle.correction.specs.Correction.{SubtractOk, subtractOf, addPlainOf}
 use Rattle.acceleration.specs.declared.Corrected.{Corrected}
-use Rattle.acceleration.specs.Gcr.{Pair, Corrections, correctOf}
-use Rattle.acceleration.specs.Contract.{pairAt, memoryAt, CorrectOk, CorrectedBy, correctedOf}
-use Rattle.acceleration.proofs.Passes.{memory-same}
+use Rattle.directions.specs.Directions.{Pair}
+use Rattle.acceleration.specs.Gcr.{Corrections, correctOf}
+use Rattle.directions.specs.Contract.{pairAt, memoryAt}
+use Rattle.acceleration.specs.Contract.{CorrectOk, CorrectedBy, correctedOf}
+use Rattle.directions.proofs.Passes.{memory-same}
 use Rattle.stepping.specs.declared.Regions.{Regions}
 use Rattle.stepping.specs.Steps.{VectorsOk, MoveOk, Renewed, Moved, moveAt, productAt}
 

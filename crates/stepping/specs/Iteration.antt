@@ -13,7 +13,8 @@ use Rattle.vector.specs.declared.Product.{Product}
 use Rattle.vector.specs.declared.Product.the-variants.{Finite, NotFinite}
 use Rattle.matrix.specs.Kernel.{Kernel, applyOf}
 use Rattle.correction.specs.Correction.{subtractOf, addPlainOf}
-use Rattle.acceleration.specs.Gcr.{Pair, Corrections, correctOf}
+use Rattle.directions.specs.Directions.{Pair}
+use Rattle.acceleration.specs.Gcr.{Corrections, correctOf}
 use Rattle.measure.specs.Measure.{measureOf}
 use Rattle.hierarchy.specs.Level.{Level, Hierarchy}
 use Rattle.cycle.specs.Cycle.{kernelIn, cycleOf}

@@ -13,8 +13,10 @@ use Rattle.refusal.specs.Outcome.{Outcome, accepted, refused, _>>=_}
 use Rattle.matrix.specs.Kernel.{Kernel, KernelOk, kernelAt, applyOf}
 use Rattle.correction.specs.Correction.{subtractOf, addPlainOf}
 use Rattle.acceleration.specs.declared.Corrected.{Corrected}
-use Rattle.acceleration.specs.Gcr.{Pair, Corrections, correctOf}
-use Rattle.acceleration.specs.Contract.{memoryAt, correctedOf}
+use Rattle.directions.specs.Directions.{Pair}
+use Rattle.acceleration.specs.Gcr.{Corrections, correctOf}
+use Rattle.directions.specs.Contract.{memoryAt}
+use Rattle.acceleration.specs.Contract.{correctedOf}
 use Rattle.layout.specs.Layout.{rowsAt, entriesAt, imageEnd, locate, viewOf}
 use Rattle.layout.specs.Parts.{kernelIn}
 use Rattle.sound.specs.declared.Walk.{Walk}

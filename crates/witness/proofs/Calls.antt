@@ -29,7 +29,7 @@ use Rattle.faces.specs.Faces as faces
 use Rattle.csr.specs.Questions as csr
 use Rattle.vector.specs.Dot as dot
 use Rattle.matrix.specs.Kernel as matrix
-use Rattle.coarse.specs.Factor as factor
+use Rattle.triangular.specs.Factor as factor
 use Rattle.coarse.specs.Terminal as terminal
 use Rattle.correction.specs.Correction as correction
 use Rattle.measure.specs.Measure as measure

@@ -1,7 +1,7 @@
 -- `acceleration::orthogonalize` meets its contract.
 -- Assumes nothing.
 use borrow.Author.Needs.{needs}
-use Rattle.acceleration.proofs.Passes.{twice-yes, twice-no}
+use Rattle.acceleration.proofs.Twice.{twice-yes, twice-no}
 use Rattle.acceleration.proofs.orthogonalize.Statement.{statement}
 use Rattle.acceleration.proofs.orthogonalize.Tie as tie
 

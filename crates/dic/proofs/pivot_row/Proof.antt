@@ -8,30 +8,54 @@ use Rattle.dic.proofs.pivot_row.Statement.{statement}
 use Rattle.dic.proofs.pivot_row.Tie as tie
 
 pivot-faces-requires : tie.Need-pivot-faces-requires
-pivot-faces-requires c κs = (search (faces-pivot, needs), search (held-read))
+pivot-faces-requires c κs = (faces-pivot (c .before .before .before .before .before .before .before .before .before .before .before .pre .0) (c .before .before .before .before .before .before .before .before .before .before .before .pre .1) (c .before .before .before .wide2 .ensures), held-read _ _ _ _ (c .before .float-at .ensures))
 
 held-at-requires : tie.Need-held-at-requires
 held-at-requires c κs = c .before .before .before .pivot-faces .ensures .held
 
 returns : tie.Need-returns
-returns c = search (pivot-rowed)
+returns c = pivot-rowed _ _ _ _ _ _ _ _ _ _ _ _ (c .before .before .before .before .before .before .before .before .before .before .before .wide .ensures) (c .before .before .before .before .before .before .before .before .wide2 .ensures) (c .before .before .before .before .pivot-faces .ensures) (c .held-at .ensures)
+
+add-wide : tie.Need-add-wide
+add-wide c = omega (arith, c .before .before .before .pre .1, c .before .before .before .pre .0 .kernel .starts, c .before .before .before .pre .0 .fits, c .before .before .before .good .0, c .before .before .before .good .1 .0)
+
+mul-wide : tie.Need-mul-wide
+mul-wide c = omega (arith, c .before .before .before .pre .1, c .before .before .before .pre .0 .kernel .starts, c .before .before .before .pre .0 .fits, c .before .before .before .good .0, c .before .before .before .good .1 .0)
+
+shared-slice-read-wide : tie.Need-shared-slice-read-wide
+shared-slice-read-wide c = omega (arith, c .before .before .before .before .pre .1, c .before .before .before .before .pre .0 .kernel .starts, c .before .before .before .before .pre .0 .fits, c .before .before .before .before .good .0, c .before .before .before .before .good .1 .0)
+
+add-wide-2 : tie.Need-add-wide-2
+add-wide-2 c = omega (arith, c .before .before .before .before .before .before .pre .1, c .before .before .before .before .before .before .pre .0 .kernel .starts, c .before .before .before .before .before .before .pre .0 .fits, c .before .before .before .before .before .before .good .0, c .before .before .before .before .before .before .good .1 .0)
+
+add-wide-3 : tie.Need-add-wide-3
+add-wide-3 c = omega (arith, c .before .before .before .before .before .before .pre .1, c .before .before .before .before .before .before .pre .0 .kernel .starts, c .before .before .before .before .before .before .pre .0 .fits, c .before .before .before .before .before .before .good .0, c .before .before .before .before .before .before .good .1 .0)
+
+mul-wide-2 : tie.Need-mul-wide-2
+mul-wide-2 c = omega (arith, c .before .before .before .before .before .before .pre .1, c .before .before .before .before .before .before .pre .0 .kernel .starts, c .before .before .before .before .before .before .pre .0 .fits, c .before .before .before .before .before .before .good .0, c .before .before .before .before .before .before .good .1 .0)
+
+shared-slice-read-wide-2 : tie.Need-shared-slice-read-wide-2
+shared-slice-read-wide-2 c = omega (arith, c .before .before .before .before .before .before .before .pre .1, c .before .before .before .before .before .before .before .pre .0 .kernel .starts, c .before .before .before .before .before .before .before .pre .0 .fits, c .before .before .before .before .before .before .before .good .0, c .before .before .before .before .before .before .before .good .1 .0)
+
+add-next-2 : tie.Need-add-next-2
+add-next-2 c = omega (arith, c .before .before .before .before .before .before .before .before .pre .1, c .before .before .before .before .before .before .before .before .pre .0 .kernel .starts, c .before .before .before .before .before .before .before .before .pre .0 .fits, c .before .before .before .before .before .before .before .before .good .0, c .before .before .before .before .before .before .before .before .good .1 .0)
 
 pub pivot-row-spec : {M : Type 1} → statement M
 pivot-row-spec =
     tie.close
     (tie.spec
-    (λ c. search needs)
-    (λ c. search needs)
-    (λ c. search needs)
-    (λ c κs. search needs)
-    (λ c. search needs)
-    (λ c. search needs)
-    (λ c. search needs)
-    (λ c. search needs)
-    (λ c κs. search needs)
+    add-wide
+    mul-wide
+    shared-slice-read-wide
+    (λ c κs. tt)
+    add-wide-2
+    add-wide-3
+    mul-wide-2
+    shared-slice-read-wide-2
+    (λ c κs. tt)
     (λ c. omega (arith, c .before .before .before .before .before .before .before .before .pre .0 .fits))
-    (λ c. search needs)
-    (λ c κs. search needs)
+    add-next-2
+    (λ c κs. tt)
     pivot-faces-requires
     held-at-requires
     (λ c. search needs)

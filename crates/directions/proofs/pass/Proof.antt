@@ -1,0 +1,47 @@
+-- `directions::pass` meets its contract. The loop's invariant: the pass over what is left gives the whole.
+-- Assumes nothing.
+use borrow.Author.Needs.{needs}
+use native.Mathlib.Omega.{arith}
+use Prim.Native.Nat.{_-_}
+use Rattle.directions.proofs.Passes.{Passing, passing-start, passing-ok, passing-on, passing-no, passing-end}
+use Rattle.directions.proofs.pass.Statement.{statement}
+use Rattle.directions.proofs.pass.Tie as tie
+
+abbrev Inv-loop : tie.InvT-loop
+Inv-loop f₀ n used directions images direction image p₀ q₀ index₀ f p q index = Passing n used index directions images p q direction image f₀ f
+
+abbrev μ-loop : tie.MeasureT-loop
+μ-loop f₀ n used directions images direction image p₀ q₀ index₀ f p q index = used - index
+
+loop-holds : tie.Need-loop-holds Inv-loop μ-loop
+loop-holds c = search (passing-start)
+
+step-requires : tie.Need-step-requires Inv-loop μ-loop
+step-requires c κs = search (passing-ok)
+
+loop-again : tie.Need-loop-again Inv-loop μ-loop
+loop-again c = search (passing-on)
+
+returns : tie.Need-returns Inv-loop μ-loop
+returns c = search (passing-no)
+
+returns-2 : tie.Need-returns-2 Inv-loop μ-loop
+returns-2 c = search (passing-end)
+
+pub pass-spec : {M : Type 1} → statement M
+pass-spec =
+    tie.close
+    (tie.spec
+    Inv-loop
+    μ-loop
+    loop-holds
+    step-requires
+    (λ c. omega arith)
+    (λ c. omega arith)
+    (λ c. omega arith)
+    (λ c. omega arith)
+    loop-again
+    (λ c. search needs)
+    returns
+    (λ c. search needs)
+    returns-2)
