@@ -25,15 +25,7 @@ fn is_positive(d: f64) -> bool
 
 // The values of n entries, copied to `to` without a test: those of the diagonals are asked once they stand together, the
 // finiteness of the faces' of the whole image.
-fn pick(
-    w: &[u32],
-    f: &mut [f64],
-    n: usize,
-    entries: usize,
-    places: usize,
-    values: usize,
-    to: usize,
-)
+fn pick(w: &[u32], f: &mut [f64], n: usize, entries: usize, places: usize, values: usize, to: usize)
     requires { ⌜ EntriesOk (now w) (length (now f)) n entries places values to ⌝ }
     ensures { λ _. ⌜ Wrote to n (tab (entryOf (part places n (now (w .entry))) (part values entries (now (f .entry)))) n) (now (f .entry)) (now (f .exit)) ⌝ }
 {
