@@ -19,14 +19,14 @@ use Rattle.solve.specs.declared.Solved.{Solved}
 use Rattle.solve.specs.Contract as solving
 use Rattle.refresh.specs.declared.Updated.{Updated}
 use Rattle.refresh.specs.Contract as refreshing
-use Rattle.refresh.proofs.Moving.{kept-moved, view-moved}
+use Rattle.refresh.proofs.Moving.{view-stays}
 use Rattle.calling.specs.Calls.{solvedOf, SolveCall, updatedOf, UpdateCall}
 
 -- ---- solve
 
 -- The hierarchy in the stores is as it was where nothing below the scratch changed.
 view-same : (levels : ℕ) (w : List ℕ) {F G : List Float} → Kept (scratchStart levels w) F G → viewOf levels w G 0 ≡ viewOf levels w F 0
-view-same levels w k = view-moved (kept-moved k) levels w (omega arith)
+view-same levels w k = view-stays k levels w (omega arith)
 
 -- The index check passes: the solve of the hierarchy in the stores.
 pub solve-sound : {h : Handle} {w : List ℕ} {F G : List Float} {t u : List ℕ} {rhs x y : List Float} {s : LinearSolverOptions} {r : Solved}
