@@ -364,10 +364,16 @@ impl Session<'_> {
             .then(|| "refused, the image changed".to_string())
     }
 
-    /// The hierarchy in the stores beside the one that is due.
+    /// The hierarchy in the stores beside the one that is due. The values of the levels are no part of it: an update leaves those of
+    /// the build, and its own stand as coefficients and diagonal.
     fn view(&self) -> Option<String> {
         match Hierarchy::read(self.handle.levels as usize, &self.stores) {
-            Some(view) => view.difference(&self.hierarchy),
+            Some(mut view) => {
+                for (level, due) in view.levels.iter_mut().zip(&self.hierarchy.levels) {
+                    level.values.clone_from(&due.values);
+                }
+                view.difference(&self.hierarchy)
+            }
             None => Some("the levels pass the end of a store".to_string()),
         }
     }

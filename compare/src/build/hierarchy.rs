@@ -1,5 +1,5 @@
 //! A hierarchy as the definitions have it (`Level` and `Hierarchy` of crates/hierarchy), and as it stands in the stores
-//! (crates/layout).
+//! (crates/layout). The values of a level are no part of the definition's: a build leaves them in the stores all the same.
 
 use super::problem::Stores;
 use crate::report::{hex, same};

@@ -144,7 +144,6 @@ module _ {w w1 : List ℕ} {F F1 : List Float} {o : MultigridOptions} {t : Works
 
   abbrev numbers : Numbers
   numbers = record {
-    values = part (p .values) (p .entries) F;
     coefficients = part (p .coefficients) (p .faces) F;
     diagonal = part (p .diagonal) (p .rows) F;
     inverse = part (p .inverse) (p .rows) F;
@@ -180,11 +179,11 @@ module _ {w w1 : List ℕ} {F F1 : List Float} {o : MultigridOptions} {t : Works
       ∙ ap (λ (q : Pattern). kernelOf (innerShape q links count) (c .diagonal) (c .inverse) (c .coefficients)) (own-same ok h))
 
   numbers-no : {q : Refusal} → v ≡ Verdict.Refused q
-      → innerNumbers o (s .level) (innerShape own links count) (part (p .values) (p .entries) F) (coefficientsAt F p) ≡ refused q
+      → innerNumbers o (s .level) (innerShape own links count) (coefficientsAt F p) ≡ refused q
   numbers-no e = then-refused (smootherOf o (s .level) kernel) _ (sym dic-is ∙ d .is ∙ settled-no (d .held) e)
 
   numbers-yes : v ≡ Verdict.Passed
-      → innerNumbers o (s .level) (innerShape own links count) (part (p .values) (p .entries) F) (coefficientsAt F p) ≡ accepted numbers
+      → innerNumbers o (s .level) (innerShape own links count) (coefficientsAt F p) ≡ accepted numbers
   numbers-yes e = then-accepted (smootherOf o (s .level) kernel) _ (sym dic-is ∙ d .is ∙ settled-yes (d .held) e)
 
   -- The DIC data are refused.
@@ -386,7 +385,6 @@ module _ {w w1 : List ℕ} {F F1 : List Float} {o : MultigridOptions} {t : Works
             let l = ok .level .stands .placed in
             let work = ok .level .room .work in
             let under = floats-below ok in
-            let h0 = numbers-stay (p .values) (p .entries) (omega arith) in
             let h1 = numbers-stay (p .coefficients) (p .faces) (omega arith) in
             let h2 = numbers-stay (p .diagonal) (p .rows) (omega arith) in
             let h3 = numbers-stay (p .inverse) (p .rows) (omega arith) in

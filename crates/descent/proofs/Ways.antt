@@ -59,11 +59,11 @@ then-then (refused q) f g = refl
 
 module _ (o : MultigridOptions) (given : Bool) (level stage : ℕ) (m : Mesh) (c : Coefficients) (map : List ℕ) (count : ℕ) where
   -- The level's numbers are refused.
-  pub way-numbers : {q : Refusal} → innerNumbers o level (innerShape (m .pattern) map count) (m .values) c ≡ refused q
+  pub way-numbers : {q : Refusal} → innerNumbers o level (innerShape (m .pattern) map count) c ≡ refused q
       → descentOf o given level stage m c map count ≡ refused q
-  way-numbers e = then-refused (innerNumbers o level (innerShape (m .pattern) map count) (m .values) c) _ e
+  way-numbers e = then-refused (innerNumbers o level (innerShape (m .pattern) map count) c) _ e
 
-  module _ {n : Numbers} (made : innerNumbers o level (innerShape (m .pattern) map count) (m .values) c ≡ accepted n) where
+  module _ {n : Numbers} (made : innerNumbers o level (innerShape (m .pattern) map count) c ≡ accepted n) where
     -- the matrix summed afresh, once the steps are made
     abbrev afresh : Merged → Outcome Descent
     afresh s = do
@@ -72,7 +72,7 @@ module _ (o : MultigridOptions) (given : Bool) (level stage : ℕ) (m : Mesh) (c
 
     onward : descentOf o given level stage m c map count ≡ _>>=_ (stepsOf o given level stage m map count) afresh
     onward =
-        then-accepted (innerNumbers o level (innerShape (m .pattern) map count) (m .values) c) _ made
+        then-accepted (innerNumbers o level (innerShape (m .pattern) map count) c) _ made
         ∙ then-then (coarsenedAsked given m map count)
         (λ first. mergeOf o given (o .«merge_levels» - 1) (level + 1) (merged first map (stage + 1))) afresh
 

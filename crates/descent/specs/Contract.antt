@@ -35,7 +35,7 @@ nextOf d = record { pattern = d .next .pattern; values = d .next .values; weight
 -- the first part of `innerLevel`, up to the charge of the next level: 16 and 17, 18, the merged steps, 18
 abbrev pub descentOf : MultigridOptions → Bool → ℕ → ℕ → Mesh → Coefficients → List ℕ → ℕ → Outcome Descent
 descentOf o given level stage m c map count = do
-  n ← innerNumbers o level (innerShape (m .pattern) map count) (m .values) c
+  n ← innerNumbers o level (innerShape (m .pattern) map count) c
   first ← coarsenedAsked given m map count
   s ← mergeOf o given (o .«merge_levels» - 1) (level + 1) (merged first map (stage + 1))
   next ← coarsenedAsked given m (s .map) (s .mesh .pattern .rows)

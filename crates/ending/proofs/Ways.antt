@@ -58,7 +58,6 @@ abbrev whole : Mesh → Coefficients → List Float → Level
 whole m c factor = record {
   shape = lastShape (m .pattern);
   numbers = record {
-    values = m .values;
     coefficients = c .coefficients;
     diagonal = c .diagonal;
     inverse = c .inverse;
@@ -289,7 +288,6 @@ module _ {w : List ℕ} (F : List Float) {o : MultigridOptions} {t : Workspace} 
       numbers-whole =
           let b = bounds ok count few in
           let k = d .kept in
-          let h1 : part (p .values) (p .entries) G ≡ part (p .values) (p .entries) F = kept-part k (p .values) (p .entries) (omega arith) in
           let h2 : part (p .coefficients) (p .faces) G ≡ part (p .coefficients) (p .faces) F = kept-part k (p .coefficients) (p .faces) (omega arith) in
           let h3 : part (p .diagonal) (p .rows) G ≡ part (p .diagonal) (p .rows) F = kept-part k (p .diagonal) (p .rows) (omega arith) in
           let h4 : part (p .inverse) (p .rows) G ≡ part (p .inverse) (p .rows) F = kept-part k (p .inverse) (p .rows) (omega arith) in

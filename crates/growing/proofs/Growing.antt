@@ -113,7 +113,7 @@ inner-opens : (o : MultigridOptions) (given : Bool) (deeper : ℕ → Charge →
     (used : Charge) (m : Mesh) (c : Coefficients) (g : Pairing) → innerLevel o given deeper stores level stage used m c g
     ≡ _>>=_ (descentOf o given level stage m c (g .map) (g .count)) (furtherOf deeper stores used m)
 inner-opens o given deeper stores level stage used m c g =
-    descent-chain (innerNumbers o level (innerShape (m .pattern) (g .map) (g .count)) (m .values) c) (coarsenedAsked given m (g .map) (g .count))
+    descent-chain (innerNumbers o level (innerShape (m .pattern) (g .map) (g .count)) c) (coarsenedAsked given m (g .map) (g .count))
     (λ first. mergeOf o given (o .«merge_levels» - 1) (level + 1) (merged first (g .map) (stage + 1)))
     (λ s. coarsenedAsked given m (s .map) (s .mesh .pattern .rows)) (furtherOf deeper stores used m)
 

@@ -82,7 +82,7 @@ module _ (o : MultigridOptions) (given : Bool) (deeper : ℕ → Charge → Mesh
       pub own : Coefficients
       pub kernel : kernelAsked level m ≡ accepted own
       pub numbers : Numbers
-      pub made : innerNumbers o level (innerShape (m .pattern) (g .map) (g .count)) (m .values) own ≡ accepted numbers
+      pub made : innerNumbers o level (innerShape (m .pattern) (g .map) (g .count)) own ≡ accepted numbers
       pub first : Mesh
       pub coarser : coarsenedAsked given m (g .map) (g .count) ≡ accepted first
       pub state : Merged
@@ -97,7 +97,7 @@ module _ (o : MultigridOptions) (given : Bool) (deeper : ℕ → Charge → Mesh
     inner-is : (c : Coefficients) → kernelAsked level m ≡ accepted c
         → innerLevel o given deeper stores level stage used m c g ≡ accepted levels → Inner
     inner-is c k e =
-        let a = then-split (innerNumbers o level (innerShape (m .pattern) (g .map) (g .count)) (m .values) c) _ e in
+        let a = then-split (innerNumbers o level (innerShape (m .pattern) (g .map) (g .count)) c) _ e in
         let b = then-split (coarsenedAsked given m (g .map) (g .count)) _ (a .2) in
         let s = then-split (mergeOf o given (o .«merge_levels» - 1) (level + 1) (merged (b .0) (g .map) (stage + 1))) _ (b .2) in
         let n = then-split (coarsenedAsked given m (s .0 .map) (s .0 .mesh .pattern .rows)) _ (s .2) in

@@ -136,7 +136,7 @@ module _ (o : MultigridOptions) (given : Bool) {stores bigger : Charge} (big : L
       then-keeps (kernelAsked level m) _ _ (λ c.
       cond-keeps (endsAt o more (m .pattern)) (lastLevel o level m c) _ _ (
       cond-keeps (eqb (g .count) (m .pattern .rows)) (lastLevel o level m c) _ _ (
-      then-keeps (innerNumbers o level (innerShape (m .pattern) (g .map) (g .count)) (m .values) c) _ _ (λ n.
+      then-keeps (innerNumbers o level (innerShape (m .pattern) (g .map) (g .count)) c) _ _ (λ n.
       then-keeps (coarsenedAsked given m (g .map) (g .count)) _ _ (λ first.
       then-keeps (mergeOf o given (o .«merge_levels» - 1) (level + 1) (merged first (g .map) (stage + 1))) _ _ (λ s.
       then-keeps (coarsenedAsked given m (s .map) (s .mesh .pattern .rows)) _ _ (λ next.

@@ -3,7 +3,7 @@
 -- Assumes nothing.
 use mathlib.Core.Path.{_≡_, refl}
 use mathlib.Core.Bool.{true, false}
-use mathlib.Core.List.{List, [], _∷_, map}
+use mathlib.Core.List.{List, [], _∷_, _++_, map}
 use Prim.Native.Nat.{ℕ}
 use lib.Ieee.{Float, binary64, ofBits, add, sub, mul, div, lt, le, eq}
 use Rattle.float.specs.Float.{zero64, one64, isFinite, absOf}
@@ -109,15 +109,19 @@ abbrev path : ℕ → ℕ → Input
 path cells steps = plain (controls cells 2 steps) 4 (0 ∷ 2 ∷ 5 ∷ 8 ∷ 10 ∷ []) (0 ∷ 1 ∷ 0 ∷ 1 ∷ 2 ∷ 1 ∷ 2 ∷ 3 ∷ 2 ∷ 3 ∷ [])
     (two ∷ minusOne ∷ minusOne ∷ two ∷ minusOne ∷ minusOne ∷ two ∷ minusOne ∷ minusOne ∷ two ∷ [])
 
+-- its diagonal, then the values of its faces
+abbrev whole : List Float
+whole = two ∷ two ∷ two ∷ two ∷ minusOne ∷ minusOne ∷ minusOne ∷ []
+
 -- the aggregates or coupled rows of each level; none of a refused build
 unfoldable pub linksIn : Outcome Hierarchy → List (List ℕ)
 linksIn (accepted h) = map (λ (l : Level). l .shape .links) (h .levels)
 linksIn (refused q) = []
 
--- the values of each level
-unfoldable pub valuesIn : Outcome Hierarchy → List (List Float)
-valuesIn (accepted h) = map (λ (l : Level). l .numbers .values) (h .levels)
-valuesIn (refused q) = []
+-- the matrix of each level: its diagonal, then the values of its faces
+unfoldable pub matricesIn : Outcome Hierarchy → List (List Float)
+matricesIn (accepted h) = map (λ (l : Level). l .numbers .diagonal ++ l .numbers .coefficients) (h .levels)
+matricesIn (refused q) = []
 
 -- P has one level, whose factor is 2, −1, 1; its rows add up to 2 and 0. The stores hold its charge and no word more.
 one-level : buildOf (lent 178 212) (small own) ≡ accepted (record {
@@ -134,7 +138,6 @@ one-level : buildOf (lent 178 212) (small own) ≡ accepted (record {
       positions = [];
     };
     numbers = record {
-      values = own;
       coefficients = minusTwo ∷ [];
       diagonal = four ∷ two ∷ [];
       inverse = quarter ∷ half ∷ [];
@@ -193,7 +196,6 @@ two-levels : buildOf ample (plain (controls 1 4 1) 2 (0 ∷ 2 ∷ 4 ∷ []) (0 �
       positions = 0 ∷ 0 ∷ 0 ∷ 0 ∷ [];
     };
     numbers = record {
-      values = own;
       coefficients = minusTwo ∷ [];
       diagonal = four ∷ two ∷ [];
       inverse = quarter ∷ half ∷ [];
@@ -213,7 +215,6 @@ two-levels : buildOf ample (plain (controls 1 4 1) 2 (0 ∷ 2 ∷ 4 ∷ []) (0 �
       positions = [];
     };
     numbers = record {
-      values = two ∷ [];
       coefficients = [];
       diagonal = two ∷ [];
       inverse = half ∷ [];
@@ -232,10 +233,10 @@ two-levels = refl
 pub record PathBuilds : Type 0 where
   pub refuses : buildOf ample (path 1 1) ≡ refused tooManyCoupled
   pub aggregates : linksIn (buildOf ample (path 2 1)) ≡ (0 ∷ 0 ∷ 1 ∷ 1 ∷ []) ∷ (0 ∷ 1 ∷ []) ∷ []
-  pub coarser : valuesIn (buildOf ample (path 2 1)) ≡ path 2 1 .values ∷ (two ∷ minusOne ∷ minusOne ∷ two ∷ []) ∷ []
+  pub coarser : matricesIn (buildOf ample (path 2 1)) ≡ whole ∷ (two ∷ two ∷ minusOne ∷ []) ∷ []
   pub merges : linksIn (buildOf ample (path 1 2)) ≡ (0 ∷ 0 ∷ 0 ∷ 0 ∷ []) ∷ [] ∷ []
-  pub coarsest : valuesIn (buildOf ample (path 1 2)) ≡ path 1 2 .values ∷ (two ∷ []) ∷ []
+  pub coarsest : matricesIn (buildOf ample (path 1 2)) ≡ whole ∷ (two ∷ []) ∷ []
 
 path-builds : PathBuilds
-unfolding buildOf symmetricOf growOf withSums csr.sizeOk csr.neverFall csr.offsetsOk csr.entryOk csr.rowOk csr.stepOk csr.rowAt csr.entryFrom csr.columnsOk validOf isFinite lt le eq ofBits add sub mul div sqrtOf each tab for iter askRows mirrorsAgree mirrorsEqual pattern.some pattern.howMany pattern.those pattern.rowOf faces.above faces.facesOf faces.uppersOf faces.faceOffsetsOf faces.neighborsOf faces.hasEntry faces.standsAt faces.mirroredOf faces.lowersOf faces.diagonalsAsked faces.diagonalsOf faces.coupledOf faces.coupledCountOf faces.coupledRowsOf updateOf diagonalAsked isPositive tri factor.seekOf factor.getOf lessOf factor.restOf factor.columnOf factor.columnsOf factor.goodPivot factor.rowOf factor.rowsOf factor.choleskyOf sumFace sumRow rowSumsOf absOf allFinite strengthsOf considerOf entryOf strongestOf placeOf pairRowOf turnOf pairsOf mergeOf pattern.sumTo pattern.flat pattern.startOf pattern.placeOf pattern.joinsBy pattern.joins pattern.coarseOffsets pattern.coarseColumns pattern.coarsePositions addEntry sumsOf averageFace symmetrizeOf dicOf pivotsOf pivotRow pivotFace reciprocalsOf isPivot pattern.composeOf linksIn valuesIn
+unfolding buildOf symmetricOf growOf withSums csr.sizeOk csr.neverFall csr.offsetsOk csr.entryOk csr.rowOk csr.stepOk csr.rowAt csr.entryFrom csr.columnsOk validOf isFinite lt le eq ofBits add sub mul div sqrtOf each tab for iter askRows mirrorsAgree mirrorsEqual pattern.some pattern.howMany pattern.those pattern.rowOf faces.above faces.facesOf faces.uppersOf faces.faceOffsetsOf faces.neighborsOf faces.hasEntry faces.standsAt faces.mirroredOf faces.lowersOf faces.diagonalsAsked faces.diagonalsOf faces.coupledOf faces.coupledCountOf faces.coupledRowsOf updateOf diagonalAsked isPositive tri factor.seekOf factor.getOf lessOf factor.restOf factor.columnOf factor.columnsOf factor.goodPivot factor.rowOf factor.rowsOf factor.choleskyOf sumFace sumRow rowSumsOf absOf allFinite strengthsOf considerOf entryOf strongestOf placeOf pairRowOf turnOf pairsOf mergeOf pattern.sumTo pattern.flat pattern.startOf pattern.placeOf pattern.joinsBy pattern.joins pattern.coarseOffsets pattern.coarseColumns pattern.coarsePositions addEntry sumsOf averageFace symmetrizeOf dicOf pivotsOf pivotRow pivotFace reciprocalsOf isPivot pattern.composeOf linksIn matricesIn
 path-builds = record { refuses = refl; aggregates = refl; coarser = refl; merges = refl; coarsest = refl }

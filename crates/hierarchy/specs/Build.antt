@@ -163,7 +163,7 @@ module _ (o : MultigridOptions) (given : Bool) where
   -- from the level by the composed map; then 9 of the next level, and the levels from there
   abbrev pub innerLevel : (ℕ → Charge → Mesh → Outcome (List Level)) → Charge → ℕ → ℕ → Charge → Mesh → Coefficients → Pairing → Outcome (List Level)
   innerLevel deeper stores level stage used m c g = do
-    n ← innerNumbers o level (innerShape (m .pattern) (g .map) (g .count)) (m .values) c
+    n ← innerNumbers o level (innerShape (m .pattern) (g .map) (g .count)) c
     first ← coarsenedAsked given m (g .map) (g .count)
     s ← mergeOf (o .«merge_levels» - 1) (level + 1) (merged first (g .map) (stage + 1))
     next ← coarsenedAsked given m (s .map) (s .mesh .pattern .rows)

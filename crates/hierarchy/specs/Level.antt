@@ -26,11 +26,9 @@ pub record Shape : Type 0 where
   -- the entry of the next level's matrix that each entry is added to; none on the last level
   pub positions : List ℕ
 
--- the numbers of a level
+-- the numbers of a level, all that a solve reads of its matrix
 pub record Numbers : Type 0 where
-  -- the values of the matrix
-  pub values : List Float
-  -- those of its faces, of its diagonal, and the diagonal's reciprocals
+  -- the values of its faces, of its diagonal, and the diagonal's reciprocals
   pub coefficients : List Float
   pub diagonal : List Float
   pub inverse : List Float

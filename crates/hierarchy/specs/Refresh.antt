@@ -41,11 +41,10 @@ module _ (o : MultigridOptions) where
   smootherOf level k = cond (needsDic (o .smoother)) (dicOf level k) (accepted (filled (k .rows) zero64))
 
   -- the numbers of a level that is not the last, once its coefficients are there
-  abbrev pub innerNumbers : ℕ → Shape → List Float → Coefficients → Outcome Numbers
-  innerNumbers level s values c = do
+  abbrev pub innerNumbers : ℕ → Shape → Coefficients → Outcome Numbers
+  innerNumbers level s c = do
     dic ← smootherOf level (kernelOf s (c .diagonal) (c .inverse) (c .coefficients))
     accepted (record {
-      values = values;
       coefficients = c .coefficients;
       diagonal = c .diagonal;
       inverse = c .inverse;
@@ -58,7 +57,6 @@ module _ (o : MultigridOptions) where
   lastNumbers level s values c = do
     factor ← choleskyOf level (csrOf s values) (length (s .links)) (s .links)
     accepted (record {
-      values = values;
       coefficients = c .coefficients;
       diagonal = c .diagonal;
       inverse = c .inverse;
@@ -70,7 +68,7 @@ module _ (o : MultigridOptions) where
   abbrev pub numbersOf : ℕ → Shape → List Float → Outcome Numbers
   numbersOf level s values = do
     c ← coefficientsOf level s values
-    cond (s .terminal) (lastNumbers level s values c) (innerNumbers level s values c)
+    cond (s .terminal) (lastNumbers level s values c) (innerNumbers level s c)
 
   -- the values of the next level, of shape t: the sums by position, then half plus half
   abbrev pub coarseValues : Shape → Shape → List Float → List Float

@@ -90,7 +90,6 @@ module _ {e e' : ℕ} {w z : List ℕ} {F G : List Float} (a b : ℕ) (words : K
   numbers-kept : numbersAt G p (coupledAt w a) ≡ numbersAt F p (coupledAt w a)
   numbers-kept =
       let h = top in
-      let h1 : part (p .values) (p .entries) G ≡ part (p .values) (p .entries) F = kept-part floats (p .values) (p .entries) (omega arith) in
       let h2 : part (p .coefficients) (p .faces) G ≡ part (p .coefficients) (p .faces) F = kept-part floats (p .coefficients) (p .faces) (omega arith) in
       let h3 : part (p .diagonal) (p .rows) G ≡ part (p .diagonal) (p .rows) F = kept-part floats (p .diagonal) (p .rows) (omega arith) in
       let h4 : part (p .inverse) (p .rows) G ≡ part (p .inverse) (p .rows) F = kept-part floats (p .inverse) (p .rows) (omega arith) in

@@ -1,7 +1,8 @@
 -- Where a level stands in the two stores, and the hierarchy that is read out of them. Definitions only.
 -- Words of a level: rows, 1 on the last level (else 0), coupled rows | offsets | columns | starts | diagonals | neighbors | uppers |
 -- lowers | links | positions. Floats of a level: values | coefficients | diagonal | inverse | dic | factor. The levels follow one
--- another, the finest first; after the last one's floats come the row sums of the finest.
+-- another, the finest first; after the last one's floats come the row sums of the finest. The values are scratch: a build and an update
+-- make the rest of them, and nobody reads them after.
 use mathlib.Core.Bool.{Bool, cond, true, _&&_}
 use mathlib.Core.List.{List, [], _∷_}
 use Prim.Native.Nat.{ℕ, zero, suc, _+_}
@@ -90,7 +91,6 @@ shapeAt w p last coupled = record {
 -- the numbers that stand at p
 abbrev pub numbersAt : List Float → Place → ℕ → Numbers
 numbersAt F p coupled = record {
-  values = part (p .values) (p .entries) F;
   coefficients = part (p .coefficients) (p .faces) F;
   diagonal = part (p .diagonal) (p .rows) F;
   inverse = part (p .inverse) (p .rows) F;

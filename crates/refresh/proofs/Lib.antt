@@ -1,6 +1,7 @@
 pub mod Questions
 pub mod Summing
 pub mod Moving
+pub mod Copying
 pub mod Updating
 pub mod First
 pub mod Sounding

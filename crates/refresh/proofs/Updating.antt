@@ -38,9 +38,9 @@ use Rattle.renewing.proofs.Outcomes.{never, verdict-then, told-accepted, told-r
 use Rattle.renewing.proofs.Renewing.{bare-ok, shapes-some, levels-some, floats-end}
 use Rattle.refresh.specs.declared.Updated.{Updated}
 use Rattle.refresh.specs.Contract.{updatedAt, answerOf, hierarchyOf, imageOf, UpdateDone}
-use Rattle.refresh.specs.Steps.{With, askedOf, AskOk, sumsStart, SumOk, Summed, ShadowOk, shadowOf, ShadowDone, AttemptOk, attemptOf, Attempted, toldOf, UpdateOk}
+use Rattle.refresh.specs.Steps.{With, askedOf, AskOk, sumsStart, SumOk, Summed, ShadowOk, shadowOf, ShadowDone, CommitOk, Committed, AttemptOk, attemptOf, Attempted, toldOf, UpdateOk}
 use Rattle.refresh.proofs.Questions.{many-values}
-use Rattle.refresh.proofs.Moving.{shapes-are, image-shift, kept-moved, copied-moved, levels-stay, view-moved}
+use Rattle.refresh.proofs.Moving.{shapes-are, image-shift, levels-stay, view-stays}
 
 -- ---- the shadow
 
@@ -196,9 +196,18 @@ module _ {levels : ℕ} {w : List ℕ} {size : ℕ} (ok : AttemptOk levels w siz
     image-is : start / 2 ≡ imageOf levels w
     image-is = omega arith
 
-    -- There is room for the image and its shadow.
-    pub copy-room : {now : ℕ} → now ≡ size → 2 * (start / 2) ≤ now
-    copy-room e = let is = image-is in let room = ok .room in omega arith
+    -- What the copy requires.
+    pub commit-ready : {now : ℕ} → now ≡ size → CommitOk levels w now (start / 2)
+    commit-ready e =
+        let is = image-is in
+        let room = ok .room in
+        let few = ok .few in
+        rw e (record {
+          chain = record { walk = ok .walk; room = omega arith; few = omega arith; fits = ok .fits };
+          some = ok .some;
+          is = is;
+          room = omega arith;
+        })
 
     module _ (offsets columns : List ℕ) (values : List Float) {v : Verdict} (told : v ≡ verdictOf (askedOf (shapeIn w 0) offsets columns values))
         (pass : isRefused v ≡ false) where
@@ -251,7 +260,7 @@ module _ {levels : ℕ} {w : List ℕ} (F : List Float) (ok : AttemptOk levels w
   refused-done : {G : List Float} {q : Refusal} {r : Verdict} → out ≡ refused q → r ≡ Verdict.Refused q → Kept (imageOf levels w) F G
       → Attempted levels w F G out r
   refused-done {G} {q} {r} e f k =
-      let z : viewOf levels w G 0 ≡ viewOf levels w F 0 = view-moved (kept-moved k) levels w (omega arith) in
+      let z : viewOf levels w G 0 ≡ viewOf levels w F 0 = view-stays k levels w (omega arith) in
       record {
         answer = f ∙ sym (ap verdictOf e);
         view = z ∙ sym (ap (hierarchyOf (viewOf levels w F 0)) e);
@@ -279,20 +288,16 @@ module _ {levels : ℕ} {w : List ℕ} (F : List Float) (ok : AttemptOk levels w
           refused-done (through ∙ no .1) (no .2) (subst (λ (n : ℕ). Kept n F G) (image-is ok at) (done .kept))
 
       -- The shadow is the image.
-      pub attempt-yes : isRefused r ≡ false → {H : List Float} → Wrote 0 (start / 2) (part (start / 2) (start / 2) G) G H
+      pub attempt-yes : isRefused r ≡ false → {H : List Float} → Committed levels w G H (start / 2)
           → Attempted levels w F H out r
       attempt-yes go {H} copied =
-          let is = image-is ok at in
-          let room = ok .room in
-          let size = done .kept .size in
           let a = told-accepted (shadowOf o levels w values) (done .answer) go in
           let is-out : out ≡ accepted (a .0) = through ∙ a .1 in
-          let moved = copied-moved copied (omega arith) (omega arith) in
           record {
             answer = went-on r go ∙ sym (ap verdictOf is-out);
-            view = view-moved moved levels w (omega arith) ∙ done .view (a .0) (a .1) ∙ sym (ap (hierarchyOf (viewOf levels w F 0)) is-out);
+            view = copied .view ∙ done .view (a .0) (a .1) ∙ sym (ap (hierarchyOf (viewOf levels w F 0)) is-out);
             kept = λ q f. never f is-out;
-            size = copied .size ∙ size;
+            size = copied .size ∙ done .kept .size;
           }
 
 -- ---- the answer of an update

@@ -102,6 +102,20 @@ pub record ShadowDone (o : MultigridOptions) (levels : ℕ) (w : List ℕ) (F G 
   pub view : (h : Hierarchy) → shadowOf o levels w values ≡ accepted h → viewOf levels w G image ≡ h
   pub kept : Kept image F G
 
+-- ---- the copy
+
+-- The levels lie in the words, and the image and its shadow in the floats.
+pub record CommitOk (levels : ℕ) (w : List ℕ) (size image : ℕ) : Type 0 where
+  pub chain : Chain w size levels 0 0 0
+  pub some : 1 ≤ levels
+  pub is : image ≡ imageOf levels w
+  pub room : 2 * image ≤ size
+
+-- The hierarchy in the shadow is the hierarchy.
+pub record Committed (levels : ℕ) (w : List ℕ) (F G : List Float) (image : ℕ) : Type 0 where
+  pub view : viewOf levels w G 0 ≡ viewOf levels w F image
+  pub size : length G ≡ length F
+
 -- ---- the update
 
 -- What an update of so many levels requires: the walk of question 19 went through them, and there is room for the image and its shadow.

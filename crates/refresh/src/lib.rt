@@ -6,7 +6,7 @@ ghost use lib.ListN.{length};
 ghost use Rattle.store.specs.Region.{Wrote};
 ghost use Rattle.hierarchy.specs.Refresh.{needsDic};
 ghost use Rattle.refresh.specs.Contract.{updatedAt, UpdateDone};
-ghost use Rattle.refresh.specs.Steps.{With, SumOk, Summed, ShadowOk, ShadowDone, AttemptOk, attemptOf, Attempted, toldOf, UpdateOk};
+ghost use Rattle.refresh.specs.Steps.{With, SumOk, Summed, ShadowOk, ShadowDone, CommitOk, Committed, AttemptOk, attemptOf, Attempted, toldOf, UpdateOk};
 use options::Handle;
 use options::MultigridResidualNorm;
 use options::MultigridSmoother;
@@ -82,6 +82,27 @@ fn shadow(
     answer
 }
 
+// The numbers of all levels and the row sums, copied from the shadow, which starts at `image`, over the old ones. The values before a
+// level's numbers are left out: no call reads them again.
+fn commit(w: &[u32], f: &mut [f64], levels: u64, image: usize)
+    requires { ⌜ CommitOk levels (now w) (length (now f)) image ⌝ }
+    ensures { λ _. ⌜ Committed levels (now (w .entry)) (now (f .entry)) (now (f .exit)) image ⌝ }
+{
+    let mut level = 0;
+    let mut a = 0;
+    let mut p = sound::place_at(w, 0, 0);
+    while level + 1 < levels {
+        let from = p.coefficients;
+        store::copy(f, p.factor - from, image + from, from);
+        a = layout::words_end(w, a);
+        p = sound::place_at(w, a, p.factor);
+        level += 1;
+    }
+    // The row sums follow the last level's factor.
+    let first = p.coefficients;
+    store::copy(f, image - first, image + first, first);
+}
+
 // Questions 31 and 10, the new image in the shadow, and the copy over the old one.
 fn attempt(
     w: &[u32],
@@ -106,7 +127,7 @@ fn attempt(
     if answer.refused() {
         return answer;
     }
-    store::copy(f, image, image, 0);
+    commit(w, f, levels, image);
     answer
 }
 

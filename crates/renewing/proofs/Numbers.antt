@@ -72,7 +72,7 @@ module _ {w : List ℕ} (F : List Float) {p : Place} {last : Bool} {coupled : �
 
   -- those after them
   abbrev rest : Coefficients → Outcome Numbers
-  rest c = cond last (lastNumbers o level own values c) (innerNumbers o level own values c)
+  rest c = cond last (lastNumbers o level own values c) (innerNumbers o level own c)
 
   module _ {G : List Float} {v : Verdict} (made : Updated w (kernelIn p) (coefficientsAsked level w F p) F G v) where
     -- The questions in the stores are those of the shape.
@@ -143,7 +143,6 @@ module _ {w : List ℕ} (F : List Float) {p : Place} {last : Bool} {coupled : �
         -- the numbers with a factor
         abbrev withFactor : List Float → Numbers
         withFactor l = record {
-          values = values;
           coefficients = c .coefficients;
           diagonal = c .diagonal;
           inverse = c .inverse;
@@ -166,7 +165,7 @@ module _ {w : List ℕ} (F : List Float) {p : Place} {last : Bool} {coupled : �
 
         -- The numbers are made of it.
         lasts : levelRenewed o last coupled level w F p ≡ _>>=_ wanted (λ l. accepted (withFactor l))
-        lasts = onward ∙ ap (λ (b : Bool). cond b (lastNumbers o level own values c) (innerNumbers o level own values c)) ends
+        lasts = onward ∙ ap (λ (b : Bool). cond b (lastNumbers o level own values c) (innerNumbers o level own c)) ends
 
         -- Its numbers are there.
         pub level-last : LevelDone w F H o p last coupled level r
@@ -181,7 +180,6 @@ module _ {w : List ℕ} (F : List Float) {p : Place} {last : Bool} {coupled : �
                   let s = then-split wanted (λ l. accepted (withFactor l)) (sym lasts ∙ e) in
                   let went : r ≡ Verdict.Passed = done .answer ∙ verdict-passed (factorOf w G p coupled level) (sym wanted-is ∙ s .1) in
                   let factor : part (p .factor) (tri coupled) H ≡ s .0 = accepted-one (sym (done .factor went) ∙ sym wanted-is ∙ s .1) in
-                  let v1 : part (p .values) (p .entries) H ≡ values = kept-part (done .kept) (p .values) (p .entries) (omega arith) ∙ owned .values in
                   let v2 : part (p .coefficients) (p .faces) H ≡ c .coefficients = kept-part (done .kept) (p .coefficients) (p .faces) (omega arith) ∙ owned .coefficients in
                   let v3 : part (p .diagonal) (p .rows) H ≡ c .diagonal = kept-part (done .kept) (p .diagonal) (p .rows) (omega arith) ∙ owned .diagonal in
                   let v4 : part (p .inverse) (p .rows) H ≡ c .inverse = kept-part (done .kept) (p .inverse) (p .rows) (omega arith) ∙ owned .inverse in
@@ -201,7 +199,6 @@ module _ {w : List ℕ} (F : List Float) {p : Place} {last : Bool} {coupled : �
         -- the numbers with DIC data
         abbrev withDic : List Float → Numbers
         withDic l = record {
-          values = values;
           coefficients = c .coefficients;
           diagonal = c .diagonal;
           inverse = c .inverse;
@@ -220,7 +217,7 @@ module _ {w : List ℕ} (F : List Float) {p : Place} {last : Bool} {coupled : �
 
         -- The numbers are made of them.
         inners : levelRenewed o last coupled level w F p ≡ _>>=_ needed (λ l. accepted (withDic l))
-        inners = onward ∙ ap (λ (b : Bool). cond b (lastNumbers o level own values c) (innerNumbers o level own values c)) more
+        inners = onward ∙ ap (λ (b : Bool). cond b (lastNumbers o level own values c) (innerNumbers o level own c)) more
 
         -- There is no factor.
         no-factor : part (p .factor) (tri coupled) H ≡ []
@@ -243,7 +240,6 @@ module _ {w : List ℕ} (F : List Float) {p : Place} {last : Bool} {coupled : �
               numbers = λ n e.
                   let s = then-split needed (λ l. accepted (withDic l)) (sym inners ∙ e) in
                   let held : done .held ≡ s .0 = settled-held r (done .held) (sym needed-is ∙ s .1) in
-                  let v1 : part (p .values) (p .entries) H ≡ values = kept-part frame (p .values) (p .entries) (omega arith) ∙ owned .values in
                   let v2 : part (p .coefficients) (p .faces) H ≡ c .coefficients = kept-part frame (p .coefficients) (p .faces) (omega arith) ∙ owned .coefficients in
                   let v3 : part (p .diagonal) (p .rows) H ≡ c .diagonal = kept-part frame (p .diagonal) (p .rows) (omega arith) ∙ owned .diagonal in
                   let v4 : part (p .inverse) (p .rows) H ≡ c .inverse = kept-part frame (p .inverse) (p .rows) (omega arith) ∙ owned .inverse in

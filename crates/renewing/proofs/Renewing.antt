@@ -152,7 +152,7 @@ module _ {w : List ℕ} {size left level a b : ℕ} (ok : RenewOk w size left le
       none-coupled = ap (λ (l : Bool). cond l (idx w (a + 2)) 0) not-last
 
       -- Its floats end where the factor of a last level would start.
-      ends-at : floatsEnd w a b ≡ locate w a b .factor
+      pub ends-at : floatsEnd w a b ≡ locate w a b .factor
       ends-at = floats-end w a b ∙ ap (λ (n : ℕ). locate w a b .factor + tri n) none-coupled ∙ ap (λ (n : ℕ). locate w a b .factor + n) no-tri ∙ omega arith
 
       -- Where its words end.

@@ -112,7 +112,6 @@ module _ {w : List ℕ} {size : ℕ} {p t : Place} (ok : TurnOk w size p t) wher
           let h5 = ok .level .dic in
           let h6 = ok .after in
           let none = no-tri in
-          let v1 : part (p .values) (p .entries) H ≡ part (p .values) (p .entries) G = kept-part (summed .kept) (p .values) (p .entries) (omega arith) in
           let v2 : part (p .coefficients) (p .faces) H ≡ part (p .coefficients) (p .faces) G = kept-part (summed .kept) (p .coefficients) (p .faces) (omega arith) in
           let v3 : part (p .diagonal) (p .rows) H ≡ part (p .diagonal) (p .rows) G = kept-part (summed .kept) (p .diagonal) (p .rows) (omega arith) in
           let v4 : part (p .inverse) (p .rows) H ≡ part (p .inverse) (p .rows) G = kept-part (summed .kept) (p .inverse) (p .rows) (omega arith) in

@@ -84,7 +84,6 @@ oneLevel = record {
       positions = [];
     };
     numbers = record {
-      values = four ∷ minusTwo ∷ minusTwo ∷ two ∷ [];
       coefficients = minusTwo ∷ [];
       diagonal = four ∷ two ∷ [];
       inverse = quarter ∷ half ∷ [];

@@ -16,12 +16,12 @@ use Rattle.layout.specs.Layout.{viewOf}
 use Rattle.sound.specs.Sound.{soundOf, scratchStart}
 use Rattle.solve.specs.declared.Solved.{Solved}
 use Rattle.solve.specs.Contract.{solvedAt, SolveDone}
-use Rattle.refresh.proofs.Moving.{kept-moved, view-moved}
+use Rattle.refresh.proofs.Moving.{view-stays}
 use Rattle.solvecall.specs.Call.{solvedOf, SolveCall}
 
 -- The hierarchy in the stores is as it was where nothing below the scratch changed.
 view-same : (levels : ℕ) (w : List ℕ) {F G : List Float} → Kept (scratchStart levels w) F G → viewOf levels w G 0 ≡ viewOf levels w F 0
-view-same levels w k = view-moved (kept-moved k) levels w (omega arith)
+view-same levels w k = view-stays k levels w (omega arith)
 
 -- The index check passes: the solve of the hierarchy in the stores.
 pub solve-sound : {h : Handle} {w : List ℕ} {F G : List Float} {t u : List ℕ} {rhs x y : List Float} {s : LinearSolverOptions} {r : Solved}

@@ -1,18 +1,21 @@
 -- The walk over levels and rows, a step at a time; and what holds at the heads of its two loops.
 -- Assumes nothing.
-use mathlib.Core.Path.{_≡_, sym, _∙_}
+use mathlib.Core.Path.{_≡_, refl, sym, _∙_}
 use mathlib.Core.Bool.{Bool, true, false, _&&_}
 use mathlib.Core.List.{List}
-use Prim.Native.Nat.{ℕ, suc, _+_, _-_, _≤_, _<_}
+use Prim.Native.Nat.{ℕ, zero, suc, _+_, _-_, _≤_, _<_}
 use native.Mathlib.Nat.{sub-zero}
+use native.Mathlib.Numerals.{add-one}
 use native.Mathlib.Omega.{arith}
-use Rattle.store.proofs.Each.{both-l}
+use Rattle.store.specs.Vector.{each}
+use Rattle.store.proofs.Each.{both-l, both-r, each-same}
 use Rattle.hierarchy.specs.Level.{Shape}
 use Rattle.layout.specs.declared.Place.{Place}
 use Rattle.layout.specs.Layout.{rowsAt, locate, shapeAt, wordsEnd}
 use Rattle.sound.specs.declared.Walk.{Walk}
 use Rattle.sound.specs.Sound.{headSound, shapeIn, rowSound, linked, goOn, andThen, rowsWalked, walkOf}
 use Rattle.sound.proofs.Laws.{Head, head-told}
+use Rattle.soundlevel.specs.Contract.{RowsPassed}
 use Rattle.soundlevel.proofs.Laws.{row-same}
 
 -- ---- a step
@@ -28,6 +31,17 @@ module _ (s : Shape) (level rows row : ℕ) where
       → rowsWalked s level (rows - row) row ≡ goOn (rowSound s row) (Walk.Stopped level row) (rowsWalked s level (rows - (row + 1)) (row + 1))
   unfolding rowsWalked
   rows-open h = let e : rows - row ≡ suc (rows - (row + 1)) = omega arith in rw e
+
+-- Rows that have passed are left out.
+rows-past : (s : Shape) (level rows row : ℕ) → row ≤ rows → each (rowSound s) row ≡ true
+    → rowsWalked s level (rows - 0) 0 ≡ rowsWalked s level (rows - row) row
+unfolding each
+rows-past s level rows zero h e = refl
+rows-past s level rows (suc row) h e =
+    let yes : rowSound s row ≡ true = both-r (each (rowSound s) row) (rowSound s row) e in
+    let one : row + 1 ≡ suc row = add-one row in
+    rows-past s level rows row (omega arith) (both-l (each (rowSound s) row) (rowSound s row) e)
+    ∙ rows-open s level rows row (omega arith) ∙ rw (yes, one)
 
 module _ (w : List ℕ) (levels level a : ℕ) where
   -- No level is left.
@@ -76,15 +90,19 @@ module _ (w : List ℕ) (levels : ℕ) where
       pub level-head : t ≡ true → headSound w a ≡ true
       level-head y = both-l (headSound w a) (linked (levels - level - 1) w a) (sym e ∙ y)
 
-      -- Its rows come next.
-      pub enter : t ≡ true → Inner w levels level a 0
-      enter y =
+      -- Its rows come next, from the first that has not passed.
+      pub enter : {p : Place} {row : ℕ} → t ≡ true → p ≡ locate w a 0 → RowsPassed w p row → Inner w levels level a row
+      enter {p} {row} y q r =
           let yes = sym e ∙ y in
+          let head = head-told w a (level-head y) in
+          let within : row ≤ rowsAt w a = rw q at (r .within) in
+          let all : each (rowSound (shapeIn w a)) row ≡ true =
+          sym (each-same (rowSound (shapeAt w p false 0)) (rowSound (shapeIn w a)) row (λ k _. row-same w a head q k)) ∙ r .all in
           record {
             below = h;
-            head = head-told w a (level-head y);
-            within = omega arith;
-            same = o .same ∙ walk-open w levels level a h ∙ rw yes;
+            head = head;
+            within = within;
+            same = o .same ∙ walk-open w levels level a h ∙ rw (yes, rows-past (shapeIn w a) level (rowsAt w a) row within all);
           }
 
   module _ {level a row : ℕ} {p : Place} (i : Inner w levels level a row) (q : p ≡ locate w a 0) where

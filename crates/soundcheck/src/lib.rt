@@ -6,7 +6,7 @@ use options::Handle;
 use options::MultigridCoarseSolver;
 use sound::Walk;
 
-// The first level or row that fails ends the walk.
+// The first level or row that fails ends the walk. Rows are asked one by one only where one of the level fails: no other is left to ask.
 fn walk_levels(w: &[u32], levels: u64) -> Walk
     ensures { λ r. ⌜ r ≡ walkOf levels (now (w .entry)) 0 0 ⌝ }
 {
@@ -22,7 +22,7 @@ fn walk_levels(w: &[u32], levels: u64) -> Walk
             break 'walk;
         }
         let p = sound::place_at(w, a, 0);
-        let mut row: usize = 0;
+        let mut row = soundlevel::rows_from(w, p);
         while row < p.rows {
             if soundlevel::row_sound(w, p, row) {
                 row += 1;

@@ -12,7 +12,7 @@ use lib.ListN.{length}
 use borrow.Author.Tests.{le-leb, lt-leb, lt-ltb, le-ltb, eq-eqb, ne-eqb}
 use Rattle.store.specs.Region.{idx, part}
 use Rattle.store.specs.Vector.{each}
-use Rattle.store.proofs.Each.{each-same, Tested, tested-done, Passed, passed-on, passed-yes, passed-no}
+use Rattle.store.proofs.Each.{both-l, both-r, each-at, each-same, Tested, tested-done, Passed, passed-on, passed-yes, passed-no}
 use Rattle.store.proofs.Region.{le-or-lt, length-part, getD-part}
 use Rattle.layout.specs.declared.Place.{Place}
 use Rattle.layout.specs.Layout.{rowsAt, coupledAt, entriesAt, locate, shapeAt, wordsEnd}
@@ -20,7 +20,7 @@ use Rattle.layout.proofs.Places.{ends-last, ends-inner, ends-above}
 use Rattle.sound.specs.Sound.{allBelow, headSound, shapeIn, arraysSound, rowSound, linked}
 use Rattle.sound.specs.Contract.{WordAt}
 use Rattle.sound.proofs.Laws.{Head}
-use Rattle.soundlevel.specs.Contract.{sizesFit, ArraysOk, arraysAt, RowOk}
+use Rattle.soundlevel.specs.Contract.{sizesFit, ArraysOk, arraysAt, RowOk, riseAt, RowsOk, RowsPassed}
 
 -- ---- numbers below a bound
 
@@ -109,18 +109,28 @@ module _ (w : List ℕ) (a : ℕ) {rows entries faces : ℕ} (r : rows ≡ rowsA
 
 -- ---- arrays and rows
 
+-- What holds at each index holds of all.
+each-all : (q : ℕ → Bool) (n : ℕ) → ((k : ℕ) → k < n → q k ≡ true) → each q n ≡ true
+unfolding each
+each-all q zero e = refl
+each-all q (suc n) e = rw (each-all q n (λ k h. e k (omega arith)), e n (omega arith))
+
+-- No row has been asked.
+pub rows-start : (w : List ℕ) (p : Place) → RowsPassed w p 0
+unfolding each
+rows-start w p = record { within = omega arith; all = refl }
+
 -- A test that always holds changes nothing.
 pub and-true : (b : Bool) → b && true ≡ b
 and-true true = refl
 and-true false = refl
 
 module _ (w : List ℕ) (p : Place) where
-  -- The tests of a row, as the code makes them.
-  pub row-told : {row d : ℕ} → RowOk (length w) p row → WordAt w (p .diagonals + row) d
-      → leb (idx w (p .offsets + row)) (idx w (p .offsets + row + 1)) && leb (idx w (p .starts + row)) (idx w (p .starts + row + 1)) && ltb d (p .entries)
-      ≡ rowSound (shapeAt w p false 0) row
+  -- The tests of a row, read in the store.
+  row-is : {row : ℕ} → RowOk (length w) p row
+      → riseAt w (p .offsets) row && riseAt w (p .starts) row && belowAt w (p .diagonals) (p .entries) row ≡ rowSound (shapeAt w p false 0) row
   unfolding rowSound
-  row-told {row} {d} ok at =
+  row-is {row} ok =
       let i = ok .inside in
       let o : idx (part (p .offsets) (p .rows + 1) w) row ≡ idx w (p .offsets + row) = getD-part (p .offsets) (p .rows + 1) w row 0 (omega arith) in
       let o' : idx (part (p .offsets) (p .rows + 1) w) (row + 1) ≡ idx w (p .offsets + row + 1) =
@@ -129,7 +139,29 @@ module _ (w : List ℕ) (p : Place) where
       let s' : idx (part (p .starts) (p .rows + 1) w) (row + 1) ≡ idx w (p .starts + row + 1) =
       getD-part (p .starts) (p .rows + 1) w (row + 1) 0 (omega arith) ∙ ap (idx w) (omega arith) in
       let t : idx (part (p .diagonals) (p .rows) w) row ≡ idx w (p .diagonals + row) = getD-part (p .diagonals) (p .rows) w row 0 (omega arith) in
-      rw (o, o', s, s', t, length-part (p .columns) (p .entries) w (ok .columns), at .is)
+      rw (o, o', s, s', t, length-part (p .columns) (p .entries) w (ok .columns))
+
+  -- The same as the code makes them.
+  pub row-told : {row d : ℕ} → RowOk (length w) p row → WordAt w (p .diagonals + row) d
+      → riseAt w (p .offsets) row && riseAt w (p .starts) row && ltb d (p .entries) ≡ rowSound (shapeAt w p false 0) row
+  row-told {row} {d} ok at = rw (at .is) (row-is ok)
+
+  -- All rows at once: each test of its own goes over all of them.
+  pub rows-told : {o s d : Bool} → RowsOk (length w) p → o ≡ each (riseAt w (p .offsets)) (p .rows) → s ≡ each (riseAt w (p .starts)) (p .rows)
+      → d ≡ allBelow (p .entries) (part (p .diagonals) (p .rows) w) → o && s && d ≡ true → RowsPassed w p (p .rows)
+  rows-told {o} {s} {d} ok eo es ed t =
+      let below : each (belowAt w (p .diagonals) (p .entries)) (p .rows) ≡ true =
+      below-is w (p .diagonals) (p .rows) (p .entries) (ok .diagonals) ∙ sym ed ∙ both-r (o && s) d t in
+      let first = both-l (o && s) d t in
+      let rise : each (riseAt w (p .offsets)) (p .rows) ≡ true = sym eo ∙ both-l o s first in
+      let rise' : each (riseAt w (p .starts)) (p .rows) ≡ true = sym es ∙ both-r o s first in
+      record {
+        within = omega arith;
+        all = each-all (rowSound (shapeAt w p false 0)) (p .rows)
+            (λ row h.
+            sym (row-is (record { inside = h; offsets = ok .offsets; columns = ok .columns; starts = ok .starts; diagonals = ok .diagonals }))
+            ∙ rw (each-at _ (p .rows) rise row h, each-at _ (p .rows) rise' row h, each-at _ (p .rows) below row h));
+      }
 
   module _ (fits : p .columns + p .entries ≤ length w) where
     -- The arrays of the last level,
@@ -159,6 +191,11 @@ module _ (w : List ℕ) (a : ℕ) {p : Place} (h : Head w a) (q : p ≡ locate w
       let links = ends-above w a refl refl refl (h .ends) in
       let j : row < rowsAt w a = rw q at i in
       rw q (record { inside = j; offsets = omega arith; columns = omega arith; starts = omega arith; diagonals = omega arith })
+
+  pub rows-ok : RowsOk (length w) p
+  rows-ok =
+      let links = ends-above w a refl refl refl (h .ends) in
+      rw q (record { offsets = omega arith; columns = omega arith; starts = omega arith; diagonals = omega arith })
 
   -- What a row asks does not depend on the links.
   pub row-same : (row : ℕ) → rowSound (shapeAt w p false 0) row ≡ rowSound (shapeIn w a) row

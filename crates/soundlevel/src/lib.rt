@@ -4,10 +4,11 @@ ghost use mathlib.Core.Bool.{false, _&&_};
 ghost use Prim.Native.Nat.{_+_, _≤_};
 ghost use lib.ListN.{length};
 ghost use Rattle.store.specs.Region.{part};
+ghost use Rattle.store.specs.Vector.{each};
 ghost use Rattle.layout.specs.Layout.{shapeAt};
 ghost use Rattle.sound.specs.Sound.{allBelow, headSound, linked, rowSound};
 ghost use Rattle.sound.specs.Contract.{HeadOk};
-ghost use Rattle.soundlevel.specs.Contract.{sizesFit, InnerOk, ArraysOk, arraysAt, RowOk};
+ghost use Rattle.soundlevel.specs.Contract.{sizesFit, InnerOk, ArraysOk, arraysAt, RowOk, riseAt, RowsOk, RowsPassed};
 use layout::Place;
 
 // Whether the n numbers at `from` are below the bound. No branch leaves the loop, so that it takes several numbers at once.
@@ -164,4 +165,33 @@ pub fn row_sound(w: &[u32], p: Place, row: usize) -> bool
     (w[p.offsets + row] <= w[p.offsets + row + 1])
         & (w[p.starts + row] <= w[p.starts + row + 1])
         & (sound::word_at(w, p.diagonals + row) < p.entries)
+}
+
+// Whether none of the n numbers after the one at `from` is below the one before it. No branch leaves the loop.
+fn never_falls(w: &[u32], from: usize, n: usize) -> bool
+    requires { ⌜ from + n + 1 ≤ length (now w) ⌝ }
+    ensures { λ r. ⌜ r ≡ each (riseAt (now (w .entry)) from) n ⌝ }
+{
+    let mut ok = true;
+    let mut k = 0;
+    while k < n {
+        ok = ok & (w[from + k] <= w[from + k + 1]);
+        k += 1;
+    }
+    ok
+}
+
+// The row from which the rows of a level are asked one by one: where all of them are sound, none is. Each of the three tests goes over
+// all rows by itself, so that it takes several at once.
+pub fn rows_from(w: &[u32], p: Place) -> usize
+    requires { ⌜ RowsOk (length (now w)) p ⌝ }
+    ensures { λ r. ⌜ RowsPassed (now (w .entry)) p r ⌝ }
+{
+    let offsets = never_falls(w, p.offsets, p.rows);
+    let starts = never_falls(w, p.starts, p.rows);
+    let diagonals = all_below(w, p.diagonals, p.rows, p.entries);
+    if offsets & starts & diagonals {
+        return p.rows;
+    }
+    0
 }

@@ -1,15 +1,25 @@
 -- The loop of `equal_mirrors` as the code has it.
 -- Assumes nothing.
-use mathlib.Core.Path.{_≡_, _∙_}
+use mathlib.Core.Path.{_≡_, refl, _∙_}
 use mathlib.Core.Bool.{Bool, true, _&&_}
 use mathlib.Core.List.{List}
 use Prim.Native.Nat.{ℕ, _+_, _≤_, _<_}
-use lib.Ieee.{Float}
+use lib.Ieee.{Float, nan, inf, fin, eq}
+use Rattle.float.specs.Float.{isFinite}
 use Rattle.store.specs.Region.{at, idx, part}
 use Rattle.store.specs.Vector.{each}
 use Rattle.store.proofs.Region.{getD-part}
 use Rattle.store.proofs.Each.{Tested, each-same, tested-start, tested-on, tested-done}
 use Rattle.values.specs.Mirrors.{mirrorsAgree, mirrorsEqual, MirrorsOk}
+
+-- What equals a finite number is finite.
+pub finite-equal : (a b : Float) → isFinite a && eq a b ≡ mirrorsAgree a b
+unfolding mirrorsAgree isFinite eq
+finite-equal nan b = refl
+finite-equal (inf s) b = refl
+finite-equal (fin s m e) nan = refl
+finite-equal (fin s m e) (inf t) = refl
+finite-equal (fin s m e) (fin t n d) = refl
 
 -- The position of a face's upper value is one of the values, and so is that of its lower one.
 pub up-of : (w : List ℕ) (size faces upper lower k : ℕ) → MirrorsOk w size faces upper lower → k < faces → idx w (upper + k) < size

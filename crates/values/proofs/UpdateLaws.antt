@@ -19,12 +19,12 @@ use Rattle.store.specs.Loop.{for}
 use Rattle.store.specs.Region.{at, idx, part, splice, Wrote, Kept}
 use Rattle.store.specs.Vector.{tab}
 use Rattle.store.proofs.Loop.{Left, left-end}
-use Rattle.store.proofs.Region.{length-part, length-splice, getD-part, getD-splice-below, getD-splice-in, set-splice-below, set-splice-end, splice-nil, part-splice-above, wrote, wrote-at, wrote-off, kept-wrote, kept-part}
+use Rattle.store.proofs.Region.{length-part, length-splice, getD-part, getD-splice-below, getD-splice-in, set-splice-end, splice-nil, part-splice-above, wrote, wrote-at, wrote-off, kept-wrote, kept-part}
 use Rattle.store.proofs.Vector.{length-tab, getD-tab, tab-same, for-each}
-use Rattle.store.proofs.Each.{Tested, both-l, both-r, each-at, tested-start, tested-on, tested-done}
+use Rattle.store.proofs.Each.{Tested, both-l, both-r, each-at, each-same, tested-start, tested-on, tested-done}
 use Rattle.matrix.specs.declared.SymmetricMatrix.{SymmetricMatrix}
 use Rattle.values.specs.declared.entries.Entries.{Entries}
-use Rattle.values.specs.Update.{isPositive, diagonalAsked, diagonalGood, entryOf, Coefficients, updateOf, updateAt, Within, Holds, UpdateOk, Updated, EntriesOk, pickTurn, after, diagonalAt, writtenTo, RowsSettled, RowsUpdated, RowsAsked}
+use Rattle.values.specs.Update.{isPositive, diagonalAsked, diagonalGood, entryOf, Coefficients, updateOf, updateAt, Within, Holds, UpdateOk, Updated, EntriesOk, pickTurn, Inverted, after, diagonalAt, writtenTo, RowsSettled, RowsUpdated, RowsAsked}
 
 -- ---- the frame
 
@@ -72,7 +72,7 @@ within-above {A} {lo} {hi} {F} {G} h a m l =
 pub entry-of : (w : List ℕ) (size n entries places values to k : ℕ) → EntriesOk w size n entries places values to → k < n → idx w (places + k) < entries
 entry-of w size n entries places values to k ok h = ok .near k h
 
--- The loop over the faces writes their entries' values.
+-- The loop over them writes their values.
 pub picked : {w : List ℕ} {F G : List Float} {n entries places values to k : ℕ} → EntriesOk w (length F) n entries places values to
     → Left (pickTurn w places values to) k n G (for (pickTurn w places values to) 0 n F) → n ≤ k
     → Wrote to n (tab (entryOf (part places n w) (part values entries F)) n) F G
@@ -95,66 +95,65 @@ pick-on w places values to k entry F e = rw e
 set-end : {A : Type 0} (b k : ℕ) (v F : List A) (a : A) → length v ≡ k → set (splice b v F) (b + k) a ≡ splice b (v ++ (a ∷ [])) F
 set-end b k v F a l = ap (λ (m : ℕ). set (splice b v F) (b + m) a) (sym l) ∙ set-splice-end b v F a
 
-module _ (w : List ℕ) (rows entries places values diagonal inverse : ℕ) (F : List Float) where
-  abbrev own : ℕ → Float
-  own = diagonalAt w rows entries places values F
+module _ (rows diagonal inverse : ℕ) (F : List Float) where
+  -- the reciprocals of the first k rows
+  abbrev recips : ℕ → List Float
+  recips k = tab (λ r. div64 one64 (at F (diagonal + r))) k
 
-  abbrev written : ℕ → List Float
-  written = writtenTo w rows entries places values F diagonal inverse
+  -- The invariant of the pass over the diagonal: the reciprocals below `row` are written, and ok tells whether those rows are good.
+  pub record Inverting (G : List Float) (row : ℕ) (ok : Bool) : Type 0 where
+    pub is : G ≡ splice inverse (recips row) F
+    pub tested : Tested (λ r. diagonalGood (at F (diagonal + r))) rows row ok
 
-  -- The invariant of the pass over the rows: those below `row` are written, and ok tells whether they are good.
-  pub record Settling (G : List Float) (row : ℕ) (ok : Bool) : Type 0 where
-    pub is : G ≡ written row
-    pub tested : Tested (λ r. diagonalGood (own r)) rows row ok
-
-  -- At the start no row is written.
-  pub settling-start : Settling F 0 true
+  -- At the start none is written.
+  pub inverting-start : Inverting F 0 true
   unfolding tab
-  settling-start = record {
-    is = sym (splice-nil inverse (splice diagonal [] F) ∙ splice-nil diagonal F);
-    tested = tested-start _ rows;
-  }
+  inverting-start = record { is = sym (splice-nil inverse F); tested = tested-start _ rows }
 
-  -- At the end every row is.
-  pub rows-settled : {G : List Float} {row : ℕ} {ok : Bool} → Settling G row ok → rows ≤ row
-      → RowsSettled w rows entries places values F diagonal inverse G ok
-  rows-settled {G} {row} {ok} s h =
+  -- At the end every one is.
+  pub inverted : {G : List Float} {row : ℕ} {ok : Bool} → Inverting G row ok → rows ≤ row → Inverted rows diagonal inverse F G ok
+  inverted {G} {row} {ok} s h =
       let reach : row ≤ rows = s .tested .within in
       let e : row ≡ rows = omega arith in
       record { is = rw e at (s .is); all = tested-done (s .tested) h }
 
-  module _ (G : List Float) (row entry : ℕ) (ok : EntriesOk w (length F) rows entries places values diagonal) (l : diagonal + rows ≤ inverse)
-      (is : G ≡ written row) (h : row < rows) (i : entry ≡ idx w (places + row)) where
-    -- the value that the code reads
-    abbrev d : Float
-    d = at G (values + entry)
-
-    read : d ≡ own row
+  module _ (G : List Float) (row : ℕ) (l : diagonal + rows ≤ inverse) (is : G ≡ splice inverse (recips row) F) (h : row < rows) where
+    read : at G (diagonal + row) ≡ at F (diagonal + row)
     read =
-        let near : idx w (places + row) < entries = ok .near row h in
-        let b : values + idx w (places + row) < diagonal = omega arith in
-        let b' : values + idx w (places + row) < inverse = omega arith in
-        rw (i, is) (simp (getD-part, getD-splice-below))
-
-    write : set (set G (diagonal + row) d) (inverse + row) (div64 one64 d) ≡ written (row + 1)
-    unfolding tab
-    write =
         let b : diagonal + row < inverse = omega arith in
-        rw (read, is, add-one row)
-        (ap (λ (I : List Float). set I (inverse + row) (div64 one64 (own row)))
-        (set-splice-below inverse (tab (λ r. div64 one64 (own r)) row) (splice diagonal (tab own row) F) (diagonal + row) (own row) b
-        ∙ ap (splice inverse (tab (λ r. div64 one64 (own r)) row)) (set-end diagonal row (tab own row) F (own row) (length-tab own row)))
-        ∙ set-end inverse row (tab (λ r. div64 one64 (own r)) row) (splice diagonal (tab own row ++ (own row ∷ [])) F) (div64 one64 (own row)) (length-tab _ row))
+        rw is (simp getD-splice-below)
 
-  -- A turn writes one row more.
-  pub settle-on : {G : List Float} {row entry : ℕ} {good p q : Bool} → EntriesOk w (length F) rows entries places values diagonal
-      → diagonal + rows ≤ inverse → Settling G row good → row < rows → entry ≡ idx w (places + row)
-      → p ≡ isPositive (at G (values + entry)) → q ≡ isFinite (div64 one64 (at G (values + entry)))
-      → Settling (set (set G (diagonal + row) (at G (values + entry))) (inverse + row) (div64 one64 (at G (values + entry)))) (row + 1) (good && (p && q))
+    write : set G (inverse + row) (div64 one64 (at G (diagonal + row))) ≡ splice inverse (recips (row + 1)) F
+    unfolding tab
+    write = rw (read, is, add-one row) (set-end inverse row (recips row) F (div64 one64 (at F (diagonal + row))) (length-tab _ row))
+
+  -- A turn writes one more.
+  pub invert-on : {G : List Float} {row : ℕ} {good p q : Bool} → diagonal + rows ≤ inverse → Inverting G row good → row < rows
+      → p ≡ isPositive (at G (diagonal + row)) → q ≡ isFinite (div64 one64 (at G (diagonal + row)))
+      → Inverting (set G (inverse + row) (div64 one64 (at G (diagonal + row)))) (row + 1) (good && (p && q))
   unfolding diagonalGood
-  settle-on {G} {row} {entry} ok l s h i e e' =
-      let same = read G row entry ok l (s .is) h i in
-      record { is = write G row entry ok l (s .is) h i; tested = tested-on (s .tested) h (rw (e, e', same)) }
+  invert-on {G} {row} l s h e e' =
+      let same = read G row l (s .is) h in
+      record { is = write G row l (s .is) h; tested = tested-on (s .tested) h (rw (e, e', same)) }
+
+module _ (w : List ℕ) (rows entries places values diagonal inverse : ℕ) (F : List Float) where
+  abbrev own : ℕ → Float
+  own = diagonalAt w rows entries places values F
+
+  -- The diagonals taken from their entries, and then their reciprocals.
+  pub rows-settled : {G H : List Float} {ok : Bool} → diagonal + rows ≤ inverse → inverse + rows ≤ length F → Wrote diagonal rows (tab own rows) F G
+      → Inverted rows diagonal inverse G H ok → RowsSettled w rows entries places values F diagonal inverse H ok
+  rows-settled {G} {H} {ok} l fits t s =
+      let here : (r : ℕ) → r < rows → at G (diagonal + r) ≡ own r = λ r h.
+      let b : diagonal + r < length F = omega arith in
+      let z : r < length (tab own rows) = rw (length-tab own rows) h in
+      rw (t .is) (simp (getD-splice-in, getD-tab)) in
+      let recips : tab (λ r. div64 one64 (at G (diagonal + r))) rows ≡ tab (λ r. div64 one64 (own r)) rows =
+      tab-same _ _ rows (λ r h. ap (div64 one64) (here r h)) in
+      record {
+        is = s .is ∙ rw (recips, t .is);
+        all = s .all ∙ each-same _ _ rows (λ r h. ap diagonalGood (here r h));
+      }
 
 -- ---- the questions of the rows
 

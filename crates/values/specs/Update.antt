@@ -98,6 +98,11 @@ pub record EntriesOk (w : List ℕ) (size n entries places values to : ℕ) : Ty
   pub image : values + entries ≤ to
   pub target : to + n ≤ size
 
+-- the diagonal stands in F: what a pass over it leaves, each reciprocal, and whether all rows are good
+pub record Inverted (rows diagonal inverse : ℕ) (F G : List Float) (r : Bool) : Type 0 where
+  pub is : G ≡ splice inverse (tab (λ row. div64 one64 (at F (diagonal + row))) rows) F
+  pub all : r ≡ each (λ row. diagonalGood (at F (diagonal + row))) rows
+
 -- a verdict, then the rest
 unfoldable pub after : Verdict → Outcome Coefficients → Outcome Coefficients
 after Verdict.Passed rest = rest

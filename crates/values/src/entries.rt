@@ -4,7 +4,7 @@ ghost use Prim.Native.Nat.{_+_, _≤_};
 ghost use lib.ListN.{length};
 ghost use Rattle.store.specs.Region.{idx, part, Wrote};
 ghost use Rattle.store.specs.Vector.{tab};
-ghost use Rattle.values.specs.Update.{isPositive, entryOf, updateAt, UpdateOk, Updated, EntriesOk, RowsUpdated, RowsSettled, RowsAsked};
+ghost use Rattle.values.specs.Update.{isPositive, entryOf, updateAt, UpdateOk, Updated, EntriesOk, Inverted, RowsUpdated, RowsSettled, RowsAsked};
 use matrix::SymmetricMatrix;
 use refusal::Refusal;
 use refusal::Verdict;
@@ -23,8 +23,39 @@ fn is_positive(d: f64) -> bool
     float::is_finite(d) & (d > 0.0)
 }
 
-// The diagonal of every row and its reciprocal, and whether all of them pass questions 12 and 13. No branch leaves the
-// loop, so that one division does not wait for the test of another.
+// The values of n entries, copied to `to` without a test: those of the diagonals are asked once they stand together, the
+// finiteness of the faces' of the whole image.
+fn pick(w: &[u32], f: &mut [f64], n: usize, entries: usize, places: usize, values: usize, to: usize)
+    requires { ⌜ EntriesOk (now w) (length (now f)) n entries places values to ⌝ }
+    ensures { λ _. ⌜ Wrote to n (tab (entryOf (part places n (now (w .entry))) (part values entries (now (f .entry)))) n) (now (f .entry)) (now (f .exit)) ⌝ }
+{
+    let mut k = 0;
+    while k < n {
+        let entry = store::index_at(w, places, k, entries);
+        f[to + k] = f[values + entry];
+        k += 1;
+    }
+}
+
+// The reciprocals of the diagonals that stand at `diagonal`, and whether all rows pass questions 12 and 13. No branch leaves
+// the loop and no index is looked up, so that it divides several at once.
+fn invert(f: &mut [f64], rows: usize, diagonal: usize, inverse: usize) -> bool
+    requires { ⌜ diagonal + rows ≤ inverse ⌝ }
+    requires { ⌜ inverse + rows ≤ length (now f) ⌝ }
+    ensures { λ r. ⌜ Inverted rows diagonal inverse (now (f .entry)) (now (f .exit)) r ⌝ }
+{
+    let mut ok = true;
+    let mut row = 0;
+    while row < rows {
+        let d = f[diagonal + row];
+        ok = ok & (is_positive(d) & float::is_finite(1.0 / d));
+        f[inverse + row] = 1.0 / d;
+        row += 1;
+    }
+    ok
+}
+
+// The diagonal of every row and its reciprocal, and whether all of them pass questions 12 and 13.
 fn settle_rows(
     w: &[u32],
     f: &mut [f64],
@@ -40,17 +71,8 @@ fn settle_rows(
     requires { ⌜ inverse + rows ≤ length (now f) ⌝ }
     ensures { λ r. ⌜ RowsSettled (now (w .entry)) rows entries places values (now (f .entry)) diagonal inverse (now (f .exit)) r ⌝ }
 {
-    let mut ok = true;
-    let mut row = 0;
-    while row < rows {
-        let entry = store::index_at(w, places, row, entries);
-        let d = f[values + entry];
-        ok = ok & (is_positive(d) & float::is_finite(1.0 / d));
-        f[diagonal + row] = d;
-        f[inverse + row] = 1.0 / d;
-        row += 1;
-    }
-    ok
+    pick(w, f, rows, entries, places, values, diagonal);
+    invert(f, rows, diagonal, inverse)
 }
 
 // Questions 12 and 13, row by row, of the diagonal that is written: which row fails first.
@@ -105,27 +127,6 @@ fn update_rows(
     ask_rows(f, rows, diagonal, level)
 }
 
-// The faces' values, copied without a test: their finiteness is asked of the whole image.
-fn update_faces(
-    w: &[u32],
-    f: &mut [f64],
-    faces: usize,
-    entries: usize,
-    places: usize,
-    values: usize,
-    coefficients: usize,
-)
-    requires { ⌜ EntriesOk (now w) (length (now f)) faces entries places values coefficients ⌝ }
-    ensures { λ _. ⌜ Wrote coefficients faces (tab (entryOf (part places faces (now (w .entry))) (part values entries (now (f .entry)))) faces) (now (f .entry)) (now (f .exit)) ⌝ }
-{
-    let mut face = 0;
-    while face < faces {
-        let entry = store::index_at(w, places, face, entries);
-        f[coefficients + face] = f[values + entry];
-        face += 1;
-    }
-}
-
 // New values for the matrix at s. Where a diagonal is refused, some rows may have been written.
 pub fn update(w: &[u32], f: &mut [f64], s: SymmetricMatrix, e: Entries, level: u64) -> Verdict
     requires { ⌜ UpdateOk (now w) (length (now f)) s e ⌝ }
@@ -145,7 +146,7 @@ pub fn update(w: &[u32], f: &mut [f64], s: SymmetricMatrix, e: Entries, level: u
     );
     match asked {
         Verdict::Passed => {
-            update_faces(w, f, faces, e.entries, e.faces, e.values, s.coefficients);
+            pick(w, f, faces, e.entries, e.faces, e.values, s.coefficients);
             Verdict::Passed
         }
         Verdict::Refused(refusal) => Verdict::Refused(refusal),

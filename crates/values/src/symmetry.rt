@@ -4,11 +4,11 @@ ghost use lib.ListN.{length};
 ghost use Rattle.store.specs.Region.{part};
 ghost use Rattle.values.specs.Mirrors.{mirrorsAgree, mirrorsEqual, MirrorsOk};
 
-// Both finite, and equal as numbers.
+// Both finite, and equal as numbers: what equals a finite number is finite.
 fn mirrors_agree(a: f64, b: f64) -> bool
     ensures { λ r. ⌜ r ≡ mirrorsAgree a b ⌝ }
 {
-    float::is_finite(a) & float::is_finite(b) & (a == b)
+    float::is_finite(a) & (a == b)
 }
 
 // Whether the values at each face's two positions agree. No branch leaves the loop: a symmetric image passes as a whole.

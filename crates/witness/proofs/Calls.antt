@@ -67,7 +67,7 @@ oneCell d i = record {
       links = [];
       positions = [];
     };
-    numbers = record { values = d ∷ []; coefficients = []; diagonal = d ∷ []; inverse = i ∷ []; dic = zero64 ∷ []; factor = [] };
+    numbers = record { coefficients = []; diagonal = d ∷ []; inverse = i ∷ []; dic = zero64 ∷ []; factor = [] };
   } ∷ [];
   sums = zero64 ∷ [];
 }

@@ -1,7 +1,7 @@
 -- `refresh::attempt` meets its contract: questions 31 and 10, the shadow, and the copy.
 -- Assumes nothing.
 use mathlib.Core.Path.{sym, _∙_}
-use Rattle.refresh.proofs.Updating.{ask-ready, start-ready, copy-room, shadow-ready, attempt-asked-no, attempt-no, attempt-yes}
+use Rattle.refresh.proofs.Updating.{ask-ready, start-ready, commit-ready, shadow-ready, attempt-asked-no, attempt-no, attempt-yes}
 use native.Mathlib.Omega.{arith}
 use borrow.Author.Needs.{needs}
 use Rattle.refresh.proofs.attempt.Statement.{statement}
@@ -32,17 +32,15 @@ returns-2 c o by under =
     (c .before .before .before .before .before .before .before .before .before .asked .ensures) (sym (c .before .before .before .before .before .before .before .before .refused .ensures) ∙ c .before .before .before .before .before .before .before .if1 .left) (c .before .before .before .before .before .before .scratch-start .ensures)
     (c .before .before .before .before .shadow .ensures o by under) (sym (c .before .refused2 .ensures) ∙ c .if2 .taken)
 
-copy-requires : tie.Need-copy-requires
-copy-requires c κs =
-    let room = copy-room (c .before .before .before .before .before .before .before .before .before .before .before .before .before .before .before .before .pre) (c .before .before .before .before .before .before .before .scratch-start .ensures) (c .before .before .before .before .before .shadow .kept .1 .0) in
-    record { source = omega arith; target = omega arith; clear = omega arith }
+commit-requires : tie.Need-commit-requires
+commit-requires c κs = search (commit-ready, needs)
 
 returns-3 : tie.Need-returns-3
 returns-3 c o by under =
     let start = c .before .before .before .before .before .before .before .before .before .before .before .before .before .before .before .before .before .before .before in
     attempt-yes (start .args .f .now) (start .pre) o (start .args .offsets .now) (start .args .columns .now) (start .args .values .now)
     (c .before .before .before .before .before .before .before .before .before .before .before .before .before .asked .ensures) (sym (c .before .before .before .before .before .before .before .before .before .before .before .before .refused .ensures) ∙ c .before .before .before .before .before .before .before .before .before .before .before .if1 .left) (c .before .before .before .before .before .before .before .before .before .before .scratch-start .ensures)
-    (c .before .before .before .before .before .before .before .before .shadow .ensures o by under) (sym (c .before .before .before .before .before .refused2 .ensures) ∙ c .before .before .before .before .if2 .left) (c .before .before .copy .ensures)
+    (c .before .before .before .before .before .before .before .before .shadow .ensures o by under) (sym (c .before .before .before .before .before .refused2 .ensures) ∙ c .before .before .before .before .if2 .left) (c .before .before .commit .ensures)
 
 pub attempt-spec : {M : Type 1} → statement M
 attempt-spec =
@@ -56,6 +54,6 @@ attempt-spec =
     (λ c κs. search needs)
     (λ c. search needs)
     returns-2
-    copy-requires
+    commit-requires
     (λ c. search needs)
     returns-3)

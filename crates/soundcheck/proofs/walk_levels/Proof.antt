@@ -4,7 +4,8 @@ use borrow.Author.Tests.{not-true, not-false}
 use mathlib.Core.Path.{_≡_, refl, _∙_}
 use Prim.Native.Nat.{_-_}
 use Rattle.sound.specs.declared.Walk.{Walk}
-use Rattle.soundlevel.proofs.Laws.{row-ok}
+use Rattle.soundlevel.proofs.Laws.{row-ok, rows-ok}
+use Rattle.sound.proofs.Laws.{head-told}
 use Rattle.sound.proofs.Sizes.{place-zero}
 use Rattle.soundcheck.proofs.Walking.{Outer, Inner, start, finish, stop, level-head, enter, leave, hit, next}
 use native.Mathlib.Omega.{arith}
@@ -32,19 +33,27 @@ place-at-requires c κs = place-zero _ _
     (level-head _ _ (c .before .before .before .walk .inv .0) (c .before .before .walk-test .taken) (c .before .level-sound .ensures)
     (not-false _ (c .if1 .left)))
 
+rows-from-requires : tie.Need-rows-from-requires Inv-loop μ-loop Inv-walk μ-walk
+rows-from-requires c κs = rows-ok _ _
+    (head-told _ _
+    (level-head _ _ (c .before .before .before .before .walk .inv .0) (c .before .before .before .walk-test .taken)
+    (c .before .before .level-sound .ensures) (not-false _ (c .before .if1 .left))))
+    (c .place-at .ensures)
+
 loop-holds : tie.Need-loop-holds Inv-loop μ-loop Inv-walk μ-walk
 loop-holds c = (
-  enter _ _ (c .before .before .before .before .walk .inv .0) (c .before .before .before .walk-test .taken)
-      (c .before .before .level-sound .ensures) (not-false _ (c .before .if1 .left)),
-  c .before .before .before .before .walk .inv .1,
+  enter _ _ (c .before .before .before .before .before .walk .inv .0) (c .before .before .before .before .walk-test .taken)
+      (c .before .before .before .level-sound .ensures) (not-false _ (c .before .before .if1 .left)) (c .before .place-at .ensures)
+      (c .rows-from .ensures),
+  c .before .before .before .before .before .walk .inv .1,
 )
 
 row-sound-requires : tie.Need-row-sound-requires Inv-loop μ-loop Inv-walk μ-walk
-row-sound-requires c κs = row-ok _ _ (c .before .before .loop .inv .0 .head) (c .before .before .before .place-at .ensures) (c .if2 .taken)
+row-sound-requires c κs = row-ok _ _ (c .before .before .loop .inv .0 .head) (c .before .before .before .before .place-at .ensures) (c .if2 .taken)
 
 loop-again : tie.Need-loop-again Inv-loop μ-loop Inv-walk μ-walk
 loop-again c = (
-  next _ _ (c .before .before .before .before .loop .inv .0) (c .before .before .before .before .before .place-at .ensures)
+  next _ _ (c .before .before .before .before .loop .inv .0) (c .before .before .before .before .before .before .place-at .ensures)
       (c .before .before .if2 .taken) (c .before .row-sound .ensures) (c .if3 .taken),
   c .before .before .before .before .loop .inv .1,
 )
@@ -54,7 +63,7 @@ words-end-requires c κs = c .before .before .loop .inv .0 .head .ends
 
 walk-again : tie.Need-walk-again Inv-loop μ-loop Inv-walk μ-walk
 walk-again c = (
-  leave _ _ (c .before .before .before .loop .inv .0) (c .before .before .before .before .place-at .ensures)
+  leave _ _ (c .before .before .before .loop .inv .0) (c .before .before .before .before .before .place-at .ensures)
       (c .before .if2 .left) (c .words-end .ensures),
   c .before .before .before .loop .inv .1,
 )
@@ -67,7 +76,7 @@ returns-2 c = stop _ _ (c .before .before .before .walk .inv .0) (c .before .bef
     (not-true _ (c .if1 .taken))
 
 returns-3 : tie.Need-returns-3 Inv-loop μ-loop Inv-walk μ-walk
-returns-3 c = hit _ _ (c .before .before .before .before .loop .inv .0) (c .before .before .before .before .before .place-at .ensures)
+returns-3 c = hit _ _ (c .before .before .before .before .loop .inv .0) (c .before .before .before .before .before .before .place-at .ensures)
     (c .before .before .if2 .taken) (c .before .row-sound .ensures) (c .if3 .left)
 
 pub walk-levels-spec : {M : Type 1} → statement M
@@ -83,6 +92,7 @@ walk-levels-spec =
     (λ c. omega arith)
     (λ c κs. search needs)
     place-at-requires
+    rows-from-requires
     loop-holds
     row-sound-requires
     (λ c. omega arith)

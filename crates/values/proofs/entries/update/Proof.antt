@@ -8,8 +8,8 @@ use Rattle.values.proofs.entries.update.Tie as tie
 update-rows-requires : tie.Need-update-rows-requires
 update-rows-requires c κs = search (rows-entries, needs)
 
-update-faces-requires : tie.Need-update-faces-requires
-update-faces-requires c κs = search (faces-entries)
+pick-requires : tie.Need-pick-requires
+pick-requires c κs = search (faces-entries)
 
 returns : tie.Need-returns
 returns c = search (update-yes)
@@ -27,7 +27,7 @@ update-spec =
     (λ c κs. search needs)
     update-rows-requires
     (λ c. search needs)
-    update-faces-requires
+    pick-requires
     (λ c. search needs)
     (λ c. search needs)
     returns

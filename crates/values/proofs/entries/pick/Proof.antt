@@ -1,4 +1,4 @@
--- `values::entries::update_faces` meets its contract. The loop's invariant: what is left to do from here gives what the whole gives.
+-- `values::entries::pick` meets its contract. The loop's invariant: what is left to do from here gives what the whole gives.
 -- Assumes nothing.
 use mathlib.Core.Path.{_≡_, refl}
 use Prim.Native.Nat.{_-_}
@@ -9,17 +9,17 @@ use Rattle.values.specs.Update.{pickTurn}
 use Rattle.values.proofs.UpdateLaws.{entry-of, pick-on, picked}
 use native.Mathlib.Omega.{arith}
 use borrow.Author.Needs.{needs}
-use Rattle.values.proofs.entries.update_faces.Statement.{statement}
-use Rattle.values.proofs.entries.update_faces.Tie as tie
+use Rattle.values.proofs.entries.pick.Statement.{statement}
+use Rattle.values.proofs.entries.pick.Tie as tie
 
 abbrev Inv-loop : tie.InvT-loop
-Inv-loop w f₀ faces entries places values coefficients face₀ f face =
+Inv-loop w f₀ n entries places values to k₀ f k =
     (length f ≡ length f₀)
-    × Left (pickTurn w places values coefficients) face faces f
-    (for (pickTurn w places values coefficients) 0 faces f₀)
+    × Left (pickTurn w places values to) k n f
+    (for (pickTurn w places values to) 0 n f₀)
 
 abbrev μ-loop : tie.MeasureT-loop
-μ-loop w f₀ faces entries places values coefficients face₀ f face = faces - face
+μ-loop w f₀ n entries places values to k₀ f k = n - k
 
 loop-holds : tie.Need-loop-holds Inv-loop μ-loop
 loop-holds c = (refl, left-start)
@@ -33,8 +33,8 @@ loop-again c = search (left-on, pick-on, needs)
 returns : tie.Need-returns Inv-loop μ-loop
 returns c = search (picked)
 
-pub update-faces-spec : {M : Type 1} → statement M
-update-faces-spec =
+pub pick-spec : {M : Type 1} → statement M
+pick-spec =
     tie.close
     (tie.spec
     Inv-loop
