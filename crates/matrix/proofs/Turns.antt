@@ -3,6 +3,7 @@
 use mathlib.Core.Path.{_≡_, ap, _∙_}
 use mathlib.Core.List.{List}
 use Prim.Native.Nat.{ℕ, _+_, _≤_, _<_}
+use native.Mathlib.Nat.{add-assoc}
 use native.Mathlib.Omega.{arith}
 use lib.ListN.{set}
 use lib.Ieee.{Float}
@@ -11,7 +12,7 @@ use Rattle.store.specs.Loop.{for}
 use Rattle.store.specs.Region.{at, idx}
 use Rattle.store.proofs.Loop.{Left, left-end}
 use Rattle.matrix.specs.Kernel.{Owned}
-use Rattle.matrix.specs.Turns.{faceTurn, rowTurn, sumTurn, sumRowTurn, Faced, Rowed, Spread, SumFaced, SumRowed, Summed, FacesOk, RowsOk}
+use Rattle.matrix.specs.Turns.{faceTurn, rowTurn, sumTurn, sumRowTurn, Faced, Rowed, RowedTo, Spread, SumFaced, SumRowed, Summed, FacesOk, RowsOk}
 
 -- A face's neighbour is a row.
 pub near-of : (w : List ℕ) (size n hi neighbors coefficients x out e : ℕ) → FacesOk w size n hi neighbors coefficients x out → e < hi
@@ -52,6 +53,13 @@ pub rowed : {op : Float → Float → Float} {w : List ℕ} {offsets neighbors c
 unfolding rowTurn
 rowed {op} {w} {offsets} {neighbors} {coefficients} {x} {out} {row} a b e =
     record { is = ap (λ (s : Owned). set (s .vector) (out + row) (s .owner)) (rw (a, b) at (e .is)) }
+
+-- The same, and its end is where the next row starts.
+pub rowed-to : {op : Float → Float → Float} {w : List ℕ} {offsets neighbors coefficients x out row lo hi : ℕ} {F G : List Float} {r : Float}
+    → lo ≡ idx w (offsets + row) → hi ≡ idx w (offsets + row + 1)
+    → Faced op w neighbors coefficients x out lo hi (at F (x + row)) F (at F (out + row)) G r
+    → RowedTo op w offsets neighbors coefficients x out row F (set G (out + row) r) hi
+rowed-to a b e = record { done = rowed a b e; next = rw add-assoc at b }
 
 -- The end of the loop over the rows.
 pub spread : {op : Float → Float → Float} {w : List ℕ} {rows offsets neighbors coefficients x out k : ℕ} {F G : List Float}

@@ -40,6 +40,11 @@ module _ (op : Float → Float → Float) (w : List ℕ) where
   pub record Rowed (offsets neighbors coefficients x out row : ℕ) (F G : List Float) : Type 0 where
     pub is : G ≡ rowTurn offsets neighbors coefficients x out row F
 
+  -- the same, and where those of the next row start
+  pub record RowedTo (offsets neighbors coefficients x out row : ℕ) (F G : List Float) (end : ℕ) : Type 0 where
+    pub done : Rowed offsets neighbors coefficients x out row F G
+    pub next : end ≡ idx w (offsets + (row + 1))
+
   -- what the faces of every row leave
   pub record Spread (rows offsets neighbors coefficients x out : ℕ) (F G : List Float) : Type 0 where
     pub is : G ≡ for (rowTurn offsets neighbors coefficients x out) 0 rows F

@@ -4,9 +4,9 @@ ghost use Prim.Native.Nat.{_+_, _<_, _≤_};
 ghost use lib.ListN.{length};
 ghost use Rattle.float.specs.Float.{add64, sub64};
 ghost use Rattle.store.specs.Loop.{for};
-ghost use Rattle.store.specs.Region.{part, Wrote};
+ghost use Rattle.store.specs.Region.{idx, part, Wrote};
 ghost use Rattle.matrix.specs.Kernel.{kernelAt, applyOf, residualOf, KernelOk};
-ghost use Rattle.matrix.specs.Turns.{productTurn, lessTurn, Faced, Rowed, Spread, FacesOk, RowsOk};
+ghost use Rattle.matrix.specs.Turns.{productTurn, lessTurn, Faced, RowedTo, Spread, FacesOk, RowsOk};
 
 // Where a matrix lies: offsets and neighbors in the words, the others in the floats. Each coefficient is stored once.
 pub struct SymmetricMatrix {
@@ -61,7 +61,7 @@ fn add_faces(
     owner
 }
 
-// The faces of one row.
+// The faces of one row, which start at lo. The answer is where they end.
 fn add_row(
     w: &[u32],
     f: &mut [f64],
@@ -72,12 +72,13 @@ fn add_row(
     x: usize,
     out: usize,
     row: usize,
-)
+    lo: usize,
+) -> usize
     requires { ⌜ RowsOk (now w) (length (now f)) rows offsets neighbors coefficients x out ⌝ }
     requires { ⌜ row < rows ⌝ }
-    ensures { λ _. ⌜ Rowed add64 (now (w .entry)) offsets neighbors coefficients x out row (now (f .entry)) (now (f .exit)) ⌝ }
+    requires { ⌜ lo ≡ idx (now w) (offsets + row) ⌝ }
+    ensures { λ r. ⌜ RowedTo add64 (now (w .entry)) offsets neighbors coefficients x out row (now (f .entry)) (now (f .exit)) r ⌝ }
 {
-    let lo = store::wide(w[offsets + row]);
     let hi = store::wide(w[offsets + row + 1]);
     let own = f[x + row];
     let start = f[out + row];
@@ -95,9 +96,10 @@ fn add_row(
         start,
     );
     f[out + row] = owner;
+    hi
 }
 
-// The faces of every row.
+// The faces of every row. Where those of a row end, those of the next start: it is read once.
 fn add_rows(
     w: &[u32],
     f: &mut [f64],
@@ -112,8 +114,20 @@ fn add_rows(
     ensures { λ _. ⌜ Spread add64 (now (w .entry)) rows offsets neighbors coefficients x out (now (f .entry)) (now (f .exit)) ⌝ }
 {
     let mut row = 0;
+    let mut lo = store::wide(w[offsets + row]);
     while row < rows {
-        add_row(w, f, rows, offsets, neighbors, coefficients, x, out, row);
+        lo = add_row(
+            w,
+            f,
+            rows,
+            offsets,
+            neighbors,
+            coefficients,
+            x,
+            out,
+            row,
+            lo,
+        );
         row += 1;
     }
 }
@@ -173,7 +187,7 @@ fn subtract_faces(
     owner
 }
 
-// The faces of one row, subtracted.
+// The faces of one row, subtracted, which start at lo. The answer is where they end.
 fn subtract_row(
     w: &[u32],
     f: &mut [f64],
@@ -184,12 +198,13 @@ fn subtract_row(
     x: usize,
     out: usize,
     row: usize,
-)
+    lo: usize,
+) -> usize
     requires { ⌜ RowsOk (now w) (length (now f)) rows offsets neighbors coefficients x out ⌝ }
     requires { ⌜ row < rows ⌝ }
-    ensures { λ _. ⌜ Rowed sub64 (now (w .entry)) offsets neighbors coefficients x out row (now (f .entry)) (now (f .exit)) ⌝ }
+    requires { ⌜ lo ≡ idx (now w) (offsets + row) ⌝ }
+    ensures { λ r. ⌜ RowedTo sub64 (now (w .entry)) offsets neighbors coefficients x out row (now (f .entry)) (now (f .exit)) r ⌝ }
 {
-    let lo = store::wide(w[offsets + row]);
     let hi = store::wide(w[offsets + row + 1]);
     let own = f[x + row];
     let start = f[out + row];
@@ -207,6 +222,7 @@ fn subtract_row(
         start,
     );
     f[out + row] = owner;
+    hi
 }
 
 // The faces of every row, subtracted.
@@ -224,8 +240,20 @@ fn subtract_rows(
     ensures { λ _. ⌜ Spread sub64 (now (w .entry)) rows offsets neighbors coefficients x out (now (f .entry)) (now (f .exit)) ⌝ }
 {
     let mut row = 0;
+    let mut lo = store::wide(w[offsets + row]);
     while row < rows {
-        subtract_row(w, f, rows, offsets, neighbors, coefficients, x, out, row);
+        lo = subtract_row(
+            w,
+            f,
+            rows,
+            offsets,
+            neighbors,
+            coefficients,
+            x,
+            out,
+            row,
+            lo,
+        );
         row += 1;
     }
 }

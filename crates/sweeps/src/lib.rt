@@ -13,7 +13,9 @@ ghost use Rattle.sweeps.specs.Contract.{GaussSeidelOk, Both};
 ghost use Rattle.sweeps.specs.Turns.{Stored, Watched, Handed, castTurn, forwardTurn, backwardTurn, Gathered, Fresh, SweepOk};
 use matrix::SymmetricMatrix;
 
-// start less a * v[neighbor] of each face from lo to hi.
+// start less a * v[neighbor] of each face from lo to hi. A neighbour is a row, so that the test never leaves the loop; it keeps the
+// compiler from taking two faces at a time. How many faces a row has is hard to foretell on coarse levels, and whether their
+// number is odd would be one more thing to guess.
 fn take_faces(
     w: &[u32],
     f: &[f64],
@@ -32,6 +34,9 @@ fn take_faces(
     let mut face = lo;
     while face < hi {
         let neighbor = store::index_at(w, neighbors, face, rows);
+        if neighbor >= rows {
+            return value;
+        }
         value = value - f[coefficients + face] * f[v + neighbor];
         face += 1;
     }

@@ -1,4 +1,5 @@
--- `sweeps::take_faces` meets its contract. The loop's invariant: what is left to do from here gives what the whole gives.
+-- `sweeps::take_faces` meets its contract. The loop's invariant: what is left to do from here gives what the whole gives. A neighbour is a
+-- row, so that the loop is not left before its end.
 -- Assumes nothing.
 use Prim.Native.Nat.{_-_}
 use Rattle.float.specs.Float.{sub64}
@@ -24,10 +25,13 @@ loop-holds c = left-start
 index-at-requires : tie.Need-index-at-requires Inv-loop μ-loop
 index-at-requires c κs = search (near-of, needs)
 
+never : tie.Need-returns Inv-loop μ-loop
+never c = absurd (omega arith)
+
 loop-again : tie.Need-loop-again Inv-loop μ-loop
 loop-again c = search (left-on, gather-on sub64, needs)
 
-returns : tie.Need-returns Inv-loop μ-loop
+returns : tie.Need-returns-2 Inv-loop μ-loop
 returns c = search (gathered)
 
 pub take-faces-spec : {M : Type 1} → statement M
@@ -38,6 +42,7 @@ take-faces-spec =
     μ-loop
     loop-holds
     index-at-requires
+    never
     (λ c. omega arith)
     (λ c. omega arith)
     (λ c. omega arith)
