@@ -45,24 +45,54 @@ fn controls(c: &[u64; 16]) -> MultigridOptions {
     )
 }
 
+// The sizes of the arrays as the text has them, and where the arrays start.
+struct Sizes {
+    rows: usize,
+    offsets: usize,
+    columns: usize,
+    values: usize,
+    given: bool,
+    weights: usize,
+    next: usize,
+}
+
+fn read_sizes(text: &[u8]) -> Sizes {
+    let rows = reading::number(text, 0);
+    let offsets = reading::number(text, rows.next);
+    let columns = reading::number(text, offsets.next);
+    let values = reading::number(text, columns.next);
+    let given = reading::number(text, values.next);
+    let weights = reading::number(text, given.next);
+    Sizes {
+        rows: rows.value as usize,
+        offsets: offsets.value as usize,
+        columns: columns.value as usize,
+        values: values.value as usize,
+        given: given.value != 0,
+        weights: weights.value as usize,
+        next: weights.next,
+    }
+}
+
 // The problem with these sizes, whose controls start at `at`, with the stores' sizes after them.
-fn sized(text: &[u8], at: usize, sizes: &[u64; 6]) -> Problem {
+fn sized(text: &[u8], at: usize, s: Sizes) -> Problem {
     let mut c = [0u64; 16];
-    let mut lent = [0u64; 3];
     let at = reading::numbers(text, at, 16, &mut c);
-    let next = reading::numbers(text, at, 3, &mut lent);
+    let words = reading::number(text, at);
+    let floats = reading::number(text, words.next);
+    let statistics = reading::number(text, floats.next);
     Problem {
-        rows: sizes[0] as usize,
-        offsets: sizes[1] as usize,
-        columns: sizes[2] as usize,
-        values: sizes[3] as usize,
-        given: sizes[4] != 0,
-        weights: sizes[5] as usize,
+        rows: s.rows,
+        offsets: s.offsets,
+        columns: s.columns,
+        values: s.values,
+        given: s.given,
+        weights: s.weights,
         options: controls(&c),
-        words: lent[0] as usize,
-        floats: lent[1] as usize,
-        statistics: lent[2] as usize,
-        next: next,
+        words: words.value as usize,
+        floats: floats.value as usize,
+        statistics: statistics.value as usize,
+        next: statistics.next,
     }
 }
 
@@ -74,13 +104,12 @@ fn read(
     values: &mut [f64],
     weights: &mut [f64],
 ) -> Problem {
-    let mut sizes = [0u64; 6];
-    let at = reading::numbers(text, 0, 6, &mut sizes);
-    let at = reading::words(text, at, sizes[1] as usize, offsets);
-    let at = reading::words(text, at, sizes[2] as usize, columns);
-    let at = reading::floats(text, at, sizes[3] as usize, values);
-    let at = reading::floats(text, at, sizes[5] as usize, weights);
-    sized(text, at, &sizes)
+    let s = read_sizes(text);
+    let at = reading::words(text, s.next, s.offsets, offsets);
+    let at = reading::words(text, at, s.columns, columns);
+    let at = reading::floats(text, at, s.values, values);
+    let at = reading::floats(text, at, s.weights, weights);
+    sized(text, at, s)
 }
 
 // The build that pairs by values. Each call has a function of its own, so that the choice between them stays small.

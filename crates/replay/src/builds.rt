@@ -33,11 +33,16 @@ struct Agreed {
 
 // Whether the answer is the one that is due, which starts at `at`.
 fn same_answer(text: &[u8], at: usize, a: Answer) -> Agreed {
-    let mut due = [0u64; 4];
-    let next = reading::numbers(text, at, 4, &mut due);
+    let number = reading::number(text, at);
+    let level = reading::number(text, number.next);
+    let row = reading::number(text, level.next);
+    let levels = reading::number(text, row.next);
     Agreed {
-        same: (a.number == due[0]) & (a.level == due[1]) & (a.row == due[2]) & (a.levels == due[3]),
-        next: next,
+        same: (a.number == number.value)
+            & (a.level == level.value)
+            & (a.row == row.value)
+            & (a.levels == levels.value),
+        next: levels.next,
     }
 }
 

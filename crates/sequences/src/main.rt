@@ -4,6 +4,7 @@
 // `stdin` is the list of sequences that `compare/run --list-sequences 8` writes: compare/README.md says what it draws, and
 // compare/src/sequence/list.rs what stands where.
 mod outcomes;
+mod recall;
 mod sequence;
 
 fn main() {

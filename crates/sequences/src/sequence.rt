@@ -1,5 +1,6 @@
 // A list of sequences beside the Rust's answers.
 use crate::outcomes;
+use crate::recall;
 use build::Built;
 use lists::least;
 use lists::reading;

@@ -1,10 +1,10 @@
--- `recall::updating::run_update` is safe and ends: each part that is lent lies within its array.
+-- `sequences::recall::updating::run_update` is safe and ends: each part that is lent lies within its array.
 -- Assumes nothing.
 use native.Mathlib.Omega.{arith}
 use borrow.Author.Needs.{needs}
 use lib.ListN.{length-take}
-use Rattle.recall.proofs.updating.run_update.Statement.{statement}
-use Rattle.recall.proofs.updating.run_update.Tie as tie
+use Rattle.sequences.proofs.recall.updating.run_update.Statement.{statement}
+use Rattle.sequences.proofs.recall.updating.run_update.Tie as tie
 
 slice-aggregate-update-values : tie.Need-slice-aggregate-update-values
 slice-aggregate-update-values c = simp length-take (omega arith)

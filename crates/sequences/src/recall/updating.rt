@@ -1,5 +1,5 @@
 // An update of a list: its arguments, the call, and its answer beside the one that is due.
-use crate::Agreed;
+use crate::recall::Agreed;
 use lists::least;
 use lists::reading;
 use options::Handle;
@@ -21,15 +21,16 @@ fn read_update(
     columns: &mut [u32],
     values: &mut [f64],
 ) -> UpdateCall {
-    let mut sizes = [0u64; 3];
-    let at = reading::numbers(text, at, 3, &mut sizes);
-    let at = reading::words(text, at, sizes[0] as usize, offsets);
-    let at = reading::words(text, at, sizes[1] as usize, columns);
-    let at = reading::floats(text, at, sizes[2] as usize, values);
+    let a = reading::number(text, at);
+    let b = reading::number(text, a.next);
+    let c = reading::number(text, b.next);
+    let at = reading::words(text, c.next, a.value as usize, offsets);
+    let at = reading::words(text, at, b.value as usize, columns);
+    let at = reading::floats(text, at, c.value as usize, values);
     UpdateCall {
-        offsets: sizes[0] as usize,
-        columns: sizes[1] as usize,
-        values: sizes[2] as usize,
+        offsets: a.value as usize,
+        columns: b.value as usize,
+        values: c.value as usize,
         answer: at,
     }
 }
@@ -93,11 +94,12 @@ fn update_kind(a: UpdateAnswer) -> usize {
 
 // Whether the answer is the one that is due, which starts at `at`.
 fn same_update(text: &[u8], at: usize, a: UpdateAnswer) -> Agreed {
-    let mut due = [0u64; 3];
-    let next = reading::numbers(text, at, 3, &mut due);
+    let number = reading::number(text, at);
+    let level = reading::number(text, number.next);
+    let row = reading::number(text, level.next);
     Agreed {
-        same: (a.number == due[0]) & (a.level == due[1]) & (a.row == due[2]),
-        next: next,
+        same: (a.number == number.value) & (a.level == level.value) & (a.row == row.value),
+        next: row.next,
         kind: update_kind(a),
     }
 }

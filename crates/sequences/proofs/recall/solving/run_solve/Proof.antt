@@ -1,10 +1,10 @@
--- `recall::solving::run_solve` is safe and ends: each part that is lent lies within its array.
+-- `sequences::recall::solving::run_solve` is safe and ends: each part that is lent lies within its array.
 -- Assumes nothing.
 use native.Mathlib.Omega.{arith}
 use borrow.Author.Needs.{needs}
 use lib.ListN.{length-take}
-use Rattle.recall.proofs.solving.run_solve.Statement.{statement}
-use Rattle.recall.proofs.solving.run_solve.Tie as tie
+use Rattle.sequences.proofs.recall.solving.run_solve.Statement.{statement}
+use Rattle.sequences.proofs.recall.solving.run_solve.Tie as tie
 
 slice-aggregate-solve : tie.Need-slice-aggregate-solve
 slice-aggregate-solve c = simp length-take (omega arith)

@@ -1,5 +1,5 @@
 // A solve of a list: its arguments, the call, and its answer with what it leaves beside those that are due.
-use crate::Agreed;
+use crate::recall::Agreed;
 use lists::least;
 use lists::reading;
 use lists::stores;
@@ -16,23 +16,39 @@ struct SolveCall {
     answer: usize,
 }
 
+// The controls of a solve, and where its answer starts.
+struct Controls {
+    options: LinearSolverOptions,
+    next: usize,
+}
+
+fn read_options(text: &[u8], at: usize) -> Controls {
+    let absolute = reading::number(text, at);
+    let relative = reading::number(text, absolute.next);
+    let iterations = reading::number(text, relative.next);
+    Controls {
+        options: LinearSolverOptions {
+            absolute_tolerance: float::of_bits(absolute.value),
+            relative_tolerance: float::of_bits(relative.value),
+            max_iterations: iterations.value,
+        },
+        next: iterations.next,
+    }
+}
+
 // Right-hand side and start of a solve into those that are lent.
 fn read_solve(text: &[u8], at: usize, rhs: &mut [f64], x: &mut [f64]) -> SolveCall {
-    let mut sizes = [0u64; 2];
-    let mut c = [0u64; 3];
-    let at = reading::numbers(text, at, 2, &mut sizes);
-    let at = reading::floats(text, at, sizes[0] as usize, rhs);
-    let at = reading::floats(text, at, sizes[1] as usize, x);
-    let at = reading::numbers(text, at, 3, &mut c);
+    let n = reading::number(text, at);
+    let m = reading::number(text, n.next);
+    let at = reading::floats(text, m.next, n.value as usize, rhs);
+    let at = reading::floats(text, at, m.value as usize, x);
+    let read = read_options(text, at);
+    let options = read.options;
     SolveCall {
-        rhs: sizes[0] as usize,
-        start: sizes[1] as usize,
-        options: LinearSolverOptions {
-            absolute_tolerance: float::of_bits(c[0]),
-            relative_tolerance: float::of_bits(c[1]),
-            max_iterations: c[2],
-        },
-        answer: at,
+        rhs: n.value as usize,
+        start: m.value as usize,
+        options: options,
+        answer: read.next,
     }
 }
 
@@ -123,18 +139,24 @@ struct After {
 
 // Whether answer and checksums are those that are due, which start at `at`.
 fn same_solve(text: &[u8], at: usize, a: SolveAnswer, after: After) -> Agreed {
-    let mut due = [0u64; 8];
-    let next = reading::numbers(text, at, 8, &mut due);
+    let number = reading::number(text, at);
+    let status = reading::number(text, number.next);
+    let iterations = reading::number(text, status.next);
+    let initial = reading::number(text, iterations.next);
+    let last = reading::number(text, initial.next);
+    let relative = reading::number(text, last.next);
+    let solution = reading::number(text, relative.next);
+    let statistics = reading::number(text, solution.next);
     Agreed {
-        same: (a.number == due[0])
-            & (a.status == due[1])
-            & (a.iterations == due[2])
-            & (a.initial == due[3])
-            & (a.last == due[4])
-            & (a.relative == due[5])
-            & (after.solution == due[6])
-            & (after.statistics == due[7]),
-        next: next,
+        same: (a.number == number.value)
+            & (a.status == status.value)
+            & (a.iterations == iterations.value)
+            & (a.initial == initial.value)
+            & (a.last == last.value)
+            & (a.relative == relative.value)
+            & (after.solution == solution.value)
+            & (after.statistics == statistics.value),
+        next: statistics.next,
         kind: solve_kind(a),
     }
 }
