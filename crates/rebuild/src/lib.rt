@@ -123,7 +123,7 @@ fn plain(
     floats: &mut [f64],
     statistics: &mut [u64],
 ) -> Built {
-    multigrid::new(
+    making::new(
         rows,
         offsets,
         columns,
@@ -147,7 +147,7 @@ fn weighted(
     floats: &mut [f64],
     statistics: &mut [u64],
 ) -> Built {
-    multigrid::new_with_face_weights(
+    making::new_with_face_weights(
         rows,
         offsets,
         columns,
