@@ -282,7 +282,6 @@ ask-then (refused p) holds q f = refl
 -- The levels from the values `old` of the first.
 module _ {w : List ℕ} (old F : List Float) {left level a b : ℕ} (ok : RenewOk w (length F) left level a b) (o : MultigridOptions)
     {p : Place} (is : p ≡ locate w a b) where
-
   -- The last level.
   pub renewed-last : left ≡ 1 → {coupled : ℕ} → coupled ≡ idx w (a + 2) → {G : List Float} {r : Verdict}
       → LevelDone w old F G o p true coupled level r → Renewed o left level w old F G a b r

@@ -178,7 +178,14 @@ fn coefficients_given(w: &[u32], given: &[f64], f: &mut [f64], p: Place, level: 
 }
 
 // The numbers of a level that is not the last, from values that are given: 11, 12 and 13, then 16 and 17.
-pub fn first_level(w: &[u32], given: &[f64], f: &mut [f64], dic: bool, p: Place, level: u64) -> Verdict
+pub fn first_level(
+    w: &[u32],
+    given: &[f64],
+    f: &mut [f64],
+    dic: bool,
+    p: Place,
+    level: u64,
+) -> Verdict
     requires { ⌜ LevelOk (now w) (length (now f)) p 0 ⌝ }
     requires { ⌜ p .entries ≤ length (now given) ⌝ }
     ensures { λ r. ⌜ Under dic (λ o. LevelDone (now (w .entry)) (now (given .entry)) (now (f .entry)) (now (f .exit)) o p false 0 level r) ⌝ }

@@ -40,7 +40,15 @@ fn first_turn(w: &[u32], given: &[f64], f: &mut [f64], dic: bool, p: Place, t: P
 }
 
 // The levels from `first` on, which stands at p with its values. The words of the last level tell its coupled rows.
-fn renew_rest(w: &[u32], f: &mut [f64], dic: bool, levels: u64, first: u64, start: usize, q: Place) -> Verdict
+fn renew_rest(
+    w: &[u32],
+    f: &mut [f64],
+    dic: bool,
+    levels: u64,
+    first: u64,
+    start: usize,
+    q: Place,
+) -> Verdict
     requires { ⌜ RestOk (now w) (length (now f)) levels first start q ⌝ }
     ensures { λ r. ⌜ Under dic (λ o. Renewed o (levels - first) first (now (w .entry)) (part (q .values) (q .entries) (now (f .entry))) (now (f .entry)) (now (f .exit)) start (q .values) r) ⌝ }
 {
@@ -76,7 +84,14 @@ fn load(f: &mut [f64], from: &[f64], to: usize)
 
 // So many levels, whose floats start at `image`, from the values of the finest, which are given; `dic` tells whether the smoother needs
 // DIC data. The finest level reads them where they are; only where it is the last, which a factor is made of, they are copied.
-pub fn renew(w: &[u32], given: &[f64], f: &mut [f64], dic: bool, levels: u64, image: usize) -> Verdict
+pub fn renew(
+    w: &[u32],
+    given: &[f64],
+    f: &mut [f64],
+    dic: bool,
+    levels: u64,
+    image: usize,
+) -> Verdict
     requires { ⌜ StartOk (now w) (length (now f)) (length (now given)) levels image ⌝ }
     ensures { λ r. ⌜ Under dic (λ o. Renewed o levels 0 (now (w .entry)) (now (given .entry)) (now (f .entry)) (now (f .exit)) 0 image r) ⌝ }
 {
