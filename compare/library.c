@@ -30,9 +30,10 @@ static void later_calls(void) {
                            residuals, 3) == 0 &&
                place[0] == 0 && place[1] == 1 && residuals[0] == 2 && residuals[1] == 0 && x[0] == 1 && x[1] == 1,
            "multigrid_solve");
+    /* Behind the four values of the level, which are scratch, stand its coefficient and its diagonal. */
     expect(multigrid_update_values(1, 2, 4, CONTROLS, offsets, 3, columns, 4, fourfold, 4, words, 256, floats, 512,
                                    statistics, 8, place, 3) == 0 &&
-               floats[0] == 16,
+               floats[4] == -8 && floats[5] == 16 && floats[6] == 8,
            "multigrid_update_values");
     x[0] = x[1] = 0;
     expect(multigrid_solve(1, 2, 4, CONTROLS, words, 256, floats, 512, statistics, 8, rhs, 2, x, 2, 0, 0.5, 5, place, 3,
