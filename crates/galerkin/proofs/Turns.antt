@@ -15,7 +15,7 @@ use Rattle.store.specs.Vector.{filled}
 use Rattle.store.proofs.Region.{getD-part, splice-part, wrote, wrote-at, wrote-off, wrote-again}
 use borrow.Author.Tests.{eq-eqb, ne-eqb}
 use Rattle.galerkin.specs.Values.{addEntry, sumsOf, meanOf, averageFace, symmetrizeOf, zeroEntry, zeroEntries, zeroRow, zeroDiagonalOf}
-use Rattle.galerkin.specs.Values.{SumsOk, FacesOk, EntriesOk, RowsOk}
+use Rattle.galerkin.specs.Values.{SumsOk, GivenOk, FacesOk, EntriesOk, RowsOk}
 use Rattle.galerkin.proofs.Region.{Going, going-on, wrote-set}
 
 -- ---- sums by position
@@ -56,6 +56,42 @@ sums-done {w} {F} {G} {H} {m} {positions} {values} {total} {out} ok z t =
 pub sums-after : {w : List ℕ} {F G v : List Float} {m positions values total out b n : ℕ} → SumsOk w (length F) m positions values total out
     → Wrote b n v F G → SumsOk w (length G) m positions values total out
 sums-after ok t = rw (t .size) ok
+
+-- ---- the same of values that are given
+
+-- The invariant of `add_given`: the entries before e have been added.
+abbrev pub Giving : List ℕ → List Float → ℕ → ℕ → ℕ → ℕ → ℕ → List Float → List Float → Type 0
+Giving w given m positions total out e F G =
+    Going (addEntry (part positions m w) given) out total e m (for (addEntry (part positions m w) given) 0 m (part out total F)) F G
+
+-- A position is below total.
+pub given-near : {w : List ℕ} {size count m positions total out e : ℕ} → GivenOk w size count m positions total out → e < m → idx w (positions + e) < total
+given-near {w} {size} {count} {m} {positions} {total} {out} {e} ok h = rw (getD-part positions m w e 0 h) at (ok .near e h)
+
+-- One entry more.
+pub given-on : {w : List ℕ} (given : List Float) {F G : List Float} {m positions total out e i : ℕ} → GivenOk w (length F) (length given) m positions total out
+    → Giving w given m positions total out e F G → e < m → i ≡ idx w (positions + e)
+    → Giving w given m positions total out (e + 1) F (set G (out + i) (add64 (at G (out + i)) (at given e)))
+unfolding addEntry
+given-on {w} given {F} {G} {m} {positions} {total} {out} {e} {i} ok g h is =
+    let size : length G ≡ length F = g .written .size in
+    let near : idx w (positions + e) < total = given-near ok h in
+    let l : i < total = omega arith in
+    let p : idx (part positions m w) e ≡ i = getD-part positions m w e 0 h ∙ sym is in
+    let own : at (part out total G) i ≡ at G (out + i) = getD-part out total G i nan l in
+    going-on (ok .room) g h (rw (p, own) (wrote-set out total i (add64 (at G (out + i)) (at given e)) G (omega arith) l))
+
+-- `sum_given`: entries added to zeros.
+pub given-done : {w : List ℕ} (given : List Float) {F G H : List Float} {m positions total out : ℕ} → GivenOk w (length F) (length given) m positions total out
+    → Wrote out total (filled total zero64) F G → Wrote out total (for (addEntry (part positions m w) given) 0 m (part out total G)) G H
+    → Wrote out total (sumsOf total m (part positions m w) given) F H
+unfolding sumsOf
+given-done given ok z t = rw (wrote-at z (ok .room)) at (wrote-again z t)
+
+-- What the entries need, after the zeros.
+pub given-after : {w : List ℕ} {F G v : List Float} {count m positions total out b n : ℕ} → GivenOk w (length F) count m positions total out
+    → Wrote b n v F G → GivenOk w (length G) count m positions total out
+given-after ok t = rw (t .size) ok
 
 -- ---- half plus half
 

@@ -75,6 +75,13 @@ pub record SumsOk (w : List ℕ) (size m positions values total out : ℕ) : Typ
   pub room : out + total ≤ size
   pub near : (e : ℕ) → e < m → idx (part positions m w) e < total
 
+-- the same of m values out of `count` that are given
+pub record GivenOk (w : List ℕ) (size count m positions total out : ℕ) : Type 0 where
+  pub table : positions + m ≤ length w
+  pub many : m ≤ count
+  pub room : out + total ≤ size
+  pub near : (e : ℕ) → e < m → idx (part positions m w) e < total
+
 -- for each face two entries of `total` values
 pub record FacesOk (w : List ℕ) (size faces upper lower total values : ℕ) : Type 0 where
   pub uppers : upper + faces ≤ length w

@@ -1,19 +1,14 @@
--- Values loaded into the shadow, and the row sums of the finest level.
+-- The row sums of the finest level.
 -- Assumes nothing.
-use mathlib.Core.Path.{_≡_, refl, sym, ap, _∙_, subst}
+use mathlib.Core.Path.{_≡_, sym, ap, subst}
 use mathlib.Core.Bool.{Bool, true, false, cond}
 use mathlib.Core.List.{List}
 use Prim.Native.Nat.{ℕ, _+_, _-_, _*_, _≤_}
 use native.Mathlib.Omega.{arith}
-use lib.ListN.{length, getD, set}
 use lib.Ieee.{Float}
 use Rattle.float.specs.Float.{zero64}
-use Rattle.store.specs.Loop.{for}
-use Rattle.store.specs.Region.{splice, Wrote}
+use Rattle.store.specs.Region.{Wrote}
 use Rattle.store.specs.Vector.{filled}
-use Rattle.store.proofs.Loop.{Left, left-end}
-use Rattle.store.proofs.Region.{wrote}
-use Rattle.store.proofs.Vector.{tab-getD, for-each}
 use Rattle.options.specs.declared.MultigridResidualNorm.{MultigridResidualNorm}
 use Rattle.matrix.specs.declared.SymmetricMatrix.{SymmetricMatrix}
 use Rattle.matrix.specs.Kernel.{kernelAt, rowSumsOf, KernelOk}
@@ -22,20 +17,6 @@ use Rattle.layout.specs.declared.Place.{Place}
 use Rattle.layout.specs.Layout.{locate}
 use Rattle.layout.specs.Parts.{kernelIn}
 use Rattle.refresh.specs.Steps.{SumOk, sumsAt, Summed}
-
--- a turn of a loop that copies the list v; d stands for what is past its end
-unfoldable pub loadTurn : {A : Type 0} → A → List A → ℕ → ℕ → List A → List A
-loadTurn d v to k F = set F (to + k) (getD v k d)
-
--- A loop that copies v leaves it at `to`.
-pub load-done : {A : Type 0} {v F G : List A} {to k : ℕ} (d : A)
-    → Left (loadTurn d v to) k (length v) G (for (loadTurn d v to) 0 (length v) F)
-    → length v ≤ k → Wrote to (length v) v F G
-unfolding loadTurn
-load-done {A} {v} {F} {G} {to} d l h =
-    wrote (left-end l h
-    ∙ for-each to (length v) F (λ k _. getD v k d) (λ _ _ _ _. refl)
-    ∙ ap (λ (u : List A). splice to u F) (tab-getD d v (length v) refl)) refl
 
 -- A choice that fails,
 cond-no : {A : Type 0} (b : Bool) (x y : A) → b ≡ false → cond b x y ≡ y

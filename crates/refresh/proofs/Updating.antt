@@ -31,7 +31,7 @@ use Rattle.layout.proofs.Views.{floats-to}
 use Rattle.sound.specs.Sound.{shapeIn, scratchStart}
 use Rattle.sound.specs.Contract.{LevelsOk}
 use Rattle.renewing.specs.Update.{samePattern, renewOf, updateOf}
-use Rattle.renewing.specs.Steps.{Under, shapesAt, RenewOk, Renewed}
+use Rattle.renewing.specs.Steps.{Under, shapesAt, StartOk, Renewed}
 use Rattle.renewing.proofs.Chains.{Opened, opened}
 use Rattle.renewing.proofs.Levels.{kernel-ready}
 use Rattle.renewing.proofs.Outcomes.{never, verdict-then, told-accepted, told-refused}
@@ -62,17 +62,9 @@ module _ {levels : ℕ} {w : List ℕ} {size count image : ℕ} (ok : ShadowOk l
   first : Opened w size levels 0 0 image
   first = opened (ok .chain) (ok .some)
 
-  -- There is room for the values.
-  pub load-ready : image + count ≤ size
-  load-ready =
-      let o = first .ends in
-      let e = floats-end w 0 image in
-      let many = ok .many in
-      omega arith
-
   -- What the levels require.
-  pub renew-ready : {now : ℕ} → now ≡ size → RenewOk w now levels 0 0 image
-  renew-ready e = subst (λ (n : ℕ). RenewOk w n levels 0 0 image) (sym e) (record { chain = ok .chain; some = ok .some })
+  pub renew-ready : StartOk w size count levels image
+  renew-ready = record { ok = record { chain = ok .chain; some = ok .some }; many = ok .many }
 
   -- The levels of the shadow end where its row sums start.
   ends-far : (imageEnd levels w 0 image ≡ sumsStart w image) × (floatsEnd w 0 image ≤ sumsStart w image)
@@ -99,37 +91,27 @@ module _ {levels : ℕ} {w : List ℕ} {size count image : ℕ} (ok : ShadowOk l
         fits = omega arith;
       }
 
--- The levels of the shadow, renewed from the values that were loaded.
+-- The levels of the shadow, renewed from the values.
 module _ {levels : ℕ} {w : List ℕ} (F : List Float) {values : List Float} {image : ℕ} (ok : ShadowOk levels w (length F) (length values) image)
-    {E : List Float} (loaded : Wrote image (length values) values F E) (o : MultigridOptions) {kind : MultigridSmoother} (by : o .smoother ≡ kind)
-    {dic : Bool} (needed : dic ≡ needsDic kind) {G : List Float} {v : Verdict} (all : Under dic (λ o. Renewed o levels 0 w E G 0 image v)) where
+    (o : MultigridOptions) {kind : MultigridSmoother} (by : o .smoother ≡ kind)
+    {dic : Bool} (needed : dic ≡ needsDic kind) {G : List Float} {v : Verdict} (all : Under dic (λ o. Renewed o levels 0 w values F G 0 image v)) where
   -- under these options
-  done : Renewed o levels 0 w E G 0 image v
+  done : Renewed o levels 0 w values F G 0 image v
   done = all o (ap needsDic by ∙ sym needed)
 
   -- the levels, from the new values
   abbrev renewed : Outcome (List Level)
   renewed = renewOf o 0 (shapesAt levels w 0) values
 
-  -- The values stand where the finest level has them,
-  loaded-is : part image (entriesAt w 0) E ≡ values
-  loaded-is =
-      let room = load-ready ok in
-      ap (λ (n : ℕ). part image n E) (sym (ok .many)) ∙ wrote-at loaded room
-
-  -- so the answer is that of the definition.
-  renewed-is : v ≡ verdictOf renewed
-  renewed-is = done .answer ∙ ap (λ (u : List Float). verdictOf (renewOf o 0 (shapesAt levels w 0) u)) loaded-is
-
   -- A level refuses.
   pub shadow-no : isRefused v ≡ true → ShadowDone o levels w F G values image v
   shadow-no told =
-      let no = told-refused renewed renewed-is told in
+      let no = told-refused renewed (done .answer) told in
       let refusal : shadowOf o levels w values ≡ refused (no .0) = then-refused renewed (λ ls. accepted (withSums o ls)) (no .1) in
       record {
         answer = no .2 ∙ sym (ap verdictOf refusal);
         view = λ h e. never refusal e;
-        kept = kept-on (kept-wrote loaded (omega arith)) (done .kept);
+        kept = done .kept;
       }
 
   -- All levels and the row sums are there.
@@ -140,22 +122,21 @@ module _ {levels : ℕ} {w : List ℕ} (F : List Float) {values : List Float} {i
       let s : Summed w G H (o .«residual_norm») image = subst (λ (n : MultigridResidualNorm). Summed w G H n image) (sym under) summed in
       let far = ends-far ok .0 in
       let size = done .kept .size in
-      let load = loaded .size in
       let room = ok .room in
       let im = ok .is in
       let frame : Kept (sumsStart w image) G H = kept-wrote (s .wrote) (omega arith) in
       record {
-        answer = renewed-is ∙ sym (verdict-then renewed (withSums o));
+        answer = done .answer ∙ sym (verdict-then renewed (withSums o));
         view = λ h e.
             let t = then-split renewed (λ ls. accepted (withSums o ls)) e in
             let here : levelsAt levels w G 0 image ≡ t .0 =
-            done .levels (t .0) (ap (λ (u : List Float). renewOf o 0 (shapesAt levels w 0) u) loaded-is ∙ t .1) in
+            done .levels (t .0) (t .1) in
             let opens = levels-some levels w G 0 image (ok .some) in
             let stay : levelsAt levels w H 0 image ≡ levelsAt levels w G 0 image = levels-stay frame levels w 0 image (omega arith) in
             let sums = ap (λ (n : ℕ). part n (rowsAt w 0) H) far ∙ wrote-at (s .wrote) (omega arith) in
             let made = sums-are o w G 0 image (levelsAt (levels - 1) w G (wordsEnd w 0) (floatsEnd w 0 image)) in
             rw (stay, sums, opens) (sym made) ∙ ap (withSums o) (sym opens ∙ here) ∙ accepted-one (t .2);
-        kept = kept-on (kept-wrote loaded (omega arith)) (kept-on (done .kept) (kept-less frame (omega arith)));
+        kept = kept-on (done .kept) (kept-less frame (omega arith));
       }
 
 -- ---- the update

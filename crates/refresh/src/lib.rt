@@ -1,9 +1,7 @@
 // `update_values` of mod.rs: new values for the levels of a hierarchy. The new image is computed in a shadow behind the old one and copied
 // over it once nothing can be refused any more.
 ghost use mathlib.Core.Path.{_≡_};
-ghost use Prim.Native.Nat.{_+_, _≤_};
 ghost use lib.ListN.{length};
-ghost use Rattle.store.specs.Region.{Wrote};
 ghost use Rattle.hierarchy.specs.Refresh.{needsDic};
 ghost use Rattle.refresh.specs.Contract.{updatedAt, UpdateDone};
 ghost use Rattle.refresh.specs.Steps.{With, SumOk, Summed, ShadowOk, ShadowDone, CommitOk, Committed, AttemptOk, attemptOf, Attempted, toldOf, UpdateOk};
@@ -19,19 +17,6 @@ mod arrays;
 pub enum Updated {
     Done,
     Refused(Refusal),
-}
-
-// The values `from`, copied to `to`.
-fn load(f: &mut [f64], from: &[f64], to: usize)
-    requires { ⌜ to + length (now from) ≤ length (now f) ⌝ }
-    ensures { λ _. ⌜ Wrote to (length (now (from .entry))) (now (from .entry)) (now (f .entry)) (now (f .exit)) ⌝ }
-{
-    let n = from.len();
-    let mut k = 0;
-    while k < n {
-        f[to + k] = from[k];
-        k += 1;
-    }
 }
 
 // Whether the smoother needs DIC data.
@@ -73,8 +58,7 @@ fn shadow(
     requires { ⌜ ShadowOk levels (now w) (length (now f)) (length (now values)) image ⌝ }
     ensures { λ r. ⌜ With kind norm (λ o. ShadowDone o levels (now (w .entry)) (now (f .entry)) (now (f .exit)) (now (values .entry)) image r) ⌝ }
 {
-    load(f, values, image);
-    let answer = renewing::renew(w, f, needs_dic(kind), levels, image);
+    let answer = renewing::renew(w, values, f, needs_dic(kind), levels, image);
     if answer.refused() {
         return answer;
     }

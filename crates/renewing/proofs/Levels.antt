@@ -18,7 +18,7 @@ use Rattle.vector.specs.Dot.{allFinite}
 use Rattle.matrix.specs.declared.SymmetricMatrix.{SymmetricMatrix}
 use Rattle.matrix.specs.Kernel.{kernelAt, KernelOk}
 use Rattle.values.specs.declared.entries.Entries.{Entries}
-use Rattle.values.specs.Update.{Coefficients, updateAt, UpdateOk, Updated}
+use Rattle.values.specs.Update.{Coefficients, updateWith, updateAt, UpdateOk, Updated}
 use Rattle.dic.specs.Dic.{dicOf, settled, Settled, DicOk}
 use Rattle.cholesky.specs.declared.Terminal.{Terminal}
 use Rattle.cholesky.specs.Factor.{choleskyOf}
@@ -27,7 +27,7 @@ use Rattle.galerkin.specs.Values.{sumsOf, symmetrizeOf, FacesOk}
 use Rattle.layout.specs.declared.Place.{Place}
 use Rattle.layout.specs.Parts.{kernelIn, entriesIn, terminalIn}
 use Rattle.renewing.specs.Update.{diagonalStands, diagonalsStand}
-use Rattle.renewing.specs.Steps.{LevelOk, bareAt, CoefficientsOk, coefficientsAsked, smootherAt, SmootherOk, factorOf, FactorOk, FactorDone, CoarseOk, coarseAt, CoarseDone}
+use Rattle.renewing.specs.Steps.{LevelOk, bareAt, CoefficientsOk, coefficientsAsked, smootherAt, SmootherOk, factorOf, FactorOk, FactorDone, coarseAt, CoarseDone}
 use Rattle.renewing.proofs.Outcomes.{never}
 use Rattle.renewing.proofs.Standing.{stand-all, stand-not}
 
@@ -114,17 +114,22 @@ module _ {w : List ℕ} {size : ℕ} {p : Place} (ok : CoefficientsOk w size p) 
   pub update-ready : {k : SymmetricMatrix} {e : Entries} → k ≡ kernelIn p → e ≡ entriesIn p → UpdateOk w size k e
   update-ready kernel image = rw (kernel, image) (ok .update)
 
-module _ (w : List ℕ) (F : List Float) (p : Place) (level : ℕ) {all : Bool} (asked : all ≡ each (diagonalStands (bareAt w p)) (p .rows)) where
+  -- The same where the values are given.
+  pub given-ready : {count : ℕ} → p .entries ≤ count → {k : SymmetricMatrix} {e : Entries} → k ≡ kernelIn p → e ≡ entriesIn p
+      → UpdateOk w size k e × (e .entries ≤ count)
+  given-ready many kernel image = rw (kernel, image) (ok .update, many)
+
+module _ (w : List ℕ) (values F : List Float) (p : Place) (level : ℕ) {all : Bool} (asked : all ≡ each (diagonalStands (bareAt w p)) (p .rows)) where
   -- what 12 and 13 ask
-  abbrev values : Outcome Coefficients
-  values = updateAt level (kernelIn p) (entriesIn p) w F
+  abbrev wanted : Outcome Coefficients
+  wanted = updateWith level (kernelIn p) (entriesIn p) w values
 
   -- Question 11 refuses.
   pub coefficients-no : all ≡ false → {v : Verdict} → v ≡ verdictOf (diagonalsStand level (bareAt w p))
-      → Updated w (kernelIn p) (coefficientsAsked level w F p) F F v
+      → Updated w (kernelIn p) (coefficientsAsked level w values p) F F v
   coefficients-no told e =
       let no = stand-not level w p asked told in
-      let refusal : coefficientsAsked level w F p ≡ refused (no .0) = then-refused (diagonalsStand level (bareAt w p)) (λ _. values) (no .1) in
+      let refusal : coefficientsAsked level w values p ≡ refused (no .0) = then-refused (diagonalsStand level (bareAt w p)) (λ _. wanted) (no .1) in
       record {
         verdict = e ∙ ap verdictOf (no .1) ∙ sym (ap verdictOf refusal);
         holds = λ k e. never refusal e;
@@ -132,13 +137,24 @@ module _ (w : List ℕ) (F : List Float) (p : Place) (level : ℕ) {all : Bool} 
       }
 
   -- It passes.
-  pub coefficients-made : all ≡ true → {k : SymmetricMatrix} {e : Entries} → k ≡ kernelIn p → e ≡ entriesIn p → {G : List Float} {v : Verdict}
-      → Updated w k (updateAt level k e w F) F G v → Updated w (kernelIn p) (coefficientsAsked level w F p) F G v
-  coefficients-made told {k} {e} kernel image {G} {v} made =
-      let own : Updated w (kernelIn p) values F G v = rw (kernel, image) at made in
-      let through : coefficientsAsked level w F p ≡ values =
-      then-accepted (diagonalsStand level (bareAt w p)) (λ _. values) (stand-all level w p asked told) in
-      subst (λ (x : Outcome Coefficients). Updated w (kernelIn p) x F G v) (sym through) own
+  through : all ≡ true → {G : List Float} {v : Verdict} → Updated w (kernelIn p) wanted F G v
+      → Updated w (kernelIn p) (coefficientsAsked level w values p) F G v
+  through told {G} {v} made =
+      let same : coefficientsAsked level w values p ≡ wanted =
+      then-accepted (diagonalsStand level (bareAt w p)) (λ _. wanted) (stand-all level w p asked told) in
+      subst (λ (x : Outcome Coefficients). Updated w (kernelIn p) x F G v) (sym same) made
+
+  -- It passes, and the values are given.
+  pub coefficients-given : all ≡ true → {k : SymmetricMatrix} {e : Entries} → k ≡ kernelIn p → e ≡ entriesIn p → {G : List Float} {v : Verdict}
+      → Updated w k (updateWith level k e w values) F G v → Updated w (kernelIn p) (coefficientsAsked level w values p) F G v
+  coefficients-given told kernel image made = through told (rw (kernel, image) at made)
+
+-- It passes, and the values stand in the store.
+pub coefficients-made : (w : List ℕ) (F : List Float) (p : Place) (level : ℕ) {all : Bool} → all ≡ each (diagonalStands (bareAt w p)) (p .rows) → all ≡ true
+    → {k : SymmetricMatrix} {e : Entries} → k ≡ kernelIn p → e ≡ entriesIn p → {G : List Float} {v : Verdict} → Updated w k (updateAt level k e w F) F G v
+    → Updated w (kernelIn p) (coefficientsAsked level w (part (p .values) (p .entries) F) p) F G v
+coefficients-made w F p level asked told kernel image made =
+    through w (part (p .values) (p .entries) F) F p level asked told (rw (kernel, image) at made)
 
 -- ---- the DIC data
 
@@ -207,25 +223,25 @@ module _ {w : List ℕ} {F H : List Float} {p : Place} {coupled : ℕ} (ok : Fac
 
 -- ---- the values of the next level
 
-module _ {w : List ℕ} {F G : List Float} {p t : Place} (ok : CoarseOk w (length F) p t)
-    (summed : Wrote (t .values) (t .entries) (sumsOf (t .entries) (p .entries) (part (p .positions) (p .entries) w) (part (p .values) (p .entries) F)) F G) where
+module _ {w : List ℕ} (old : List Float) (p t : Place) {F G : List Float} (ok : FacesOk w (length F) (t .faces) (t .uppers) (t .lowers) (t .entries) (t .values))
+    (summed : Wrote (t .values) (t .entries) (sumsOf (t .entries) (p .entries) (part (p .positions) (p .entries) w) old) F G) where
   -- What the means require.
   pub means-ready : FacesOk w (length G) (t .faces) (t .uppers) (t .lowers) (t .entries) (t .values)
-  means-ready = rw (summed .size) (ok .faces)
+  means-ready = rw (summed .size) ok
 
   module _ {H : List Float} (means : Wrote (t .values) (t .entries) (symmetrizeOf (t .faces) (part (t .uppers) (t .faces) w) (part (t .lowers) (t .faces) w)
       (part (t .values) (t .entries) G)) G H) where
     -- The values lie in the store.
     pub finite-ready : t .values + t .entries ≤ length H
-    finite-ready = let room = ok .faces .room in let s = summed .size in let m = means .size in omega arith
+    finite-ready = let room = ok .room in let s = summed .size in let m = means .size in omega arith
 
     -- They are the next level's.
-    pub coarse-done : {r : Bool} → r ≡ allFinite (t .entries) (part (t .values) (t .entries) H) → CoarseDone w F H p t r
+    pub coarse-done : {r : Bool} → r ≡ allFinite (t .entries) (part (t .values) (t .entries) H) → CoarseDone w old F H p t r
     coarse-done {r} e =
-        let room = ok .faces .room in
+        let room = ok .room in
         let s = summed .size in
         let first = wrote-at summed room in
-        let values : part (t .values) (t .entries) H ≡ coarseAt w F p t =
+        let values : part (t .values) (t .entries) H ≡ coarseAt w old p t =
         wrote-at means (omega arith) ∙ ap (symmetrizeOf (t .faces) (part (t .uppers) (t .faces) w) (part (t .lowers) (t .faces) w)) first in
         record {
           values = values;

@@ -5,3 +5,4 @@ pub mod Levels
 pub mod Numbers
 pub mod Turning
 pub mod Renewing
+pub mod Loading

@@ -16,7 +16,7 @@ use Rattle.refusal.specs.declared.Verdict.{Verdict}
 use Rattle.refusal.specs.Outcome.{Outcome, accepted, refused, verdictOf, isRefused, _>>=_}
 use Rattle.refusal.proofs.Outcome.{then-accepted, then-refused, verdict-passed}
 use Rattle.matrix.specs.Kernel.{kernelAt}
-use Rattle.values.specs.Update.{Coefficients, updateOf, updateAt, Updated}
+use Rattle.values.specs.Update.{Coefficients, updateOf, updateWith, Updated}
 use Rattle.values.proofs.UpdateLaws.{within-kept}
 use Rattle.dic.specs.Dic.{settled, Settled}
 use Rattle.packed.specs.Triangle.{tri}
@@ -48,7 +48,7 @@ settled-held (Verdict.Refused q) l e = never refl e
 -- ---- a level
 
 module _ {w : List ℕ} (F : List Float) {p : Place} {last : Bool} {coupled : ℕ} (ready : LevelReady w (length F) p last coupled)
-    (o : MultigridOptions) (level : ℕ) where
+    (o : MultigridOptions) (level : ℕ) (values : List Float) where
   -- what the level requires
   abbrev ok : LevelOk w (length F) p coupled
   ok = ready .level
@@ -56,10 +56,6 @@ module _ {w : List ℕ} (F : List Float) {p : Place} {last : Bool} {coupled : �
   -- its shape
   abbrev own : Shape
   own = shapeAt w p last coupled
-
-  -- its values
-  abbrev values : List Float
-  values = part (p .values) (p .entries) F
 
   -- Question 11 reads the pattern and the diagonal entries alone.
   stands-same : diagonalsStand level own ≡ diagonalsStand level (bareAt w p)
@@ -74,16 +70,16 @@ module _ {w : List ℕ} (F : List Float) {p : Place} {last : Bool} {coupled : �
   abbrev rest : Coefficients → Outcome Numbers
   rest c = cond last (lastNumbers o level own values c) (innerNumbers o level own c)
 
-  module _ {G : List Float} {v : Verdict} (made : Updated w (kernelIn p) (coefficientsAsked level w F p) F G v) where
+  module _ {G : List Float} {v : Verdict} (made : Updated w (kernelIn p) (coefficientsAsked level w values p) F G v) where
     -- The questions in the stores are those of the shape.
-    asked-is : coefficientsAsked level w F p ≡ asked
+    asked-is : coefficientsAsked level w values p ≡ asked
     asked-is =
         let last : idx w (p .starts + p .rows) ≡ p .faces = ok .faces in
-        ap (λ (s : Outcome Unit). _>>=_ s (λ _. updateAt level (kernelIn p) (entriesIn p) w F)) (sym stands-same)
+        ap (λ (s : Outcome Unit). _>>=_ s (λ _. updateWith level (kernelIn p) (entriesIn p) w values)) (sym stands-same)
         ∙ ap (λ (n : ℕ). _>>=_ (diagonalsStand level own) (λ _. updateOf level (p .rows) (part (p .diagonals) (p .rows) w) (part (p .uppers) n w) values)) last
 
     -- The level is these and those after them.
-    whole : levelRenewed o last coupled level w F p ≡ _>>=_ asked rest
+    whole : levelRenewed o last coupled level w values p ≡ _>>=_ asked rest
     whole = then-then (diagonalsStand level own) (λ _. coefficientsOf o level own values) rest
 
     -- Their answer,
@@ -95,10 +91,10 @@ module _ {w : List ℕ} (F : List Float) {p : Place} {last : Bool} {coupled : �
     written = within-kept (made .within)
 
     -- One of them refuses.
-    pub level-no : isRefused v ≡ true → LevelDone w F G o p last coupled level v
+    pub level-no : isRefused v ≡ true → LevelDone w values F G o p last coupled level v
     level-no e =
         let no = told-refused asked answered e in
-        let refusal : levelRenewed o last coupled level w F p ≡ refused (no .0) = whole ∙ then-refused asked rest (no .1) in
+        let refusal : levelRenewed o last coupled level w values p ≡ refused (no .0) = whole ∙ then-refused asked rest (no .1) in
         record { answer = no .2 ∙ sym (ap verdictOf refusal); numbers = λ n e. never refusal e; kept = written }
 
     module _ (told : isRefused v ≡ false) where
@@ -109,7 +105,7 @@ module _ {w : List ℕ} (F : List Float) {p : Place} {last : Bool} {coupled : �
         pub coefficients : part (p .coefficients) (p .faces) G ≡ own .coefficients
         pub diagonal : part (p .diagonal) (p .rows) G ≡ own .diagonal
         pub inverse : part (p .inverse) (p .rows) G ≡ own .inverse
-        pub values : part (p .values) (p .entries) G ≡ part (p .values) (p .entries) F
+        pub stays : part (p .values) (p .entries) G ≡ part (p .values) (p .entries) F
 
       -- Where they pass, these are there.
       owned : Own
@@ -123,7 +119,7 @@ module _ {w : List ℕ} (F : List Float) {p : Place} {last : Bool} {coupled : �
             coefficients = (rw last at (held .coefficients));
             diagonal = held .diagonal;
             inverse = held .inverse;
-            values = kept-part written (p .values) (p .entries) (ok .image);
+            stays = kept-part written (p .values) (p .entries) (ok .image);
           }
 
       -- they are these
@@ -131,11 +127,11 @@ module _ {w : List ℕ} (F : List Float) {p : Place} {last : Bool} {coupled : �
       c = owned .own
 
       -- Then come 15, or 16 and 17.
-      onward : levelRenewed o last coupled level w F p ≡ rest c
+      onward : levelRenewed o last coupled level w values p ≡ rest c
       onward = whole ∙ then-accepted asked rest (owned .is)
 
       -- The last level: question 15.
-      module _ (ends : last ≡ true) {H : List Float} {r : Verdict} (done : FactorDone w G H p coupled level r) where
+      module _ (ends : last ≡ true) (here : values ≡ part (p .values) (p .entries) F) {H : List Float} {r : Verdict} (done : FactorDone w G H p coupled level r) where
         -- the factor that question 15 asks for
         abbrev wanted : Outcome (List Float)
         wanted = choleskyOf level (csrOf own values) (length (own .links)) (own .links)
@@ -158,17 +154,17 @@ module _ {w : List ℕ} (F : List Float) {p : Place} {last : Bool} {coupled : �
         wanted-is : wanted ≡ factorOf w G p coupled level
         wanted-is =
             let long : length (part (p .links) coupled w) ≡ coupled = length-part (p .links) coupled w (ok .links) in
-            let same = owned .values in
+            let same = owned .stays in
             ap (λ (l : List ℕ). choleskyOf level (csrOf own values) (length l) l) links-are
             ∙ ap (λ (n : ℕ). choleskyOf level (csrOf own values) n (part (p .links) coupled w)) long
-            ∙ ap (λ (u : List Float). choleskyOf level (csrOf own u) coupled (part (p .links) coupled w)) (sym same)
+            ∙ ap (λ (u : List Float). choleskyOf level (csrOf own u) coupled (part (p .links) coupled w)) (here ∙ sym same)
 
         -- The numbers are made of it.
-        lasts : levelRenewed o last coupled level w F p ≡ _>>=_ wanted (λ l. accepted (withFactor l))
+        lasts : levelRenewed o last coupled level w values p ≡ _>>=_ wanted (λ l. accepted (withFactor l))
         lasts = onward ∙ ap (λ (b : Bool). cond b (lastNumbers o level own values c) (innerNumbers o level own c)) ends
 
         -- Its numbers are there.
-        pub level-last : LevelDone w F H o p last coupled level r
+        pub level-last : LevelDone w values F H o p last coupled level r
         level-last =
             let h1 = ok .image in
             let h2 = ok .sided in
@@ -216,7 +212,7 @@ module _ {w : List ℕ} (F : List Float) {p : Place} {last : Bool} {coupled : �
         needed-is = ap (smootherOf o level) (sym kernel-is) ∙ ap (λ (b : Bool). smootherUnder b level (kernelAt (kernelIn p) w G)) by ∙ done .is
 
         -- The numbers are made of them.
-        inners : levelRenewed o last coupled level w F p ≡ _>>=_ needed (λ l. accepted (withDic l))
+        inners : levelRenewed o last coupled level w values p ≡ _>>=_ needed (λ l. accepted (withDic l))
         inners = onward ∙ ap (λ (b : Bool). cond b (lastNumbers o level own values c) (innerNumbers o level own c)) more
 
         -- There is no factor.
@@ -225,7 +221,7 @@ module _ {w : List ℕ} (F : List Float) {p : Place} {last : Bool} {coupled : �
         no-factor = let none : coupled ≡ 0 = ready .none more in rw none refl
 
         -- Its numbers are there.
-        pub level-inner : LevelDone w F H o p last coupled level r
+        pub level-inner : LevelDone w values F H o p last coupled level r
         level-inner =
             let h1 = ok .image in
             let h2 = ok .sided in

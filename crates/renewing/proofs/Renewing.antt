@@ -9,8 +9,8 @@ use native.Mathlib.Numerals.{sub-one}
 use native.Mathlib.Omega.{arith}
 use lib.ListN.{length}
 use lib.Ieee.{Float}
-use Rattle.store.specs.Region.{idx, part}
-use Rattle.store.proofs.Region.{getD-part, length-part, kept-on, kept-less, kept-self}
+use Rattle.store.specs.Region.{idx, part, Wrote}
+use Rattle.store.proofs.Region.{getD-part, length-part, wrote-at, kept-wrote, kept-on, kept-less, kept-self}
 use Rattle.options.specs.declared.MultigridOptions.{MultigridOptions}
 use Rattle.refusal.specs.declared.Refusal.{Refusal}
 use Rattle.refusal.specs.Refusal.{badCoarseValue}
@@ -30,7 +30,7 @@ use Rattle.sound.specs.Sound.{shapeIn}
 use Rattle.sound.specs.Contract.{PlaceOk}
 use Rattle.sound.proofs.Facts.{Here, targetsOf, sumsOf, endsOf}
 use Rattle.renewing.specs.Update.{diagonalsStand, renewOf}
-use Rattle.renewing.specs.Steps.{Chain, Under, LevelOk, LevelReady, levelOf, levelRenewed, LevelDone, CoarseOk, coarseAt, TurnOk, turnOf, Turned, shapesAt, renewAt, RenewOk, Renewed}
+use Rattle.renewing.specs.Steps.{Chain, Under, LevelOk, LevelReady, levelOf, levelRenewed, LevelDone, CoarseOk, coarseAt, TurnOk, turnOf, Turned, shapesAt, renewAt, RenewOk, Renewed, RestOk, StartOk, FirstOk}
 use Rattle.renewing.proofs.Chains.{Opened, opened}
 use Rattle.renewing.proofs.Outcomes.{accepts, never, verdict-then, then-then, told-refused}
 use Rattle.renewing.proofs.Turning.{no-tri}
@@ -279,23 +279,20 @@ ask-then (refused p) holds q f = refl
 
 -- ---- a turn of the loop
 
-module _ {w : List ℕ} (F : List Float) {left level a b : ℕ} (ok : RenewOk w (length F) left level a b) (o : MultigridOptions)
+-- The levels from the values `old` of the first.
+module _ {w : List ℕ} (old F : List Float) {left level a b : ℕ} (ok : RenewOk w (length F) left level a b) (o : MultigridOptions)
     {p : Place} (is : p ≡ locate w a b) where
-  -- the values of the level
-  abbrev old : List Float
-  old = part b (entriesAt w a) F
-
   -- The last level.
   pub renewed-last : left ≡ 1 → {coupled : ℕ} → coupled ≡ idx w (a + 2) → {G : List Float} {r : Verdict}
-      → LevelDone w F G o p true coupled level r → Renewed o left level w F G a b r
+      → LevelDone w old F G o p true coupled level r → Renewed o left level w old F G a b r
   renewed-last one {coupled} e {G} {r} done =
       let l = is-last ok is one in
       let c = coupled-is ok is one e in
-      let made : LevelDone w F G o (locate w a b) (lastAt w a) (coupledAt w a) level r =
-      subst (λ (z : Bool). LevelDone w F G o (locate w a b) z (coupledAt w a) level r) (sym l)
-      (subst (λ (n : ℕ). LevelDone w F G o (locate w a b) true n level r) (sym c)
-      (subst (λ (q : Place). LevelDone w F G o q true coupled level r) is done)) in
-      let whole : renewAt o left level w F a b ≡ _>>=_ (levelOf o level (shapeIn w a) old) (λ n. accepted (leveled o level (shapeIn w a) old n ∷ [])) =
+      let made : LevelDone w old F G o (locate w a b) (lastAt w a) (coupledAt w a) level r =
+      subst (λ (z : Bool). LevelDone w old F G o (locate w a b) z (coupledAt w a) level r) (sym l)
+      (subst (λ (n : ℕ). LevelDone w old F G o (locate w a b) true n level r) (sym c)
+      (subst (λ (q : Place). LevelDone w old F G o q true coupled level r) is done)) in
+      let whole : renewAt o left level w old a ≡ _>>=_ (levelOf o level (shapeIn w a) old) (λ n. accepted (leveled o level (shapeIn w a) old n ∷ [])) =
       ap (λ (s : List Shape). renewOf o level s old) (shapes-one left w a one) ∙ renew-one o level (shapeIn w a) old in
       record {
         answer = made .answer ∙ sym (verdict-then (levelOf o level (shapeIn w a) old) (λ n. leveled o level (shapeIn w a) old n ∷ [])) ∙ sym (ap verdictOf whole);
@@ -309,7 +306,7 @@ module _ {w : List ℕ} (F : List Float) {left level a b : ℕ} (ok : RenewOk w 
       }
 
   module _ (more : 2 ≤ left) {next : ℕ} (at : next ≡ wordsEnd w a) {t : Place} (there : t ≡ locate w next (p .factor))
-      {G : List Float} {v : Verdict} (done : Turned w F G o p t level v) where
+      {G : List Float} {v : Verdict} (done : Turned w old F G o p t level v) where
     -- where the next level starts
     abbrev x : ℕ
     x = wordsEnd w a
@@ -346,19 +343,23 @@ module _ {w : List ℕ} (F : List Float) {left level a b : ℕ} (ok : RenewOk w 
     abbrev deeper : Outcome (List Level)
     deeper = renewOf o (level + 1) (under ∷ after) coarse
 
+    -- The next level stands there.
+    stands : t ≡ locate w x y
+    stands = there ∙ ap (λ (n : ℕ). locate w n (p .factor)) at ∙ ap (λ (q : Place). locate w x (q .factor)) is
+
     -- The turn is done at its places.
-    made : Turned w F G o (locate w a b) (locate w x y) level v
+    made : Turned w old F G o (locate w a b) (locate w x y) level v
     made =
-        subst (λ (q : Place). Turned w F G o (locate w a b) q level v)
-        (there ∙ ap (λ (n : ℕ). locate w n (p .factor)) at ∙ ap (λ (q : Place). locate w x (q .factor)) is)
-        (subst (λ (q : Place). Turned w F G o q t level v) is done)
+        subst (λ (q : Place). Turned w old F G o (locate w a b) q level v)
+        stands
+        (subst (λ (q : Place). Turned w old F G o q t level v) is done)
 
     -- The shapes from the next level on.
     next-shapes : shapesAt (left - 1) w x ≡ under ∷ after
     next-shapes = shapes-some (left - 1) w x (some-left ok is more)
 
     -- The definition goes by this level and the next.
-    whole : renewAt o left level w F a b ≡ _>>=_ asked (λ n. _>>=_ deeper (λ ls. accepted (before n ls)))
+    whole : renewAt o left level w old a ≡ _>>=_ asked (λ n. _>>=_ deeper (λ ls. accepted (before n ls)))
     whole =
         ap (λ (s : List Shape). renewOf o level s old) (shapes-some left w a (ok .some) ∙ ap (λ (s : List Shape). own ∷ s) next-shapes)
         ∙ renew-more o level own old under after
@@ -371,7 +372,7 @@ module _ {w : List ℕ} (F : List Float) {left level a b : ℕ} (ok : RenewOk w 
         length-part (locate w x 0 .columns) (entriesAt w x) w (omega arith)
 
     -- The values of the next level are those of the definition,
-    coarse-is : coarseAt w F (locate w a b) (locate w x y) ≡ coarse
+    coarse-is : coarseAt w old (locate w a b) (locate w x y) ≡ coarse
     coarse-is =
         let heads = opening ok .here .heads in
         let deep = further ok is more .here .heads in
@@ -384,14 +385,14 @@ module _ {w : List ℕ} (F : List Float) {left level a b : ℕ} (ok : RenewOk w 
         sym (rw (e0, e1, e2, e4))
 
     -- and so is the turn.
-    turn-is : turnOf o level w F (locate w a b) (locate w x y) ≡ asked
+    turn-is : turnOf o level w old (locate w a b) (locate w x y) ≡ asked
     turn-is =
-        let fin : allFinite (entriesAt w x) (coarseAt w F (locate w a b) (locate w x y)) ≡ allFinite (entries (under .pattern)) coarse =
+        let fin : allFinite (entriesAt w x) (coarseAt w old (locate w a b) (locate w x y)) ≡ allFinite (entries (under .pattern)) coarse =
         ap (allFinite (entriesAt w x)) coarse-is ∙ ap (λ (n : ℕ). allFinite n coarse) (sym entries-under) in
-        let same : levelRenewed o false 0 level w F (locate w a b) ≡ levelOf o level own old =
-        ap (λ (z : Bool). levelRenewed o z 0 level w F (locate w a b)) (sym (not-last ok is more))
-        ∙ ap (λ (n : ℕ). levelRenewed o (lastAt w a) n level w F (locate w a b)) (sym (none-coupled ok is more)) in
-        ap (λ (z : Bool). _>>=_ (levelRenewed o false 0 level w F (locate w a b)) (λ n. ask z badCoarseValue (accepted n))) fin
+        let same : levelRenewed o false 0 level w old (locate w a b) ≡ levelOf o level own old =
+        ap (λ (z : Bool). levelRenewed o z 0 level w old (locate w a b)) (sym (not-last ok is more))
+        ∙ ap (λ (n : ℕ). levelRenewed o (lastAt w a) n level w old (locate w a b)) (sym (none-coupled ok is more)) in
+        ap (λ (z : Bool). _>>=_ (levelRenewed o false 0 level w old (locate w a b)) (λ n. ask z badCoarseValue (accepted n))) fin
         ∙ ap (λ (u : Outcome Numbers). _>>=_ u (λ n. ask (allFinite (entries (under .pattern)) coarse) badCoarseValue (accepted n))) same
 
     -- Its answer is that of the definition,
@@ -399,31 +400,32 @@ module _ {w : List ℕ} (F : List Float) {left level a b : ℕ} (ok : RenewOk w 
     answered = made .answer ∙ ap verdictOf turn-is
 
     -- A question of the turn refuses.
-    pub renewed-no : isRefused v ≡ true → Renewed o left level w F G a b v
+    pub renewed-no : isRefused v ≡ true → Renewed o left level w old F G a b v
     renewed-no stop =
         let no = told-refused asked answered stop in
-        let refusal : renewAt o left level w F a b ≡ refused (no .0) = whole ∙ then-refused asked (λ n. _>>=_ deeper (λ ls. accepted (before n ls))) (no .1) in
+        let refusal : renewAt o left level w old a ≡ refused (no .0) = whole ∙ then-refused asked (λ n. _>>=_ deeper (λ ls. accepted (before n ls))) (no .1) in
         record { answer = no .2 ∙ sym (ap verdictOf refusal); levels = λ ls e. never refusal e; kept = kept-less (made .kept) (omega arith) }
 
-    module _ (told : v ≡ Verdict.Passed) {E : List Float} {r : Verdict} (deep : Renewed o (left - 1) (level + 1) w G E next (p .factor) r) where
+    module _ (told : v ≡ Verdict.Passed) {E : List Float} {r : Verdict} (deep : Renewed o (left - 1) (level + 1) w (part (t .values) (t .entries) G) G E next (p .factor) r) where
       -- The turn was accepted.
       numbers : (n : Numbers) × (asked ≡ accepted n)
       numbers = accepts asked answered told
 
       -- The levels from the next one on stand from its place on,
-      on : Renewed o (left - 1) (level + 1) w G E x y r
+      on : Renewed o (left - 1) (level + 1) w (part y (entriesAt w x) G) G E x y r
       on =
-          subst (λ (n : ℕ). Renewed o (left - 1) (level + 1) w G E x n r) (ap (λ (q : Place). q .factor) is)
-          (subst (λ (n : ℕ). Renewed o (left - 1) (level + 1) w G E n (p .factor) r) at deep)
+          subst (λ (n : ℕ). Renewed o (left - 1) (level + 1) w (part y (entriesAt w x) G) G E x n r) (ap (λ (q : Place). q .factor) is)
+          (subst (λ (n : ℕ). Renewed o (left - 1) (level + 1) w (part y (entriesAt w x) G) G E n (p .factor) r) at
+          (subst (λ (q : Place). Renewed o (left - 1) (level + 1) w (part (q .values) (q .entries) G) G E next (p .factor) r) stands deep))
 
       -- and are those of the definition.
-      deep-is : renewAt o (left - 1) (level + 1) w G x y ≡ deeper
+      deep-is : renewAt o (left - 1) (level + 1) w (part y (entriesAt w x) G) x ≡ deeper
       deep-is =
           ap (λ (s : List Shape). renewOf o (level + 1) s (part y (entriesAt w x) G)) next-shapes
           ∙ ap (renewOf o (level + 1) (under ∷ after)) (made .values told ∙ coarse-is)
 
       -- This level comes before them.
-      all : renewAt o left level w F a b ≡ _>>=_ (renewAt o (left - 1) (level + 1) w G x y) (λ ls. accepted (before (numbers .0) ls))
+      all : renewAt o left level w old a ≡ _>>=_ (renewAt o (left - 1) (level + 1) w (part y (entriesAt w x) G) x) (λ ls. accepted (before (numbers .0) ls))
       all =
           whole ∙ then-accepted asked (λ n. _>>=_ deeper (λ ls. accepted (before n ls))) (numbers .1)
           ∙ ap (λ (u : Outcome (List Level)). _>>=_ u (λ ls. accepted (before (numbers .0) ls))) (sym deep-is)
@@ -443,11 +445,11 @@ module _ {w : List ℕ} (F : List Float) {left level a b : ℕ} (ok : RenewOk w 
           level-kept a b (kept-self {p = length w}) (on .kept) (opening ok .here .words) (omega arith) (omega arith) (omega arith) .0
 
       -- All levels are there.
-      pub renewed-on : Renewed o left level w F E a b r
+      pub renewed-on : Renewed o left level w old F E a b r
       renewed-on = record {
-        answer = on .answer ∙ sym (verdict-then (renewAt o (left - 1) (level + 1) w G x y) (before (numbers .0))) ∙ sym (ap verdictOf all);
+        answer = on .answer ∙ sym (verdict-then (renewAt o (left - 1) (level + 1) w (part y (entriesAt w x) G) x) (before (numbers .0))) ∙ sym (ap verdictOf all);
         levels = λ ls e.
-            let s = then-split (renewAt o (left - 1) (level + 1) w G x y) (λ ls. accepted (before (numbers .0) ls)) (sym all ∙ e) in
+            let s = then-split (renewAt o (left - 1) (level + 1) w (part y (entriesAt w x) G) x) (λ ls. accepted (before (numbers .0) ls)) (sym all ∙ e) in
             levels-some left w E a b (ok .some)
             ∙ ap (λ (l : Level). l ∷ levelsAt (left - 1) w E x (floatsEnd w a b)) (level-stays ∙ level-there)
             ∙ ap (λ (n : ℕ). leveled o level own old (numbers .0) ∷ levelsAt (left - 1) w E x n) (ends-at ok is more)
@@ -458,27 +460,27 @@ module _ {w : List ℕ} (F : List Float) {left level a b : ℕ} (ok : RenewOk w 
 
 -- ---- the loop
 
--- The loop over the levels stands at `level`, whose words start at a and which stands at p: the levels from there on make all of them,
--- whatever they are.
-pub record Underway (dic : Bool) (levels image level a : ℕ) (p : Place) (w : List ℕ) (F G : List Float) : Type 0 where
+-- The loop over the levels stands at `level`, whose words start at a and which stands at p: the levels from there on make all those from
+-- `first` on, the first of which stands at p₀, whatever they are.
+pub record Underway (dic : Bool) (levels first a₀ : ℕ) (p₀ : Place) (level a : ℕ) (p : Place) (w : List ℕ) (F G : List Float) : Type 0 where
   pub b : ℕ
   pub is : p ≡ locate w a b
   pub ok : RenewOk w (length G) (levels - level) level a b
   pub size : length G ≡ length F
-  pub whole : Under dic (λ o. (E : List Float) (r : Verdict) → Renewed o (levels - level) level w G E a b r → Renewed o levels 0 w F E 0 image r)
+  pub whole : Under dic (λ o. (E : List Float) (r : Verdict) → Renewed o (levels - level) level w (part (p .values) (p .entries) G) G E a b r
+      → Renewed o (levels - first) first w (part (p₀ .values) (p₀ .entries) F) F E a₀ (p₀ .values) r)
 
 -- Before the first level all are left.
-pub underway-start : {dic : Bool} {levels image : ℕ} {w : List ℕ} (F : List Float) {p : Place} → RenewOk w (length F) levels 0 0 image
-    → p ≡ locate w 0 image → Underway dic levels image 0 0 p w F F
-underway-start {dic} {levels} {image} {w} F ok is = record {
-  b = image;
-  is = is;
-  ok = rw (sub-zero levels) ok;
-  size = refl;
-  whole = λ o _ E r d. rw (sub-zero levels) at d;
-}
+pub underway-start : {dic : Bool} {levels first a : ℕ} {w : List ℕ} (F : List Float) {p : Place} → RestOk w (length F) levels first a p
+    → Underway dic levels first a p first a p w F F
+underway-start F {p} ok = record { b = p .values; is = ok .is; ok = ok .ok; size = refl; whole = λ o _ E r d. d }
 
-module _ {dic : Bool} {levels image level a : ℕ} {p : Place} {w : List ℕ} {F G : List Float} (u : Underway dic levels image level a p w F G) where
+module _ {dic : Bool} {levels first a₀ level a : ℕ} {p₀ p : Place} {w : List ℕ} {F G : List Float}
+    (u : Underway dic levels first a₀ p₀ level a p w F G) where
+  -- the values of the level
+  abbrev mine : List Float
+  mine = part (p .values) (p .entries) G
+
   -- The level is one of them.
   pub underway-few : level + 1 ≤ 128
   underway-few = let f = u .ok .chain .few in let s = u .ok .some in omega arith
@@ -506,13 +508,14 @@ module _ {dic : Bool} {levels image level a : ℕ} {p : Place} {w : List ℕ} {F
         pub underway-turn : TurnOk w (length G) p t
         underway-turn = turn-ready (u .ok) (u .is) two-left at there
 
-        module _ {H : List Float} {v : Verdict} (done : Under dic (λ o. Turned w G H o p t level v)) where
+        module _ {H : List Float} {v : Verdict} (done : Under dic (λ o. Turned w (part (p .values) (p .entries) G) G H o p t level v)) where
           -- A question of the turn refuses.
-          pub underway-no : isRefused v ≡ true → Under dic (λ o. Renewed o levels 0 w F H 0 image v)
-          underway-no stop o by = u .whole o by H v (renewed-no G (u .ok) o (u .is) two-left at there (done o by) stop)
+          pub underway-no : isRefused v ≡ true
+              → Under dic (λ o. Renewed o (levels - first) first w (part (p₀ .values) (p₀ .entries) F) F H a₀ (p₀ .values) v)
+          underway-no stop o by = u .whole o by H v (renewed-no mine G (u .ok) o (u .is) two-left at there (done o by) stop)
 
           -- One level fewer is left.
-          pub underway-on : isRefused v ≡ false → length H ≡ length G → Underway dic levels image (level + 1) next t w F H
+          pub underway-on : isRefused v ≡ false → length H ≡ length G → Underway dic levels first a₀ p₀ (level + 1) next t w F H
           underway-on told size =
               let one : levels - level - 1 ≡ levels - (level + 1) = omega arith in
               record {
@@ -521,8 +524,8 @@ module _ {dic : Bool} {levels image level a : ℕ} {p : Place} {w : List ℕ} {F
                 ok = subst (λ (n : ℕ). RenewOk w (length H) n (level + 1) next (p .factor)) one
                     (subst (λ (n : ℕ). RenewOk w n (levels - level - 1) (level + 1) next (p .factor)) (sym size) (next-ready (u .ok) (u .is) two-left at));
                 size = size ∙ u .size;
-                whole = λ o by E r deep. u .whole o by E r (renewed-on G (u .ok) o (u .is) two-left at there (done o by) (went-on v told)
-                    (subst (λ (n : ℕ). Renewed o n (level + 1) w H E next (p .factor) r) (sym one) deep));
+                whole = λ o by E r deep. u .whole o by E r (renewed-on mine G (u .ok) o (u .is) two-left at there (done o by) (went-on v told)
+                    (subst (λ (n : ℕ). Renewed o n (level + 1) w (part (t .values) (t .entries) H) H E next (p .factor) r) (sym one) deep));
               }
 
   module _ (h : levels ≤ level + 1) {coupled : ℕ} (told : coupled ≡ idx w (a + 2)) where
@@ -535,6 +538,78 @@ module _ {dic : Bool} {levels image level a : ℕ} {p : Place} {w : List ℕ} {F
     underway-last = last-ready (u .ok) (u .is) one-left told
 
     -- With it all are there.
-    pub underway-end : {E : List Float} {r : Verdict} → Under dic (λ o. LevelDone w G E o p true coupled level r)
-        → Under dic (λ o. Renewed o levels 0 w F E 0 image r)
-    underway-end {E} {r} done o by = u .whole o by E r (renewed-last G (u .ok) o (u .is) one-left told (done o by))
+    pub underway-end : {E : List Float} {r : Verdict} → Under dic (λ o. LevelDone w (part (p .values) (p .entries) G) G E o p true coupled level r)
+        → Under dic (λ o. Renewed o (levels - first) first w (part (p₀ .values) (p₀ .entries) F) F E a₀ (p₀ .values) r)
+    underway-end {E} {r} done o by = u .whole o by E r (renewed-last mine G (u .ok) o (u .is) one-left told (done o by))
+
+-- ---- the first level, from values that are given
+
+module _ {levels image : ℕ} {w : List ℕ} (given F : List Float) (s : StartOk w (length F) (length given) levels image) where
+  -- What its place requires.
+  pub start-place : PlaceOk w 0 image
+  start-place = renew-place (s .ok)
+
+  module _ {p : Place} (is : p ≡ locate w 0 image) where
+    -- There is room for its values.
+    pub load-room : image + length given ≤ length F
+    load-room =
+        let o = opened (s .ok .chain) (s .ok .some) .ends in
+        let e = floats-end w 0 image in
+        let many = s .many in
+        omega arith
+
+    module _ {E : List Float} (loaded : Wrote image (length given) given F E) where
+      -- Once they are loaded, what all levels require,
+      pub loaded-rest : RestOk w (length E) levels 0 0 p
+      loaded-rest = rw (is, loaded .size) (record { is = refl; ok = rw (sub-zero levels) (s .ok) })
+
+      -- and what they make.
+      pub loaded-done : {dic : Bool} {G : List Float} {r : Verdict}
+          → Under dic (λ o. Renewed o (levels - 0) 0 w (part (p .values) (p .entries) E) E G 0 (p .values) r)
+          → Under dic (λ o. Renewed o levels 0 w given F G 0 image r)
+      loaded-done {dic} {G} {r} done o by =
+          let here : part image (entriesAt w 0) E ≡ given = ap (λ (n : ℕ). part image n E) (sym (s .many)) ∙ wrote-at loaded load-room in
+          let d : Renewed o levels 0 w given E G 0 image r = rw (is, sub-zero levels, here) at (done o by) in
+          record { answer = d .answer; levels = d .levels; kept = kept-on (kept-wrote loaded (omega arith)) (d .kept) }
+
+    module _ (more : 2 ≤ levels) where
+      -- Where its words end.
+      pub first-words : wordsEnd w 0 ≤ length w
+      first-words = inner-words (s .ok) is more
+
+      module _ {next : ℕ} (at : next ≡ wordsEnd w 0) where
+        -- What the place of the next level requires.
+        pub first-next : PlaceOk w next (p .factor)
+        first-next = next-place (s .ok) is more at
+
+        module _ {t : Place} (there : t ≡ locate w next (p .factor)) where
+          -- What the turn requires.
+          pub first-ready : FirstOk w (length F) (length given) p t
+          first-ready =
+              let turn = turn-ready (s .ok) is more at there in
+              let many : p .entries ≤ length given = rw is (omega (arith, s .many)) in
+              record {
+                level = turn .level;
+                sums = record { table = turn .coarse .sums .table; many = many; room = turn .coarse .sums .room; near = turn .coarse .sums .near };
+                faces = turn .coarse .faces;
+                after = turn .after;
+                many = many;
+              }
+
+          module _ {dic : Bool} {G : List Float} {v : Verdict} (done : Under dic (λ o. Turned w given F G o p t 0 v)) where
+            -- A question of the turn refuses.
+            pub first-no : isRefused v ≡ true → Under dic (λ o. Renewed o levels 0 w given F G 0 image v)
+            first-no stop o by = renewed-no given F (s .ok) o is more at there (done o by) stop
+
+            -- What the levels after it require,
+            pub first-rest : length G ≡ length F → RestOk w (length G) levels 1 next t
+            first-rest size =
+                rw (there, size) (record { is = refl; ok = next-ready (s .ok) is more at })
+
+            -- and with them all are there.
+            pub first-on : isRefused v ≡ false → {E : List Float} {r : Verdict}
+                → Under dic (λ o. Renewed o (levels - 1) 1 w (part (t .values) (t .entries) G) G E next (t .values) r)
+                → Under dic (λ o. Renewed o levels 0 w given F E 0 image r)
+            first-on told {E} {r} deep o by =
+                renewed-on given F (s .ok) o is more at there (done o by) (went-on v told)
+                (subst (λ (n : ℕ). Renewed o (levels - 1) 1 w (part (t .values) (t .entries) G) G E next n r) (ap (λ (q : Place). q .values) there) (deep o by))

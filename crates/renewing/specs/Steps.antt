@@ -2,7 +2,7 @@
 use mathlib.Core.Path.{_≡_}
 use mathlib.Core.Bool.{Bool, true, false, cond}
 use mathlib.Core.List.{List, [], _∷_}
-use Prim.Native.Nat.{ℕ, zero, suc, _+_, _≤_, _<_}
+use Prim.Native.Nat.{ℕ, zero, suc, _+_, _-_, _≤_, _<_}
 use lib.ListN.{length}
 use lib.Ieee.{Float}
 use Rattle.float.specs.Float.{zero64}
@@ -14,16 +14,17 @@ use Rattle.refusal.specs.declared.Verdict.{Verdict}
 use Rattle.refusal.specs.Outcome.{Outcome, accepted, ask, verdictOf, _>>=_, _>>_}
 use Rattle.vector.specs.Dot.{allFinite}
 use Rattle.matrix.specs.Kernel.{Kernel, kernelAt}
-use Rattle.values.specs.Update.{Coefficients, updateAt, UpdateOk}
+use Rattle.values.specs.Update.{Coefficients, updateWith, UpdateOk}
 use Rattle.dic.specs.Dic.{dicOf, DicOk}
 use Rattle.packed.specs.Triangle.{tri}
 use Rattle.cholesky.specs.Factor.{choleskyOf}
 use Rattle.cholesky.specs.Contract.{csrAt, coupledAt, factorAt, TerminalOk}
 use Rattle.galerkin.specs.Values.{galerkinOf, SumsOk, FacesOk}
+use Rattle.galerkin.specs.Values as galerkin
 use Rattle.hierarchy.specs.Level.{Shape, Numbers, Level}
 use Rattle.hierarchy.specs.Refresh.{needsDic, numbersOf}
 use Rattle.layout.specs.declared.Place.{Place}
-use Rattle.layout.specs.Layout.{entriesAt, shapeAt, numbersAt, wordsEnd, levelsAt, imageEnd}
+use Rattle.layout.specs.Layout.{entriesAt, shapeAt, numbersAt, wordsEnd, levelsAt, imageEnd, locate}
 use Rattle.layout.specs.Parts.{kernelIn, entriesIn, terminalIn}
 use Rattle.sound.specs.declared.Walk.{Walk}
 use Rattle.sound.specs.Sound.{shapeIn, walkOf}
@@ -95,9 +96,9 @@ pub record CoefficientsOk (w : List ℕ) (size : ℕ) (p : Place) : Type 0 where
 
 -- these questions, and the coefficients
 abbrev pub coefficientsAsked : ℕ → List ℕ → List Float → Place → Outcome Coefficients
-coefficientsAsked level w F p = do
+coefficientsAsked level w values p = do
   _ ← diagonalsStand level (bareAt w p)
-  updateAt level (kernelIn p) (entriesIn p) w F
+  updateWith level (kernelIn p) (entriesIn p) w values
 
 -- the DIC data of a kernel where they are needed: 16 and 17
 abbrev pub smootherUnder : Bool → ℕ → Kernel → Outcome (List Float)
@@ -134,14 +135,14 @@ levelOf o level s values = do
   _ ← diagonalsStand level s
   numbersOf o level s values
 
--- the same of the level at p
+-- the same of the level at p from those values
 abbrev pub levelRenewed : MultigridOptions → Bool → ℕ → ℕ → List ℕ → List Float → Place → Outcome Numbers
-levelRenewed o last coupled level w F p = levelOf o level (shapeAt w p last coupled) (part (p .values) (p .entries) F)
+levelRenewed o last coupled level w values p = levelOf o level (shapeAt w p last coupled) values
 
 -- Its answer, and where it accepts, its numbers. Up to the coefficients nothing changed.
-pub record LevelDone (w : List ℕ) (F G : List Float) (o : MultigridOptions) (p : Place) (last : Bool) (coupled level : ℕ) (r : Verdict) : Type 0 where
-  pub answer : r ≡ verdictOf (levelRenewed o last coupled level w F p)
-  pub numbers : (n : Numbers) → levelRenewed o last coupled level w F p ≡ accepted n → numbersAt G p coupled ≡ n
+pub record LevelDone (w : List ℕ) (values F G : List Float) (o : MultigridOptions) (p : Place) (last : Bool) (coupled level : ℕ) (r : Verdict) : Type 0 where
+  pub answer : r ≡ verdictOf (levelRenewed o last coupled level w values p)
+  pub numbers : (n : Numbers) → levelRenewed o last coupled level w values p ≡ accepted n → numbersAt G p coupled ≡ n
   pub kept : Kept (p .coefficients) F G
 
 -- ---- the next level's values
@@ -153,14 +154,14 @@ pub record CoarseOk (w : List ℕ) (size : ℕ) (p t : Place) : Type 0 where
 
 -- these values
 abbrev pub coarseAt : List ℕ → List Float → Place → Place → List Float
-coarseAt w F p t =
-    galerkinOf (t .entries) (p .entries) (part (p .positions) (p .entries) w) (part (p .values) (p .entries) F)
+coarseAt w values p t =
+    galerkinOf (t .entries) (p .entries) (part (p .positions) (p .entries) w) values
     (t .faces) (part (t .uppers) (t .faces) w) (part (t .lowers) (t .faces) w)
 
 -- The values, and whether they are finite. Below them nothing changed.
-pub record CoarseDone (w : List ℕ) (F G : List Float) (p t : Place) (r : Bool) : Type 0 where
-  pub values : part (t .values) (t .entries) G ≡ coarseAt w F p t
-  pub finite : r ≡ allFinite (t .entries) (coarseAt w F p t)
+pub record CoarseDone (w : List ℕ) (old F G : List Float) (p t : Place) (r : Bool) : Type 0 where
+  pub values : part (t .values) (t .entries) G ≡ coarseAt w old p t
+  pub finite : r ≡ allFinite (t .entries) (coarseAt w old p t)
   pub kept : Kept (t .values) F G
 
 -- ---- a turn of the loop
@@ -173,16 +174,16 @@ pub record TurnOk (w : List ℕ) (size : ℕ) (p t : Place) : Type 0 where
 
 -- the numbers of the level at p, and question 18 of the values of the next
 abbrev pub turnOf : MultigridOptions → ℕ → List ℕ → List Float → Place → Place → Outcome Numbers
-turnOf o level w F p t = do
-  n ← levelRenewed o false 0 level w F p
-  ask (allFinite (t .entries) (coarseAt w F p t)) badCoarseValue
+turnOf o level w values p t = do
+  n ← levelRenewed o false 0 level w values p
+  ask (allFinite (t .entries) (coarseAt w values p t)) badCoarseValue
   accepted n
 
 -- Its answer, and where it accepts, the numbers of the level and the values of the next. Up to the coefficients nothing changed.
-pub record Turned (w : List ℕ) (F G : List Float) (o : MultigridOptions) (p t : Place) (level : ℕ) (r : Verdict) : Type 0 where
-  pub answer : r ≡ verdictOf (turnOf o level w F p t)
-  pub numbers : (n : Numbers) → turnOf o level w F p t ≡ accepted n → numbersAt G p 0 ≡ n
-  pub values : r ≡ Verdict.Passed → part (t .values) (t .entries) G ≡ coarseAt w F p t
+pub record Turned (w : List ℕ) (old F G : List Float) (o : MultigridOptions) (p t : Place) (level : ℕ) (r : Verdict) : Type 0 where
+  pub answer : r ≡ verdictOf (turnOf o level w old p t)
+  pub numbers : (n : Numbers) → turnOf o level w old p t ≡ accepted n → numbersAt G p 0 ≡ n
+  pub values : r ≡ Verdict.Passed → part (t .values) (t .entries) G ≡ coarseAt w old p t
   pub kept : Kept (p .coefficients) F G
 
 -- ---- the levels
@@ -192,9 +193,9 @@ unfoldable pub shapesAt : ℕ → List ℕ → ℕ → List Shape
 shapesAt zero w a = []
 shapesAt (suc k) w a = shapeIn w a ∷ shapesAt k w (wordsEnd w a)
 
--- the levels from a and b on, from the values of the first
-abbrev pub renewAt : MultigridOptions → ℕ → ℕ → List ℕ → List Float → ℕ → ℕ → Outcome (List Level)
-renewAt o left level w F a b = renewOf o level (shapesAt left w a) (part b (entriesAt w a) F)
+-- the levels from a on, from the values of the first
+abbrev pub renewAt : MultigridOptions → ℕ → ℕ → List ℕ → List Float → ℕ → Outcome (List Level)
+renewAt o left level w values a = renewOf o level (shapesAt left w a) values
 
 -- What they require: there is one.
 pub record RenewOk (w : List ℕ) (size left level a b : ℕ) : Type 0 where
@@ -202,7 +203,25 @@ pub record RenewOk (w : List ℕ) (size left level a b : ℕ) : Type 0 where
   pub some : 1 ≤ left
 
 -- The answer, and where it accepts, the levels. Below their floats nothing changed.
-pub record Renewed (o : MultigridOptions) (left level : ℕ) (w : List ℕ) (F G : List Float) (a b : ℕ) (r : Verdict) : Type 0 where
-  pub answer : r ≡ verdictOf (renewAt o left level w F a b)
-  pub levels : (ls : List Level) → renewAt o left level w F a b ≡ accepted ls → levelsAt left w G a b ≡ ls
+pub record Renewed (o : MultigridOptions) (left level : ℕ) (w : List ℕ) (values F G : List Float) (a b : ℕ) (r : Verdict) : Type 0 where
+  pub answer : r ≡ verdictOf (renewAt o left level w values a)
+  pub levels : (ls : List Level) → renewAt o left level w values a ≡ accepted ls → levelsAt left w G a b ≡ ls
   pub kept : Kept b F G
+
+-- The levels from `level` on, the first of which stands at p.
+pub record RestOk (w : List ℕ) (size levels level a : ℕ) (p : Place) : Type 0 where
+  pub is : p ≡ locate w a (p .values)
+  pub ok : RenewOk w size (levels - level) level a (p .values)
+
+-- All levels, and as many values as the first has entries.
+pub record StartOk (w : List ℕ) (size count levels image : ℕ) : Type 0 where
+  pub ok : RenewOk w size levels 0 0 image
+  pub many : count ≡ entriesAt w 0
+
+-- The values of the level at t, summed from values that are given.
+pub record FirstOk (w : List ℕ) (size count : ℕ) (p t : Place) : Type 0 where
+  pub level : LevelOk w size p 0
+  pub sums : galerkin.GivenOk w size count (p .entries) (p .positions) (t .entries) (t .values)
+  pub faces : FacesOk w size (t .faces) (t .uppers) (t .lowers) (t .entries) (t .values)
+  pub after : p .factor ≤ t .values
+  pub many : p .entries ≤ count

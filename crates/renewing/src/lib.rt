@@ -1,6 +1,9 @@
 // The loop over the levels of `update` of hierarchy.rs: new numbers for each level in turn, and the values of the next.
+ghost use mathlib.Core.Path.{_≡_};
+ghost use Prim.Native.Nat.{_+_, _-_, _≤_};
 ghost use lib.ListN.{length};
-ghost use Rattle.renewing.specs.Steps.{Under, TurnOk, Turned, RenewOk, Renewed};
+ghost use Rattle.store.specs.Region.{part, Wrote};
+ghost use Rattle.renewing.specs.Steps.{Under, TurnOk, FirstOk, Turned, RestOk, StartOk, Renewed};
 use layout::Place;
 use refusal::Verdict;
 
@@ -9,7 +12,7 @@ mod level;
 // A level that is not the last, at p, and the values of the next, at t: question 18.
 fn turn(w: &[u32], f: &mut [f64], dic: bool, p: Place, t: Place, level: u64) -> Verdict
     requires { ⌜ TurnOk (now w) (length (now f)) p t ⌝ }
-    ensures { λ r. ⌜ Under dic (λ o. Turned (now (w .entry)) (now (f .entry)) (now (f .exit)) o p t level r) ⌝ }
+    ensures { λ r. ⌜ Under dic (λ o. Turned (now (w .entry)) (part (p .values) (p .entries) (now (f .entry))) (now (f .entry)) (now (f .exit)) o p t level r) ⌝ }
 {
     let numbers = level::renew_level(w, f, dic, p, false, 0, level);
     if numbers.refused() {
@@ -21,15 +24,37 @@ fn turn(w: &[u32], f: &mut [f64], dic: bool, p: Place, t: Place, level: u64) -> 
     Verdict::Refused(refusal::BAD_COARSE_VALUE)
 }
 
-// So many levels, from the values of the finest, which stand at `image`; `dic` tells whether the smoother needs DIC data. The words of
-// the last level tell its coupled rows.
-pub fn renew(w: &[u32], f: &mut [f64], dic: bool, levels: u64, image: usize) -> Verdict
-    requires { ⌜ RenewOk (now w) (length (now f)) levels 0 0 image ⌝ }
-    ensures { λ r. ⌜ Under dic (λ o. Renewed o levels 0 (now (w .entry)) (now (f .entry)) (now (f .exit)) 0 image r) ⌝ }
+// The same of the finest level, from values that are given.
+fn first_turn(w: &[u32], given: &[f64], f: &mut [f64], dic: bool, p: Place, t: Place) -> Verdict
+    requires { ⌜ FirstOk (now w) (length (now f)) (length (now given)) p t ⌝ }
+    ensures { λ r. ⌜ Under dic (λ o. Turned (now (w .entry)) (now (given .entry)) (now (f .entry)) (now (f .exit)) o p t 0 r) ⌝ }
 {
-    let mut level = 0;
-    let mut a = 0;
-    let mut p = sound::place_at(w, 0, image);
+    let numbers = level::first_level(w, given, f, dic, p, 0);
+    if numbers.refused() {
+        return numbers;
+    }
+    if level::coarse_given(w, given, f, p, t) {
+        return numbers;
+    }
+    Verdict::Refused(refusal::BAD_COARSE_VALUE)
+}
+
+// The levels from `first` on, which stands at p with its values. The words of the last level tell its coupled rows.
+fn renew_rest(
+    w: &[u32],
+    f: &mut [f64],
+    dic: bool,
+    levels: u64,
+    first: u64,
+    start: usize,
+    q: Place,
+) -> Verdict
+    requires { ⌜ RestOk (now w) (length (now f)) levels first start q ⌝ }
+    ensures { λ r. ⌜ Under dic (λ o. Renewed o (levels - first) first (now (w .entry)) (part (q .values) (q .entries) (now (f .entry))) (now (f .entry)) (now (f .exit)) start (q .values) r) ⌝ }
+{
+    let mut level = first;
+    let mut a = start;
+    let mut p = q;
     while level + 1 < levels {
         a = layout::words_end(w, a);
         let t = sound::place_at(w, a, p.factor);
@@ -42,4 +67,44 @@ pub fn renew(w: &[u32], f: &mut [f64], dic: bool, levels: u64, image: usize) -> 
     }
     let coupled = store::wide(w[a + 2]);
     level::renew_level(w, f, dic, p, true, coupled, level)
+}
+
+// The values `from`, copied to `to`.
+fn load(f: &mut [f64], from: &[f64], to: usize)
+    requires { ⌜ to + length (now from) ≤ length (now f) ⌝ }
+    ensures { λ _. ⌜ Wrote to (length (now (from .entry))) (now (from .entry)) (now (f .entry)) (now (f .exit)) ⌝ }
+{
+    let n = from.len();
+    let mut k = 0;
+    while k < n {
+        f[to + k] = from[k];
+        k += 1;
+    }
+}
+
+// So many levels, whose floats start at `image`, from the values of the finest, which are given; `dic` tells whether the smoother needs
+// DIC data. The finest level reads them where they are; only where it is the last, which a factor is made of, they are copied.
+pub fn renew(
+    w: &[u32],
+    given: &[f64],
+    f: &mut [f64],
+    dic: bool,
+    levels: u64,
+    image: usize,
+) -> Verdict
+    requires { ⌜ StartOk (now w) (length (now f)) (length (now given)) levels image ⌝ }
+    ensures { λ r. ⌜ Under dic (λ o. Renewed o levels 0 (now (w .entry)) (now (given .entry)) (now (f .entry)) (now (f .exit)) 0 image r) ⌝ }
+{
+    let p = sound::place_at(w, 0, image);
+    if levels < 2 {
+        load(f, given, image);
+        return renew_rest(w, f, dic, levels, 0, 0, p);
+    }
+    let a = layout::words_end(w, 0);
+    let t = sound::place_at(w, a, p.factor);
+    let answer = first_turn(w, given, f, dic, p, t);
+    if answer.refused() {
+        return answer;
+    }
+    renew_rest(w, f, dic, levels, 1, a, t)
 }

@@ -24,7 +24,7 @@ use Rattle.store.proofs.Vector.{length-tab, getD-tab, tab-same, for-each}
 use Rattle.store.proofs.Each.{Tested, both-l, both-r, each-at, each-same, tested-start, tested-on, tested-done}
 use Rattle.matrix.specs.declared.SymmetricMatrix.{SymmetricMatrix}
 use Rattle.values.specs.declared.entries.Entries.{Entries}
-use Rattle.values.specs.Update.{isPositive, diagonalAsked, diagonalGood, entryOf, Coefficients, updateOf, updateAt, Within, Holds, UpdateOk, Updated, EntriesOk, pickTurn, Inverted, after, diagonalAt, writtenTo, RowsSettled, RowsUpdated, RowsAsked}
+use Rattle.values.specs.Update.{isPositive, diagonalAsked, diagonalGood, entryOf, Coefficients, updateOf, updateWith, updateAt, Within, Holds, UpdateOk, Updated, EntriesOk, GivenOk, pickTurn, Inverted, after, RowsTold, RowsAsked}
 
 -- ---- the frame
 
@@ -90,6 +90,28 @@ pub pick-on : (w : List ℕ) (places values to k entry : ℕ) (F : List Float) �
 unfolding pickTurn
 pick-on w places values to k entry F e = rw e
 
+-- The same of values that are given.
+pub given-of : (w : List ℕ) (size n count places to k : ℕ) → GivenOk w size n count places to → k < n → idx w (places + k) < count
+given-of w size n count places to k ok h = ok .near k h
+
+-- to[k] = the given value of entry k
+unfoldable pub giveTurn : List ℕ → ℕ → List Float → ℕ → ℕ → List Float → List Float
+giveTurn w places U to k F = set F (to + k) (at U (idx w (places + k)))
+
+pub given-picked : {w : List ℕ} (U : List Float) {F G : List Float} {n count places to k : ℕ} → GivenOk w (length F) n count places to
+    → Left (giveTurn w places U to) k n G (for (giveTurn w places U to) 0 n F) → n ≤ k
+    → Wrote to n (tab (entryOf (part places n w) U) n) F G
+unfolding giveTurn
+given-picked {w} U {F} {G} {n} {count} {places} {to} ok l h =
+    let start = for-each to n F (λ k I. at U (idx w (places + k))) (λ k b I same. refl) in
+    let regions = tab-same (λ k. at U (idx w (places + k))) (entryOf (part places n w) U) n (λ k b. simp getD-part) in
+    wrote (left-end l h ∙ start ∙ ap (λ (v : List Float). splice to v F) regions) (length-tab _ n)
+
+pub given-on : (w : List ℕ) (places to k entry : ℕ) (U F : List Float) → entry ≡ idx w (places + k)
+    → set F (to + k) (at U entry) ≡ giveTurn w places U to k F
+unfolding giveTurn
+given-on w places to k entry U F e = rw e
+
 -- ---- the rows
 
 set-end : {A : Type 0} (b k : ℕ) (v F : List A) (a : A) → length v ≡ k → set (splice b v F) (b + k) a ≡ splice b (v ++ (a ∷ [])) F
@@ -135,25 +157,6 @@ module _ (rows diagonal inverse : ℕ) (F : List Float) where
   invert-on {G} {row} l s h e e' =
       let same = read G row l (s .is) h in
       record { is = write G row l (s .is) h; tested = tested-on (s .tested) h (rw (e, e', same)) }
-
-module _ (w : List ℕ) (rows entries places values diagonal inverse : ℕ) (F : List Float) where
-  abbrev own : ℕ → Float
-  own = diagonalAt w rows entries places values F
-
-  -- The diagonals taken from their entries, and then their reciprocals.
-  pub rows-settled : {G H : List Float} {ok : Bool} → diagonal + rows ≤ inverse → inverse + rows ≤ length F → Wrote diagonal rows (tab own rows) F G
-      → Inverted rows diagonal inverse G H ok → RowsSettled w rows entries places values F diagonal inverse H ok
-  rows-settled {G} {H} {ok} l fits t s =
-      let here : (r : ℕ) → r < rows → at G (diagonal + r) ≡ own r = λ r h.
-      let b : diagonal + r < length F = omega arith in
-      let z : r < length (tab own rows) = rw (length-tab own rows) h in
-      rw (t .is) (simp (getD-splice-in, getD-tab)) in
-      let recips : tab (λ r. div64 one64 (at G (diagonal + r))) rows ≡ tab (λ r. div64 one64 (own r)) rows =
-      tab-same _ _ rows (λ r h. ap (div64 one64) (here r h)) in
-      record {
-        is = s .is ∙ rw (recips, t .is);
-        all = s .all ∙ each-same _ _ rows (λ r h. ap diagonalGood (here r h));
-      }
 
 -- ---- the questions of the rows
 
@@ -204,38 +207,28 @@ module _ (level rows diagonal : ℕ) (F : List Float) where
           let fine : isFinite (div64 one64 (at F (diagonal + row))) ≡ true = sym e' ∙ t in
           record { left = λ rest. a .left rest ∙ each-step row rows asks rest h (rw (good, fine)) }
 
-module _ {w : List ℕ} {rows entries places values diagonal inverse : ℕ} {F G : List Float} {ok : Bool}
-    (l : diagonal + rows ≤ inverse) (fits : inverse + rows ≤ length F) (s : RowsSettled w rows entries places values F diagonal inverse G ok) where
-  rows-within : Within diagonal (inverse + rows) F G
-  rows-within =
-      within-on (within-wrote (wrote {b = diagonal} refl (length-tab (diagonalAt w rows entries places values F) rows)) (omega arith) (omega arith))
-      (within-wrote (wrote {b = inverse} (s .is) (length-tab _ rows)) (omega arith) (omega arith))
-
+module _ {rows diagonal inverse : ℕ} {F G : List Float} {ok : Bool} (l : diagonal + rows ≤ inverse) (s : Inverted rows diagonal inverse F G ok) where
   -- Every row is good.
-  pub rows-good : (level : ℕ) → ok ≡ true → RowsUpdated w rows entries places values F level diagonal inverse G Verdict.Passed
+  pub rows-good : (level : ℕ) → ok ≡ true → RowsTold level rows diagonal inverse F G Verdict.Passed
   unfolding after
   rows-good level t = record {
-    asked = λ rest. each-all (λ r. diagonalAsked level r (diagonalAt w rows entries places values F r)) rest rows
-        (λ r h. good-passes level r (diagonalAt w rows entries places values F r) (each-at _ rows (sym (s .all) ∙ t) r h));
-    is = λ _. s .is;
-    within = rows-within;
+    is = s .is;
+    asked = λ rest. each-all (λ r. diagonalAsked level r (at F (diagonal + r))) rest rows
+        (λ r h. good-passes level r (at F (diagonal + r)) (each-at _ rows (sym (s .all) ∙ t) r h));
   }
 
-  -- The diagonal that is written is that of the rows.
-  diagonal-read : (r : ℕ) → r < rows → at G (diagonal + r) ≡ diagonalAt w rows entries places values F r
-  diagonal-read r h =
+  -- The reciprocals leave the diagonal.
+  diagonal-stays : (r : ℕ) → r < rows → at G (diagonal + r) ≡ at F (diagonal + r)
+  diagonal-stays r h =
       let b : diagonal + r < inverse = omega arith in
-      let b' : diagonal + r < length F = omega arith in
-      let z : r < length (tab (diagonalAt w rows entries places values F) rows) = rw (length-tab (diagonalAt w rows entries places values F) rows) h in
-      rw (s .is) (simp (getD-splice-below, getD-splice-in, getD-tab))
+      rw (s .is) (simp getD-splice-below)
 
   -- Else the questions, asked one by one, give the verdict.
-  pub rows-asked : {level : ℕ} {r : Verdict} → RowsAsked level rows diagonal G r → RowsUpdated w rows entries places values F level diagonal inverse G r
+  pub rows-asked : {level : ℕ} {r : Verdict} → RowsAsked level rows diagonal G r → RowsTold level rows diagonal inverse F G r
   rows-asked {level} a = record {
-    asked = λ rest. each-alike (λ k. diagonalAsked level k (diagonalAt w rows entries places values F k)) rest (λ k. diagonalAsked level k (at G (diagonal + k))) rows
-        (λ k h. ap (diagonalAsked level k) (sym (diagonal-read k h))) ∙ a .asked rest;
-    is = λ _. s .is;
-    within = rows-within;
+    is = s .is;
+    asked = λ rest. each-alike (λ k. diagonalAsked level k (at F (diagonal + k))) rest (λ k. diagonalAsked level k (at G (diagonal + k))) rows
+        (λ k h. ap (diagonalAsked level k) (sym (diagonal-stays k h))) ∙ a .asked rest;
   }
 
 -- ---- the ways out
@@ -245,61 +238,112 @@ pub rows-entries : {w : List ℕ} {size : ℕ} {s : SymmetricMatrix} {e : Entrie
     → EntriesOk w size (s .rows) (e .entries) (e .diagonals) (e .values) (s .diagonal)
 rows-entries ok = record { words = ok .owns; near = ok .own; image = omega arith; target = omega arith }
 
--- What the loop over the faces requires, after it.
-pub faces-entries : {w : List ℕ} {F G : List Float} {s : SymmetricMatrix} {e : Entries} {faces lo hi : ℕ} → UpdateOk w (length F) s e
-    → faces ≡ idx w (s .offsets + s .rows) → Within lo hi F G → EntriesOk w (length G) faces (e .entries) (e .faces) (e .values) (s .coefficients)
-faces-entries ok i h =
-    let long = h .size in
+-- Neither changes the size.
+told-size : {level rows diagonal inverse b n : ℕ} {F D G v : List Float} {r : Verdict} → Wrote b n v F D → RowsTold level rows diagonal inverse D G r
+    → length G ≡ length F
+told-size d h = ap length (h .is) ∙ length-splice _ _ _ ∙ d .size
+
+-- What the reciprocals require, after it.
+pub settle-room : {w : List ℕ} {F G v : List Float} {s : SymmetricMatrix} {e : Entries} {b n : ℕ} → UpdateOk w (length F) s e → Wrote b n v F G
+    → s .inverse + s .rows ≤ length G
+settle-room ok h = let long = h .size in omega (arith, ok .recips)
+
+-- What the loop over the faces requires, after both.
+pub faces-entries : {w : List ℕ} {F D G v : List Float} {s : SymmetricMatrix} {e : Entries} {level faces b n : ℕ} {r : Verdict} → UpdateOk w (length F) s e
+    → faces ≡ idx w (s .offsets + s .rows) → Wrote b n v F D → RowsTold level (s .rows) (s .diagonal) (s .inverse) D G r
+    → EntriesOk w (length G) faces (e .entries) (e .faces) (e .values) (s .coefficients)
+faces-entries {w} {F} {D} {G} {v} {s} ok i d h =
+    let long = told-size d h in
     rw i (record { words = ok .sides; near = ok .side; image = ok .image; target = omega arith })
 
-module _ {level : ℕ} {w : List ℕ} {F G : List Float} {s : SymmetricMatrix} {e : Entries} {v : Verdict} (ok : UpdateOk w (length F) s e)
-    (a : RowsUpdated w (s .rows) (e .entries) (e .diagonals) (e .values) F level (s .diagonal) (s .inverse) G v) where
+-- The same where the image is given.
+pub rows-given : {w : List ℕ} {size count : ℕ} {s : SymmetricMatrix} {e : Entries} → UpdateOk w size s e → e .entries ≤ count
+    → GivenOk w size (s .rows) count (e .diagonals) (s .diagonal)
+rows-given ok h = record { words = ok .owns; near = λ k q. let b = ok .own k q in omega arith; target = omega arith }
+
+pub faces-given : {w : List ℕ} {F D G v : List Float} {s : SymmetricMatrix} {e : Entries} {level faces count b n : ℕ} {r : Verdict} → UpdateOk w (length F) s e
+    → e .entries ≤ count → faces ≡ idx w (s .offsets + s .rows) → Wrote b n v F D → RowsTold level (s .rows) (s .diagonal) (s .inverse) D G r
+    → GivenOk w (length G) faces count (e .faces) (s .coefficients)
+faces-given {w} {F} {D} {G} {v} {s} ok h i d t =
+    let long = told-size d t in
+    rw i (record { words = ok .sides; near = λ k q. let b = ok .side k q in omega arith; target = omega arith })
+
+-- The diagonals taken from U, and their reciprocals.
+module _ {level : ℕ} {w : List ℕ} (U : List Float) {F D G : List Float} {s : SymmetricMatrix} {e : Entries} {v : Verdict} (ok : UpdateOk w (length F) s e)
+    (d : Wrote (s .diagonal) (s .rows) (tab (entryOf (part (e .diagonals) (s .rows) w) U) (s .rows)) F D)
+    (a : RowsTold level (s .rows) (s .diagonal) (s .inverse) D G v) where
+  abbrev own : ℕ → Float
+  own = entryOf (part (e .diagonals) (s .rows) w) U
+
+  here : (r : ℕ) → r < s .rows → at D (s .diagonal + r) ≡ own r
+  here r h =
+      let b : s .diagonal + r < length F = omega arith in
+      let z : r < length (tab own (s .rows)) = rw (length-tab own (s .rows)) h in
+      rw (d .is) (simp (getD-splice-in, getD-tab))
+
+  second : Wrote (s .inverse) (s .rows) (tab (λ row. div64 one64 (own row)) (s .rows)) D G
+  second =
+      wrote (a .is ∙ ap (λ (u : List Float). splice (s .inverse) u D) (tab-same _ _ (s .rows) (λ r h. ap (div64 one64) (here r h)))) (length-tab _ (s .rows))
+
+  asked : (rest : Outcome Coefficients) → askEach (s .rows) (λ row. diagonalAsked level row (own row)) rest ≡ after v rest
+  asked rest =
+      each-alike (λ k. diagonalAsked level k (own k)) rest (λ k. diagonalAsked level k (at D (s .diagonal + k))) (s .rows)
+      (λ k h. ap (diagonalAsked level k) (sym (here k h))) ∙ a .asked rest
+
   wide : Within (s .coefficients) (s .inverse + s .rows) F G
-  wide = within-more (a .within) (omega arith) (omega arith)
+  wide = within-on (within-wrote d (omega arith) (omega arith)) (within-wrote second (omega arith) (omega arith))
 
   -- A row was refused.
-  pub update-no : {q : Refusal} → v ≡ Verdict.Refused q → Updated w s (updateAt level s e w F) F G (Verdict.Refused q)
+  pub refuses : {q : Refusal} → v ≡ Verdict.Refused q → Updated w s (updateWith level s e w U) F G (Verdict.Refused q)
   unfolding updateOf after
-  update-no {q} t =
-      let no : updateAt level s e w F ≡ refused q = a .asked _ ∙ rw t in
+  refuses {q} t =
+      let no : updateWith level s e w U ≡ refused q = asked _ ∙ rw t in
       record { verdict = rw no; holds = λ k y. let z : _≡_ {A = ℕ} 0 1 = cc in absurd (omega arith); within = wide }
 
   -- Every row passed, and the faces' values were copied.
   module _ {H : List Float} {faces : ℕ} (t : v ≡ Verdict.Passed) (i : faces ≡ idx w (s .offsets + s .rows))
-      (c : Wrote (s .coefficients) faces (tab (entryOf (part (e .faces) faces w) (part (e .values) (e .entries) G)) faces) G H) where
+      (c : Wrote (s .coefficients) faces (tab (entryOf (part (e .faces) faces w) U) faces) G H) where
     abbrev made : Coefficients
     made = record {
-      diagonal = tab (diagonalAt w (s .rows) (e .entries) (e .diagonals) (e .values) F) (s .rows);
-      inverse = tab (λ row. div64 one64 (diagonalAt w (s .rows) (e .entries) (e .diagonals) (e .values) F row)) (s .rows);
-      coefficients = tab (entryOf (part (e .faces) (idx w (s .offsets + s .rows)) w) (part (e .values) (e .entries) F)) (length (part (e .faces) (idx w (s .offsets + s .rows)) w));
+      diagonal = tab own (s .rows);
+      inverse = tab (λ row. div64 one64 (own row)) (s .rows);
+      coefficients = tab (entryOf (part (e .faces) (idx w (s .offsets + s .rows)) w) U) (length (part (e .faces) (idx w (s .offsets + s .rows)) w));
     }
 
-    told : updateAt level s e w F ≡ accepted made
+    told : updateWith level s e w U ≡ accepted made
     unfolding updateOf after
-    told = a .asked _ ∙ rw t
-
-    first : Wrote (s .diagonal) (s .rows) (made .diagonal) F (splice (s .diagonal) (made .diagonal) F)
-    first = wrote refl (length-tab _ (s .rows))
-
-    second : Wrote (s .inverse) (s .rows) (made .inverse) (splice (s .diagonal) (made .diagonal) F) G
-    second = wrote (a .is t) (length-tab _ (s .rows))
+    told = asked _ ∙ rw t
 
     made-holds : Holds w s made H
     made-holds =
-        let size₁ = first .size in
+        let size₁ = d .size in
         let size₂ = second .size in
-        let f : part (e .values) (e .entries) G ≡ part (e .values) (e .entries) F = kept-part (within-kept (a .within)) (e .values) (e .entries) (omega arith) in
         let n : length (part (e .faces) (idx w (s .offsets + s .rows)) w) ≡ idx w (s .offsets + s .rows) = length-part _ _ w (ok .sides) in
         record {
-          diagonal = wrote-off c (s .diagonal) (s .rows) (omega arith) ∙ wrote-off second (s .diagonal) (s .rows) (omega arith) ∙ wrote-at first (omega arith);
+          diagonal = wrote-off c (s .diagonal) (s .rows) (omega arith) ∙ wrote-off second (s .diagonal) (s .rows) (omega arith) ∙ wrote-at d (omega arith);
           inverse = wrote-off c (s .inverse) (s .rows) (omega arith) ∙ wrote-at second (omega arith);
-          coefficients = rw n (rw (i, f) at (wrote-at c (omega arith)));
+          coefficients = rw n (rw i at (wrote-at c (omega arith)));
         }
 
-    pub update-yes : Updated w s (updateAt level s e w F) F H Verdict.Passed
-    update-yes =
+    pub accepts : Updated w s (updateWith level s e w U) F H Verdict.Passed
+    accepts =
         record {
           verdict = rw told;
           holds = λ k y. let same : k ≡ made = cc (told) in rw same made-holds;
           within = within-on wide (within-wrote c (omega arith) (omega arith));
         }
+
+-- The image stands below what is written, and so it is the same for the faces.
+module _ {level : ℕ} {w : List ℕ} {F D G : List Float} {s : SymmetricMatrix} {e : Entries} {v : Verdict} (ok : UpdateOk w (length F) s e)
+    (d : Wrote (s .diagonal) (s .rows) (tab (entryOf (part (e .diagonals) (s .rows) w) (part (e .values) (e .entries) F)) (s .rows)) F D)
+    (a : RowsTold level (s .rows) (s .diagonal) (s .inverse) D G v) where
+  pub update-no : {q : Refusal} → v ≡ Verdict.Refused q → Updated w s (updateAt level s e w F) F G (Verdict.Refused q)
+  update-no t = refuses (part (e .values) (e .entries) F) ok d a t
+
+  pub update-yes : {H : List Float} {faces : ℕ} → v ≡ Verdict.Passed → faces ≡ idx w (s .offsets + s .rows)
+      → Wrote (s .coefficients) faces (tab (entryOf (part (e .faces) faces w) (part (e .values) (e .entries) G)) faces) G H
+      → Updated w s (updateAt level s e w F) F H Verdict.Passed
+  update-yes {H} {faces} t i c =
+      let f : part (e .values) (e .entries) G ≡ part (e .values) (e .entries) F =
+      kept-part (within-kept (wide (part (e .values) (e .entries) F) ok d a)) (e .values) (e .entries) (ok .image) in
+      accepts (part (e .values) (e .entries) F) ok d a t i (rw f at c)

@@ -49,11 +49,15 @@ updateOf level rows diagonals faces values = do
     coefficients = tab (entryOf faces values) (length faces);
   })
 
--- the same of the image at the places of e, for the matrix at those of s
-abbrev pub updateAt : ℕ → SymmetricMatrix → Entries → List ℕ → List Float → Outcome Coefficients
-updateAt level s e w F =
+-- the same of those values by the positions of e, for the matrix at the places of s
+abbrev pub updateWith : ℕ → SymmetricMatrix → Entries → List ℕ → List Float → Outcome Coefficients
+updateWith level s e w values =
     let faces = idx w (s .offsets + s .rows) in
-    updateOf level (s .rows) (part (e .diagonals) (s .rows) w) (part (e .faces) faces w) (part (e .values) (e .entries) F)
+    updateOf level (s .rows) (part (e .diagonals) (s .rows) w) (part (e .faces) faces w) values
+
+-- the same of the image at the places of e
+abbrev pub updateAt : ℕ → SymmetricMatrix → Entries → List ℕ → List Float → Outcome Coefficients
+updateAt level s e w F = updateWith level s e w (part (e .values) (e .entries) F)
 
 -- The frame of a function that writes only from lo up to hi: elsewhere, G is F.
 pub record Within {A : Type 0} (lo hi : ℕ) (F G : List A) : Type 0 where
@@ -98,6 +102,12 @@ pub record EntriesOk (w : List ℕ) (size n entries places values to : ℕ) : Ty
   pub image : values + entries ≤ to
   pub target : to + n ≤ size
 
+-- n positions at `places` in w, each one of `count` values; there is room for n at `to`
+pub record GivenOk (w : List ℕ) (size n count places to : ℕ) : Type 0 where
+  pub words : places + n ≤ length w
+  pub near : (k : ℕ) → k < n → idx w (places + k) < count
+  pub target : to + n ≤ size
+
 -- the diagonal stands in F: what a pass over it leaves, each reciprocal, and whether all rows are good
 pub record Inverted (rows diagonal inverse : ℕ) (F G : List Float) (r : Bool) : Type 0 where
   pub is : G ≡ splice inverse (tab (λ row. div64 one64 (at F (diagonal + row))) rows) F
@@ -113,21 +123,11 @@ module _ (w : List ℕ) (rows entries places values : ℕ) (F : List Float) wher
   abbrev pub diagonalAt : ℕ → Float
   diagonalAt = entryOf (part places rows w) (part values entries F)
 
-  -- the store once the first k rows have been written
-  abbrev pub writtenTo : ℕ → ℕ → ℕ → List Float
-  writtenTo diagonal inverse k = splice inverse (tab (λ row. div64 one64 (diagonalAt row)) k) (splice diagonal (tab diagonalAt k) F)
-
-  -- what a pass over all rows leaves: every row is written, and whether all of them are good
-  pub record RowsSettled (diagonal inverse : ℕ) (G : List Float) (r : Bool) : Type 0 where
-    pub is : G ≡ writtenTo diagonal inverse rows
-    pub all : r ≡ each (λ row. diagonalGood (diagonalAt row)) rows
-
-  -- what the rows leave: their verdict decides how the questions go on, and where they pass, every row is written
-  pub record RowsUpdated (level diagonal inverse : ℕ) (G : List Float) (r : Verdict) : Type 0 where
-    pub asked : (rest : Outcome Coefficients) → askEach rows (λ row. diagonalAsked level row (diagonalAt row)) rest ≡ after r rest
-    pub is : r ≡ Verdict.Passed → G ≡ writtenTo diagonal inverse rows
-    pub within : Within diagonal (inverse + rows) F G
-
 -- the verdict on the rows whose diagonal stands in F decides how the questions go on
 pub record RowsAsked (level rows diagonal : ℕ) (F : List Float) (r : Verdict) : Type 0 where
+  pub asked : (rest : Outcome Coefficients) → askEach rows (λ row. diagonalAsked level row (at F (diagonal + row))) rest ≡ after r rest
+
+-- the same, and each reciprocal written
+pub record RowsTold (level rows diagonal inverse : ℕ) (F G : List Float) (r : Verdict) : Type 0 where
+  pub is : G ≡ splice inverse (tab (λ row. div64 one64 (at F (diagonal + row))) rows) F
   pub asked : (rest : Outcome Coefficients) → askEach rows (λ row. diagonalAsked level row (at F (diagonal + row))) rest ≡ after r rest

@@ -4,7 +4,7 @@ ghost use Prim.Native.Nat.{_+_, _≤_};
 ghost use lib.ListN.{length};
 ghost use Rattle.store.specs.Region.{idx, part, Wrote};
 ghost use Rattle.store.specs.Vector.{tab};
-ghost use Rattle.values.specs.Update.{isPositive, entryOf, updateAt, UpdateOk, Updated, EntriesOk, Inverted, RowsUpdated, RowsSettled, RowsAsked};
+ghost use Rattle.values.specs.Update.{isPositive, entryOf, updateWith, updateAt, UpdateOk, Updated, EntriesOk, GivenOk, Inverted, RowsTold, RowsAsked};
 use matrix::SymmetricMatrix;
 use refusal::Refusal;
 use refusal::Verdict;
@@ -55,26 +55,6 @@ fn invert(f: &mut [f64], rows: usize, diagonal: usize, inverse: usize) -> bool
     ok
 }
 
-// The diagonal of every row and its reciprocal, and whether all of them pass questions 12 and 13.
-fn settle_rows(
-    w: &[u32],
-    f: &mut [f64],
-    rows: usize,
-    entries: usize,
-    places: usize,
-    values: usize,
-    diagonal: usize,
-    inverse: usize,
-) -> bool
-    requires { ⌜ EntriesOk (now w) (length (now f)) rows entries places values diagonal ⌝ }
-    requires { ⌜ diagonal + rows ≤ inverse ⌝ }
-    requires { ⌜ inverse + rows ≤ length (now f) ⌝ }
-    ensures { λ r. ⌜ RowsSettled (now (w .entry)) rows entries places values (now (f .entry)) diagonal inverse (now (f .exit)) r ⌝ }
-{
-    pick(w, f, rows, entries, places, values, diagonal);
-    invert(f, rows, diagonal, inverse)
-}
-
 // Questions 12 and 13, row by row, of the diagonal that is written: which row fails first.
 fn ask_rows(f: &[f64], rows: usize, diagonal: usize, level: u64) -> Verdict
     requires { ⌜ diagonal + rows ≤ length (now f) ⌝ }
@@ -104,49 +84,68 @@ fn ask_rows(f: &[f64], rows: usize, diagonal: usize, level: u64) -> Verdict
     Verdict::Passed
 }
 
-// The diagonal and its reciprocals: questions 12 and 13, row by row. Rows are asked one by one only where one of them fails.
-fn update_rows(
-    w: &[u32],
-    f: &mut [f64],
-    rows: usize,
-    entries: usize,
-    places: usize,
-    values: usize,
-    diagonal: usize,
-    inverse: usize,
-    level: u64,
-) -> Verdict
-    requires { ⌜ EntriesOk (now w) (length (now f)) rows entries places values diagonal ⌝ }
+// The reciprocals of the diagonals that stand at `diagonal`: questions 12 and 13. Rows are asked one by one only where one of them fails.
+fn settle(f: &mut [f64], rows: usize, diagonal: usize, inverse: usize, level: u64) -> Verdict
     requires { ⌜ diagonal + rows ≤ inverse ⌝ }
     requires { ⌜ inverse + rows ≤ length (now f) ⌝ }
-    ensures { λ r. ⌜ RowsUpdated (now (w .entry)) rows entries places values (now (f .entry)) level diagonal inverse (now (f .exit)) r ⌝ }
+    ensures { λ r. ⌜ RowsTold level rows diagonal inverse (now (f .entry)) (now (f .exit)) r ⌝ }
 {
-    if settle_rows(w, f, rows, entries, places, values, diagonal, inverse) {
+    if invert(f, rows, diagonal, inverse) {
         return Verdict::Passed;
     }
     ask_rows(f, rows, diagonal, level)
 }
 
-// New values for the matrix at s. Where a diagonal is refused, some rows may have been written.
+// New values for the matrix at s. Where a diagonal is refused, the rows have been written.
 pub fn update(w: &[u32], f: &mut [f64], s: SymmetricMatrix, e: Entries, level: u64) -> Verdict
     requires { ⌜ UpdateOk (now w) (length (now f)) s e ⌝ }
     ensures { λ r. ⌜ Updated (now (w .entry)) s (updateAt level s e (now (w .entry)) (now (f .entry))) (now (f .entry)) (now (f .exit)) r ⌝ }
 {
     let faces = store::wide(w[s.offsets + s.rows]);
-    let asked = update_rows(
-        w,
-        f,
-        s.rows,
-        e.entries,
-        e.diagonals,
-        e.values,
-        s.diagonal,
-        s.inverse,
-        level,
-    );
+    pick(w, f, s.rows, e.entries, e.diagonals, e.values, s.diagonal);
+    let asked = settle(f, s.rows, s.diagonal, s.inverse, level);
     match asked {
         Verdict::Passed => {
             pick(w, f, faces, e.entries, e.faces, e.values, s.coefficients);
+            Verdict::Passed
+        }
+        Verdict::Refused(refusal) => Verdict::Refused(refusal),
+    }
+}
+
+// The values of n entries of `given`, copied to `to` without a test.
+fn pick_given(w: &[u32], given: &[f64], f: &mut [f64], n: usize, places: usize, to: usize)
+    requires { ⌜ GivenOk (now w) (length (now f)) n (length (now given)) places to ⌝ }
+    ensures { λ _. ⌜ Wrote to n (tab (entryOf (part places n (now (w .entry))) (now (given .entry))) n) (now (f .entry)) (now (f .exit)) ⌝ }
+{
+    let count = given.len();
+    let mut k = 0;
+    while k < n {
+        let entry = store::index_at(w, places, k, count);
+        f[to + k] = given[entry];
+        k += 1;
+    }
+}
+
+// The same as `update`, of an image that is given in a slice of its own.
+pub fn update_given(
+    w: &[u32],
+    given: &[f64],
+    f: &mut [f64],
+    s: SymmetricMatrix,
+    e: Entries,
+    level: u64,
+) -> Verdict
+    requires { ⌜ UpdateOk (now w) (length (now f)) s e ⌝ }
+    requires { ⌜ e .entries ≤ length (now given) ⌝ }
+    ensures { λ r. ⌜ Updated (now (w .entry)) s (updateWith level s e (now (w .entry)) (now (given .entry))) (now (f .entry)) (now (f .exit)) r ⌝ }
+{
+    let faces = store::wide(w[s.offsets + s.rows]);
+    pick_given(w, given, f, s.rows, e.diagonals, s.diagonal);
+    let asked = settle(f, s.rows, s.diagonal, s.inverse, level);
+    match asked {
+        Verdict::Passed => {
+            pick_given(w, given, f, faces, e.faces, s.coefficients);
             Verdict::Passed
         }
         Verdict::Refused(refusal) => Verdict::Refused(refusal),

@@ -4,4 +4,5 @@ mod symmetry;
 
 pub use entries::Entries;
 pub use entries::update;
+pub use entries::update_given;
 pub use symmetry::equal_mirrors;

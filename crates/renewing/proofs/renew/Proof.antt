@@ -1,90 +1,70 @@
--- `renewing::renew` meets its contract. The loop's invariant: the levels left make all of them. The measure is the number of levels left.
+-- `renewing::renew` meets its contract: the finest level from the values that are given, and the levels after it.
 -- Assumes nothing.
 use mathlib.Core.Path.{sym, _∙_}
-use Prim.Native.Nat.{_-_}
-use Rattle.renewing.proofs.Renewing.{renew-place, Underway, underway-start, underway-few, underway-header, underway-words, underway-next, underway-turn, underway-no, underway-on, underway-last, underway-end}
+use Rattle.renewing.proofs.Renewing.{start-place, load-room, loaded-rest, loaded-done, first-words, first-next, first-ready, first-no, first-rest, first-on}
 use native.Mathlib.Omega.{arith}
 use borrow.Author.Needs.{needs}
 use Rattle.renewing.proofs.renew.Statement.{statement}
 use Rattle.renewing.proofs.renew.Tie as tie
 
-abbrev Inv-loop : tie.InvT-loop
-Inv-loop w f₀ dic levels image level₀ a₀ p₀ f level a p = Underway dic levels image level a p w f₀ f
+place-at-requires : tie.Need-place-at-requires
+place-at-requires c κs = let start = c .before .before .before in start-place (start .args .given .now) (start .args .f .now) (start .pre)
 
-abbrev μ-loop : tie.MeasureT-loop
-μ-loop w f₀ dic levels image level₀ a₀ p₀ f level a p = levels - level
+load-requires : tie.Need-load-requires
+load-requires c κs = let start = c .before .before .before .before .before .before in load-room (start .args .given .now) (start .args .f .now) (start .pre) (c .before .before .place-at .ensures)
 
-place-at-requires : tie.Need-place-at-requires Inv-loop μ-loop
-place-at-requires c κs = renew-place (c .before .before .pre)
+renew-rest-requires : tie.Need-renew-rest-requires
+renew-rest-requires c κs = let start = c .before .before .before .before .before .before .before .before .before .before in loaded-rest (start .args .given .now) (start .args .f .now) (start .pre) (c .before .before .before .before .before .before .place-at .ensures) (c .before .before .before .load .ensures)
 
-loop-holds : tie.Need-loop-holds Inv-loop μ-loop
-loop-holds c = underway-start _ (c .before .before .before .pre) (c .place-at .ensures)
+returns : tie.Need-returns
+returns c o by =
+    let start = c .before .before .before .before .before .before .before .before .before .before .before .before .before in
+    loaded-done (start .args .given .now) (start .args .f .now) (start .pre) (c .before .before .before .before .before .before .before .before .before .place-at .ensures) (c .before .before .before .before .before .before .load .ensures) (c .before .before .renew-rest .ensures) o by
 
-add-loop : tie.Need-add-loop Inv-loop μ-loop
-add-loop c = omega (arith, underway-few (c .loop .inv))
+words-end-requires : tie.Need-words-end-requires
+words-end-requires c κs = let start = c .before .before .before .before .before in first-words (start .args .given .now) (start .args .f .now) (start .pre) (c .before .place-at .ensures) (c .if1 .left)
 
-words-end-requires : tie.Need-words-end-requires Inv-loop μ-loop
-words-end-requires c κs = underway-words (c .before .loop .inv) (c .loop-test .taken)
+place-at-requires-2 : tie.Need-place-at-requires-2
+place-at-requires-2 c κs = let start = c .before .before .before .before .before .before in first-next (start .args .given .now) (start .args .f .now) (start .pre) (c .before .before .place-at .ensures) (c .before .if1 .left) (c .words-end .ensures)
 
-place-at-requires-2 : tie.Need-place-at-requires-2 Inv-loop μ-loop
-place-at-requires-2 c κs = underway-next (c .before .before .loop .inv) (c .before .loop-test .taken) (c .words-end .ensures)
+first-turn-requires : tie.Need-first-turn-requires
+first-turn-requires c κs =
+    let start = c .before .before .before .before .before .before .before .before in
+    first-ready (start .args .given .now) (start .args .f .now) (start .pre) (c .before .before .before .before .place-at .ensures) (c .before .before .before .if1 .left) (c .before .before .words-end .ensures) (c .before .place-at2 .ensures)
 
-turn-requires : tie.Need-turn-requires Inv-loop μ-loop
-turn-requires c κs =
-    underway-turn (c .before .before .before .before .loop .inv) (c .before .before .before .loop-test .taken) (c .before .before .words-end .ensures) (c .before .place-at2 .ensures)
+returns-2 : tie.Need-returns-2
+returns-2 c o by =
+    let start = c .before .before .before .before .before .before .before .before .before .before .before .before .before in
+    first-no (start .args .given .now) (start .args .f .now) (start .pre) (c .before .before .before .before .before .before .before .before .before .place-at .ensures) (c .before .before .before .before .before .before .before .before .if1 .left) (c .before .before .before .before .before .before .before .words-end .ensures) (c .before .before .before .before .before .before .place-at2 .ensures)
+    (c .before .before .before .before .first-turn .ensures) (sym (c .before .refused .ensures) ∙ c .if2 .taken) o by
 
-returns : tie.Need-returns Inv-loop μ-loop
-returns c =
-    let gone = c .before .before .before .before in
-    underway-no (gone .before .before .before .before .before .loop .inv) (gone .before .before .before .before .loop-test .taken) (gone .before .before .before .words-end .ensures) (gone .before .before .place-at2 .ensures)
-    (gone .turn .ensures) (sym (c .before .refused .ensures) ∙ c .if1 .taken)
+renew-rest-requires-2 : tie.Need-renew-rest-requires-2
+renew-rest-requires-2 c κs =
+    let start = c .before .before .before .before .before .before .before .before .before .before .before .before .before .before in
+    first-rest (start .args .given .now) (start .args .f .now) (start .pre) (c .before .before .before .before .before .before .before .before .before .before .place-at .ensures) (c .before .before .before .before .before .before .before .before .before .if1 .left) (c .before .before .before .before .before .before .before .before .words-end .ensures) (c .before .before .before .before .before .before .before .place-at2 .ensures)
+    (c .before .before .before .before .before .first-turn .ensures) (c .before .before .before .before .before .first-turn .kept .1 .1 .0)
 
-add-level : tie.Need-add-level Inv-loop μ-loop
-add-level c = omega (arith, underway-few (c .before .before .before .before .before .before .before .before .before .loop .inv))
-
-loop-again : tie.Need-loop-again Inv-loop μ-loop
-loop-again c =
-    let gone = c .before .before .before .before in
-    underway-on (gone .before .before .before .before .before .loop .inv) (gone .before .before .before .before .loop-test .taken) (gone .before .before .before .words-end .ensures) (gone .before .before .place-at2 .ensures)
-    (gone .turn .ensures) (sym (c .before .refused .ensures) ∙ c .if1 .left) (gone .turn .kept .1 .0)
-
-add-wide : tie.Need-add-wide Inv-loop μ-loop
-add-wide c = omega (arith, underway-header (c .before .loop .inv))
-
-mul-wide : tie.Need-mul-wide Inv-loop μ-loop
-mul-wide c = omega (arith, underway-header (c .before .loop .inv))
-
-shared-slice-read-wide : tie.Need-shared-slice-read-wide Inv-loop μ-loop
-shared-slice-read-wide c = omega (arith, underway-header (c .before .before .loop .inv))
-
-renew-level-requires : tie.Need-renew-level-requires Inv-loop μ-loop
-renew-level-requires c κs = underway-last (c .before .before .before .before .loop .inv) (c .before .before .before .loop-test .left) (c .before .wide .ensures)
-
-returns-2 : tie.Need-returns-2 Inv-loop μ-loop
-returns-2 c = underway-end (c .before .before .before .before .before .before .before .loop .inv) (c .before .before .before .before .before .before .loop-test .left) (c .before .before .before .before .wide .ensures) (c .before .before .renew-level .ensures)
+returns-3 : tie.Need-returns-3
+returns-3 c o by =
+    let start = c .before .before .before .before .before .before .before .before .before .before .before .before .before .before .before .before .before in
+    first-on (start .args .given .now) (start .args .f .now) (start .pre) (c .before .before .before .before .before .before .before .before .before .before .before .before .before .place-at .ensures) (c .before .before .before .before .before .before .before .before .before .before .before .before .if1 .left) (c .before .before .before .before .before .before .before .before .before .before .before .words-end .ensures) (c .before .before .before .before .before .before .before .before .before .before .place-at2 .ensures)
+    (c .before .before .before .before .before .before .before .before .first-turn .ensures) (sym (c .before .before .before .before .before .refused .ensures) ∙ c .before .before .before .before .if2 .left) (c .before .before .renew-rest2 .ensures) o by
 
 pub renew-spec : {M : Type 1} → statement M
 renew-spec =
     tie.close
     (tie.spec
-    Inv-loop
-    μ-loop
     place-at-requires
-    loop-holds
-    add-loop
-    words-end-requires
-    place-at-requires-2
-    turn-requires
-    (λ c κs. search needs)
+    load-requires
+    renew-rest-requires
     (λ c. search needs)
     returns
-    add-level
-    (λ c. omega arith)
-    loop-again
-    add-wide
-    mul-wide
-    shared-slice-read-wide
+    words-end-requires
+    place-at-requires-2
+    first-turn-requires
     (λ c κs. search needs)
-    renew-level-requires
     (λ c. search needs)
-    returns-2)
+    returns-2
+    renew-rest-requires-2
+    (λ c. search needs)
+    returns-3)

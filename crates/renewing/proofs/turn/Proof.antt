@@ -1,7 +1,8 @@
 -- `renewing::turn` meets its contract: one law for each way out.
 -- Assumes nothing.
 use mathlib.Core.Path.{sym, _∙_}
-use Rattle.renewing.proofs.Turning.{turn-level, turn-coarse, turned-no, turned-coarse-no, turned-yes}
+use Rattle.renewing.proofs.Turning.{turn-level, turn-coarse, values-stay, turned-no, turned-coarse-no, turned-yes}
+use Rattle.store.specs.Region.{part}
 use borrow.Author.Needs.{needs}
 use Rattle.renewing.proofs.turn.Statement.{statement}
 use Rattle.renewing.proofs.turn.Tie as tie
@@ -10,18 +11,18 @@ renew-level-requires : tie.Need-renew-level-requires
 renew-level-requires c κs = turn-level (c .before .before .before .pre)
 
 returns : tie.Need-returns
-returns c o by = turned-no (c .before .before .before .before .before .before .before .before .pre) o _ (c .before .before .before .before .renew-level .ensures o by) (sym (c .before .refused .ensures) ∙ c .if1 .taken)
+returns c o by = turned-no (c .before .before .before .before .before .before .before .before .args .t) (c .before .before .before .before .before .before .before .before .pre .level) (c .before .before .before .before .before .before .before .before .pre .after) o _ (part (c .before .before .before .before .before .before .before .before .args .p .values) (c .before .before .before .before .before .before .before .before .args .p .entries) (c .before .before .before .before .before .before .before .before .args .f .now)) (c .before .before .before .before .renew-level .ensures o by) (sym (c .before .refused .ensures) ∙ c .if1 .taken)
 
 coarse-values-requires : tie.Need-coarse-values-requires
 coarse-values-requires c κs = turn-coarse (c .before .before .before .before .before .before .before .before .before .pre) (c .before .before .before .before .before .renew-level .kept .1 .0)
 
 returns-2 : tie.Need-returns-2
 returns-2 c o by =
-    turned-yes (c .before .before .before .before .before .before .before .before .before .before .before .before .before .pre) o _ (c .before .before .before .before .before .before .before .before .before .renew-level .ensures o by) (sym (c .before .before .before .before .before .before .refused .ensures) ∙ c .before .before .before .before .before .if1 .left) (c .before .before .before .coarse-values .ensures) (c .if2 .taken)
+    turned-yes (c .before .before .before .before .before .before .before .before .before .before .before .before .before .args .t) (c .before .before .before .before .before .before .before .before .before .before .before .before .before .pre .level) (c .before .before .before .before .before .before .before .before .before .before .before .before .before .pre .after) o _ (part (c .before .before .before .before .before .before .before .before .before .before .before .before .before .args .p .values) (c .before .before .before .before .before .before .before .before .before .before .before .before .before .args .p .entries) (c .before .before .before .before .before .before .before .before .before .before .before .before .before .args .f .now)) (c .before .before .before .before .before .before .before .before .before .renew-level .ensures o by) (sym (c .before .before .before .before .before .before .refused .ensures) ∙ c .before .before .before .before .before .if1 .left) (c .before .before .before .coarse-values .ensures) (values-stay (c .before .before .before .before .before .before .before .before .before .before .before .before .before .pre .level) (c .before .before .before .before .before .before .before .before .before .renew-level .ensures o by)) (c .if2 .taken)
 
 returns-3 : tie.Need-returns-3
 returns-3 c o by =
-    turned-coarse-no (c .before .before .before .before .before .before .before .before .before .before .before .before .before .pre) o _ (c .before .before .before .before .before .before .before .before .before .renew-level .ensures o by) (sym (c .before .before .before .before .before .before .refused .ensures) ∙ c .before .before .before .before .before .if1 .left) (c .before .before .before .coarse-values .ensures) (c .if2 .left)
+    turned-coarse-no (c .before .before .before .before .before .before .before .before .before .before .before .before .before .args .t) (c .before .before .before .before .before .before .before .before .before .before .before .before .before .pre .level) (c .before .before .before .before .before .before .before .before .before .before .before .before .before .pre .after) o _ (part (c .before .before .before .before .before .before .before .before .before .before .before .before .before .args .p .values) (c .before .before .before .before .before .before .before .before .before .before .before .before .before .args .p .entries) (c .before .before .before .before .before .before .before .before .before .before .before .before .before .args .f .now)) (c .before .before .before .before .before .before .before .before .before .renew-level .ensures o by) (sym (c .before .before .before .before .before .before .refused .ensures) ∙ c .before .before .before .before .before .if1 .left) (c .before .before .before .coarse-values .ensures) (values-stay (c .before .before .before .before .before .before .before .before .before .before .before .before .before .pre .level) (c .before .before .before .before .before .before .before .before .before .renew-level .ensures o by)) (c .if2 .left)
 
 pub turn-spec : {M : Type 1} → statement M
 turn-spec =

@@ -1,6 +1,7 @@
 -- `renewing::level::coarse_values` meets its contract.
 -- Assumes nothing.
 use Rattle.renewing.proofs.Levels.{means-ready, finite-ready, coarse-done}
+use Rattle.store.specs.Region.{part}
 use native.Mathlib.Omega.{arith}
 use borrow.Author.Needs.{needs}
 use Rattle.renewing.proofs.level.coarse_values.Statement.{statement}
@@ -11,16 +12,16 @@ sum-entries-requires c κs = c .before .before .before .pre .sums
 
 symmetrize-requires : tie.Need-symmetrize-requires
 symmetrize-requires c κs =
-    means-ready (c .before .before .before .before .before .before .before .pre) (c .before .before .before .sum-entries .ensures)
+    means-ready (part (c .before .before .before .before .before .before .before .args .p .values) (c .before .before .before .before .before .before .before .args .p .entries) (c .before .before .before .before .before .before .before .args .f .now)) (c .before .before .before .before .before .before .before .args .p) (c .before .before .before .before .before .before .before .args .t) (c .before .before .before .before .before .before .before .pre .faces) (c .before .before .before .sum-entries .ensures)
 
 all-finite-requires : tie.Need-all-finite-requires
 all-finite-requires c κs =
     omega
-    (arith, finite-ready (c .before .before .before .before .before .before .before .before .before .before .before .pre) (c .before .before .before .before .before .before .before .sum-entries .ensures) (c .before .before .before .symmetrize .ensures))
+    (arith, finite-ready (part (c .before .before .before .before .before .before .before .before .before .before .before .args .p .values) (c .before .before .before .before .before .before .before .before .before .before .before .args .p .entries) (c .before .before .before .before .before .before .before .before .before .before .before .args .f .now)) (c .before .before .before .before .before .before .before .before .before .before .before .args .p) (c .before .before .before .before .before .before .before .before .before .before .before .args .t) (c .before .before .before .before .before .before .before .before .before .before .before .pre .faces) (c .before .before .before .before .before .before .before .sum-entries .ensures) (c .before .before .before .symmetrize .ensures))
 
 returns : tie.Need-returns
 returns c =
-    coarse-done (c .before .before .before .before .before .before .before .before .before .before .before .before .pre)
+    coarse-done (part (c .before .before .before .before .before .before .before .before .before .before .before .before .args .p .values) (c .before .before .before .before .before .before .before .before .before .before .before .before .args .p .entries) (c .before .before .before .before .before .before .before .before .before .before .before .before .args .f .now)) (c .before .before .before .before .before .before .before .before .before .before .before .before .args .p) (c .before .before .before .before .before .before .before .before .before .before .before .before .args .t) (c .before .before .before .before .before .before .before .before .before .before .before .before .pre .faces)
     (c .before .before .before .before .before .before .before .before .sum-entries .ensures)
     (c .before .before .before .before .symmetrize .ensures) (c .all-finite .ensures)
 

@@ -1,6 +1,7 @@
 -- `renewing::level::coefficients` meets its contract: one law for each way out.
 -- Assumes nothing.
 use Rattle.renewing.proofs.Levels.{update-ready, coefficients-no, coefficients-made}
+use Rattle.store.specs.Region.{part}
 use borrow.Author.Needs.{needs}
 use Rattle.renewing.proofs.level.coefficients.Statement.{statement}
 use Rattle.renewing.proofs.level.coefficients.Tie as tie
@@ -23,7 +24,7 @@ rows-stand-requires c κs = c .before .before .before .before .pre .rows
 returns-2 : tie.Need-returns-2
 returns-2 c =
     let start = c .before .before .before .before .before in
-    coefficients-no (start .args .w .now) (start .args .f .now) (start .args .p) (start .args .level) (c .before .before .all-stand .ensures)
+    coefficients-no (start .args .w .now) (part (start .args .p .values) (start .args .p .entries) (start .args .f .now)) (start .args .f .now) (start .args .p) (start .args .level) (c .before .before .all-stand .ensures)
     (c .before .if1 .left) (c .rows-stand .ensures)
 
 pub coefficients-spec : {M : Type 1} → statement M

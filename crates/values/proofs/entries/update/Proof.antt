@@ -5,11 +5,13 @@ use borrow.Author.Needs.{needs}
 use Rattle.values.proofs.entries.update.Statement.{statement}
 use Rattle.values.proofs.entries.update.Tie as tie
 
-update-rows-requires : tie.Need-update-rows-requires
-update-rows-requires c κs = search (rows-entries, needs)
-
 pick-requires : tie.Need-pick-requires
-pick-requires c κs = search (faces-entries)
+pick-requires c κs = search (rows-entries, needs)
+
+pick-requires-2 : tie.Need-pick-requires-2
+pick-requires-2 c κs =
+    faces-entries (c .before .before .before .before .before .before .before .before .before .before .before .before .before .before .before .before .pre) (c .before .before .before .before .before .before .before .before .before .before .before .wide .ensures)
+    (c .before .before .before .before .before .before .before .before .before .pick .ensures) (c .before .before .before .before .before .settle .ensures)
 
 returns : tie.Need-returns
 returns c = search (update-yes)
@@ -25,9 +27,10 @@ update-spec =
     (λ c. search needs)
     (λ c. search needs)
     (λ c κs. search needs)
-    update-rows-requires
-    (λ c. search needs)
     pick-requires
+    (λ c κs. search needs)
+    (λ c. search needs)
+    pick-requires-2
     (λ c. search needs)
     (λ c. search needs)
     returns

@@ -1,4 +1,4 @@
--- `refresh::load` meets its contract. The loop's invariant: what is left to do from here gives what the whole gives.
+-- `renewing::load` meets its contract. The loop's invariant: what is left to do from here gives what the whole gives.
 -- Assumes nothing.
 use mathlib.Core.Path.{_≡_, refl}
 use Prim.Native.Nat.{_-_}
@@ -6,11 +6,11 @@ use lib.ListN.{length}
 use lib.Ieee.{nan}
 use Rattle.store.specs.Loop.{for}
 use Rattle.store.proofs.Loop.{Left, left-start, left-on}
-use Rattle.refresh.proofs.Summing.{loadTurn, load-done}
+use Rattle.renewing.proofs.Loading.{loadTurn, load-done}
 use native.Mathlib.Omega.{arith}
 use borrow.Author.Needs.{needs}
-use Rattle.refresh.proofs.load.Statement.{statement}
-use Rattle.refresh.proofs.load.Tie as tie
+use Rattle.renewing.proofs.load.Statement.{statement}
+use Rattle.renewing.proofs.load.Tie as tie
 
 abbrev Inv-loop : tie.InvT-loop
 Inv-loop f₀ from to n k₀ f k = (length f ≡ length f₀) × Left (loadTurn nan from to) k n f (for (loadTurn nan from to) 0 n f₀)

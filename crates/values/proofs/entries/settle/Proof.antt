@@ -1,0 +1,21 @@
+-- `values::entries::settle` meets its contract: every row is good, or the questions one by one give the verdict.
+-- Assumes nothing.
+use borrow.Author.Needs.{needs}
+use Rattle.values.proofs.UpdateLaws.{rows-good, rows-asked}
+use Rattle.values.proofs.entries.settle.Statement.{statement}
+use Rattle.values.proofs.entries.settle.Tie as tie
+
+invert-requires : tie.Need-invert-requires
+invert-requires c κs = search needs
+
+returns : tie.Need-returns
+returns c = search (rows-good, needs)
+
+ask-rows-requires : tie.Need-ask-rows-requires
+ask-rows-requires c κs = search needs
+
+returns-2 : tie.Need-returns-2
+returns-2 c = search (rows-asked, needs)
+
+pub settle-spec : {M : Type 1} → statement M
+settle-spec = tie.close (tie.spec invert-requires (λ c. search needs) returns ask-rows-requires (λ c. search needs) returns-2)
