@@ -7,7 +7,6 @@ ghost use Rattle.coarsen.specs.Contract.{SettleOk, Settled, FloatsOk, Fl
 use faces::Faces;
 use faces::face_offsets;
 use faces::fill_faces;
-use galerkin::restrict_weights;
 use galerkin::sum_entries;
 use galerkin::symmetrize;
 use mirroring::mirrors;
@@ -16,6 +15,7 @@ use positions::coarse_pattern;
 use store::copy;
 use store::copy_words;
 use vector::all_finite;
+use weights::restrict_weights;
 
 // A matrix in the stores: its pattern in the words, its values and weights in the floats.
 pub struct Held {

@@ -226,7 +226,7 @@ pub fn dic_sweep(
     requires { ⌜ SmoothOk (now w) (length (now f)) s dic rhs x work correction ⌝ }
     ensures { λ _. ⌜ Both (s .rows) x correction (dicSweepOf (kernelAt s (now (w .entry)) (now (f .entry))) (part dic (s .rows) (now (f .entry))) (part rhs (s .rows) (now (f .entry))) (part x (s .rows) (now (f .entry)))) (now (f .entry)) (now (f .exit)) ⌝ }
 {
-    matrix::residual(w, f, s, x, rhs, correction);
+    residual::residual(w, f, s, x, rhs, correction);
     lower(
         w,
         f,

@@ -1,10 +1,9 @@
--- The normalization, the threshold and the relative residual of mod.rs, over lists. Definitions only.
-use mathlib.Core.Bool.{cond}
+-- The normalization of mod.rs, over lists. Definitions only.
 use mathlib.Core.List.{List}
 use Prim.Native.Nat.{ℕ, _+_, _≤_, _^_}
 use lib.IntN.{pos}
-use lib.Ieee.{Float, binary64, lt, ofInt}
-use Rattle.float.specs.Float.{add64, sub64, mul64, div64, zero64, one64, ratio, absOf, maxNum}
+use lib.Ieee.{Float, binary64, ofInt}
+use Rattle.float.specs.Float.{add64, sub64, mul64, div64, one64, ratio, absOf, maxNum}
 use Rattle.options.specs.declared.MultigridResidualNorm.{MultigridResidualNorm}
 use Rattle.store.specs.Region.{at}
 use Rattle.measure.specs.Measure.{sumOf}
@@ -37,11 +36,3 @@ pub record NormalizationOk (size n x rhs product rowsums : ℕ) : Type 0 where
   pub rhss : rhs + n ≤ size
   pub products : product + n ≤ size
   pub sums : rowsums + n ≤ size
-
--- `threshold` of mod.rs
-abbrev pub thresholdOf : Float → Float → Float → Float
-thresholdOf absolute relative initial = maxNum absolute (mul64 relative initial)
-
--- `relative_residual` of mod.rs
-unfoldable pub relativeOf : Float → Float → Float
-relativeOf initial last = cond (lt zero64 initial) (div64 last initial) zero64

@@ -5,7 +5,6 @@ ghost use lib.ListN.{length};
 ghost use Rattle.store.specs.Region.{at, part};
 ghost use Rattle.measure.specs.Measure.{sumOf, squaresOf, sizesOf, valueOf, measureOf};
 ghost use Rattle.measure.specs.Normalization.{meanOf, spreadOf, spreadsOf, normalizationOf, NormalizationOk};
-ghost use Rattle.measure.specs.Normalization.{thresholdOf, relativeOf};
 use options::MultigridResidualNorm;
 use vector::Product;
 
@@ -134,18 +133,4 @@ pub fn normalization(
             float::max_num(sum_spreads(f, n, rhs, product, rowsums, mean), 1e-300)
         }
     }
-}
-
-// The norm at or below which a solve has converged.
-pub fn threshold(absolute: f64, relative: f64, initial: f64) -> f64
-    ensures { λ r. ⌜ r ≡ thresholdOf absolute relative initial ⌝ }
-{
-    float::max_num(absolute, relative * initial)
-}
-
-// The last norm by the first; zero where the first is not above zero.
-pub fn relative(initial: f64, last: f64) -> f64
-    ensures { λ r. ⌜ r ≡ relativeOf initial last ⌝ }
-{
-    if initial > 0.0 { last / initial } else { 0.0 }
 }

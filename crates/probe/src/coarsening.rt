@@ -142,7 +142,7 @@ pub extern "C" fn probe_restrict_weights(
         count (part offsets (count + 1) (now (w .entry))) (part columns total (now (w .entry))))
         (now (f .entry)) (now (f .exit)) ⌝ }
 {
-    galerkin::restrict_weights(
+    weights::restrict_weights(
         w,
         f,
         count,

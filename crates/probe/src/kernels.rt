@@ -76,7 +76,7 @@ pub extern "C" fn probe_residual(
         neighbors: neighbors,
         coefficients: coefficients,
     };
-    matrix::residual(w, f, s, x, rhs, out);
+    residual::residual(w, f, s, x, rhs, out);
 }
 
 #[no_mangle]

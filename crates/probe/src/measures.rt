@@ -4,7 +4,8 @@ ghost use Prim.Native.Nat.{_+_, _≤_};
 ghost use lib.ListN.{length};
 ghost use Rattle.store.specs.Region.{part};
 ghost use Rattle.measure.specs.Measure.{measureOf};
-ghost use Rattle.measure.specs.Normalization.{normalizationOf, NormalizationOk, thresholdOf, relativeOf};
+ghost use Rattle.measure.specs.Normalization.{normalizationOf, NormalizationOk};
+ghost use Rattle.solver.specs.Solver.{thresholdOf, relativeOf};
 ghost use Rattle.flat.specs.Flat.{residualNormOf};
 ghost use Rattle.probe.specs.Probe.{flagOf, writtenOf};
 use flat::residual_norm_of;
@@ -52,12 +53,12 @@ pub extern "C" fn probe_normalization(
 pub extern "C" fn probe_threshold(absolute: f64, relative: f64, initial: f64) -> f64
     ensures { λ r. ⌜ r ≡ thresholdOf absolute relative initial ⌝ }
 {
-    measure::threshold(absolute, relative, initial)
+    solver::threshold(absolute, relative, initial)
 }
 
 #[no_mangle]
 pub extern "C" fn probe_relative(initial: f64, last: f64) -> f64
     ensures { λ r. ⌜ r ≡ relativeOf initial last ⌝ }
 {
-    measure::relative(initial, last)
+    solver::relative(initial, last)
 }

@@ -14,7 +14,7 @@ use Rattle.solver.specs.declared.LinearSolverStatus.{LinearSolverStatus}
 use Rattle.options.specs.Counts.{preSweepsOf, postSweepsOf}
 use Rattle.refusal.specs.declared.Refusal.{Refusal}
 use Rattle.refusal.specs.Outcome.{Outcome, accepted, refused, ask, _>>=_}
-use Rattle.measure.specs.Normalization.{thresholdOf}
+use Rattle.solver.specs.Solver.{thresholdOf}
 use Rattle.transfer.specs.Transfer.{restrictOf, prolongOf}
 use Rattle.hierarchy.specs.Level.{Level}
 use Rattle.cycle.specs.Cycle.{Cycled, cycled, visited, iterated, rowsIn, rowsFirst, smoothed, ended, residualIn, correctedOf, endOf, upOf, cycleOf}

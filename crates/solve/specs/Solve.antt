@@ -14,7 +14,8 @@ use Rattle.refusal.specs.Refusal.{wrongLength, badInput, badNormalization}
 use Rattle.refusal.specs.Outcome.{Outcome, accepted, refused, passed, ask, _>>=_, _>>_}
 use Rattle.vector.specs.Dot.{allFinite}
 use Rattle.matrix.specs.Kernel.{applyOf}
-use Rattle.measure.specs.Normalization.{normalizationOf, thresholdOf, relativeOf}
+use Rattle.solver.specs.Solver.{thresholdOf, relativeOf}
+use Rattle.measure.specs.Normalization.{normalizationOf}
 use Rattle.stepping.specs.Iteration.{State, System, residualOf, measuredOf, stepOf}
 
 -- ---- questions 20 and 21

@@ -25,7 +25,7 @@ pub fn report(
         iterations: iterations,
         initial_residual: initial,
         final_residual: last,
-        relative_residual: measure::relative(initial, last),
+        relative_residual: solver::relative(initial, last),
     }
 }
 

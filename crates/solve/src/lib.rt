@@ -76,7 +76,7 @@ fn attempt(
     }
     match measure::measure(f, g.rows, g.residual, norm, factor) {
         Product::Finite(initial) => {
-            let threshold = measure::threshold(s.absolute_tolerance, s.relative_tolerance, initial);
+            let threshold = solver::threshold(s.absolute_tolerance, s.relative_tolerance, initial);
             if initial <= threshold {
                 return Solved::Report(iterating::report(
                     LinearSolverStatus::Converged,

@@ -1,7 +1,8 @@
--- The solve's default controls and the meaning of its status (solver.rs). Definitions only.
-use mathlib.Core.Bool.{Bool, true, false}
+-- The solve's default controls and the meaning of its status (solver.rs), and when and how well it has converged (mod.rs). Definitions only.
+use mathlib.Core.Bool.{Bool, true, false, cond}
 use Prim.Native.Nat.{_^_}
-use Rattle.float.specs.Float.{ratio}
+use lib.Ieee.{Float, lt}
+use Rattle.float.specs.Float.{ratio, maxNum, mul64, div64, zero64}
 use Rattle.solver.specs.declared.LinearSolverOptions.{LinearSolverOptions}
 use Rattle.solver.specs.declared.LinearSolverStatus.{LinearSolverStatus}
 
@@ -17,3 +18,11 @@ defaultSolver = record {
 abbrev pub convergedOf : LinearSolverStatus → Bool
 convergedOf LinearSolverStatus.Converged = true
 convergedOf LinearSolverStatus.MaxIterations = false
+
+-- `threshold` of mod.rs
+abbrev pub thresholdOf : Float → Float → Float → Float
+thresholdOf absolute relative initial = maxNum absolute (mul64 relative initial)
+
+-- `relative_residual` of mod.rs
+unfoldable pub relativeOf : Float → Float → Float
+relativeOf initial last = cond (lt zero64 initial) (div64 last initial) zero64

@@ -1,6 +1,6 @@
-// Types of a solve: its controls, and the report that it returns.
+// Types of a solve (solver.rs): its controls, and the report that it returns; and two numbers of mod.rs that they lead to.
 ghost use mathlib.Core.Path.{_≡_};
-ghost use Rattle.solver.specs.Solver.{defaultSolver, convergedOf};
+ghost use Rattle.solver.specs.Solver.{defaultSolver, convergedOf, thresholdOf, relativeOf};
 
 pub struct LinearSolverOptions {
     pub absolute_tolerance: f64,
@@ -43,4 +43,18 @@ impl LinearSolveReport {
             LinearSolverStatus::MaxIterations => false,
         }
     }
+}
+
+// The norm at or below which a solve has converged.
+pub fn threshold(absolute: f64, relative: f64, initial: f64) -> f64
+    ensures { λ r. ⌜ r ≡ thresholdOf absolute relative initial ⌝ }
+{
+    float::max_num(absolute, relative * initial)
+}
+
+// The last norm by the first; zero where the first is not above zero.
+pub fn relative(initial: f64, last: f64) -> f64
+    ensures { λ r. ⌜ r ≡ relativeOf initial last ⌝ }
+{
+    if initial > 0.0 { last / initial } else { 0.0 }
 }

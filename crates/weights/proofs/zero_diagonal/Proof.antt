@@ -1,13 +1,13 @@
--- `galerkin::zero_diagonal` meets its contract. The loop's invariant: what is left of the rows gives the whole.
+-- `weights::zero_diagonal` meets its contract. The loop's invariant: what is left of the rows gives the whole.
 -- Assumes nothing.
 use Prim.Native.Nat.{_-_}
 use native.Mathlib.Omega.{arith}
 use borrow.Author.Needs.{needs}
 use Rattle.galerkin.specs.Values.{zeroDiagonalOf}
 use Rattle.galerkin.proofs.Region.{going-start, going-end}
 use Rattle.galerkin.proofs.Turns.{Clearing, row-ok, row-on}
-use Rattle.galerkin.proofs.zero_diagonal.Statement.{statement}
-use Rattle.galerkin.proofs.zero_diagonal.Tie as tie
+use Rattle.weights.proofs.zero_diagonal.Statement.{statement}
+use Rattle.weights.proofs.zero_diagonal.Tie as tie
 
 abbrev Inv-loop : tie.InvT-loop
 Inv-loop w f₀ count offsets columns total out row₀ f row = Clearing w count offsets columns total out row f₀ f

@@ -1,9 +1,9 @@
--- `matrix::residual` meets its contract.
+-- `residual::residual` meets its contract.
 -- Assumes nothing.
 use Rattle.matrix.proofs.Kernel.{residual-done}
 use borrow.Author.Needs.{needs}
-use Rattle.matrix.proofs.residual.Statement.{statement}
-use Rattle.matrix.proofs.residual.Tie as tie
+use Rattle.residual.proofs.residual.Statement.{statement}
+use Rattle.residual.proofs.residual.Tie as tie
 
 returns : tie.Need-returns
 returns c = search (residual-done)

@@ -1,15 +1,15 @@
--- `matrix::diagonal_residual` meets its contract. The loop's invariant: what is left to do from here gives what the whole gives.
+-- `residual::diagonal_residual` meets its contract. The loop's invariant: what is left to do from here gives what the whole gives.
 -- Assumes nothing.
 use mathlib.Core.Path.{_≡_, refl}
 use Prim.Native.Nat.{_-_}
 use lib.ListN.{length}
 use Rattle.store.specs.Loop.{for}
 use Rattle.store.proofs.Loop.{Left, left-start, left-on, left-end}
 use Rattle.matrix.specs.Turns.{lessTurn}
 use native.Mathlib.Omega.{arith}
 use borrow.Author.Needs.{needs}
-use Rattle.matrix.proofs.diagonal_residual.Statement.{statement}
-use Rattle.matrix.proofs.diagonal_residual.Tie as tie
+use Rattle.residual.proofs.diagonal_residual.Statement.{statement}
+use Rattle.residual.proofs.diagonal_residual.Tie as tie
 
 abbrev Inv-loop : tie.InvT-loop
 Inv-loop f₀ rows diagonal x rhs out row₀ f row =

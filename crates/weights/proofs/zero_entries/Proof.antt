@@ -1,14 +1,14 @@
--- `galerkin::zero_entries` meets its contract. The loop's invariant: what is left of the entries gives the whole.
+-- `weights::zero_entries` meets its contract. The loop's invariant: what is left of the entries gives the whole.
 -- Assumes nothing.
 use mathlib.Core.Logic.{⊎-elim}
 use Prim.Native.Nat.{_-_}
 use native.Mathlib.Omega.{arith}
 use borrow.Author.Needs.{needs}
 use Rattle.galerkin.specs.Values.{zeroEntries}
 use Rattle.galerkin.proofs.Region.{going-start, going-end}
 use Rattle.galerkin.proofs.Turns.{Zeroing, zero-on, zero-off}
-use Rattle.galerkin.proofs.zero_entries.Statement.{statement}
-use Rattle.galerkin.proofs.zero_entries.Tie as tie
+use Rattle.weights.proofs.zero_entries.Statement.{statement}
+use Rattle.weights.proofs.zero_entries.Tie as tie
 
 abbrev Inv-loop : tie.InvT-loop
 Inv-loop w f₀ row lo hi columns total out e₀ f e = Zeroing w row lo hi columns total out e f₀ f

@@ -1,4 +1,4 @@
--- `matrix::subtract_faces` meets its contract. The loop's invariant: what is left to do from here gives what the whole gives.
+-- `residual::subtract_faces` meets its contract. The loop's invariant: what is left to do from here gives what the whole gives.
 -- Assumes nothing.
 use mathlib.Core.Path.{_≡_, refl}
 use Prim.Native.Nat.{_-_}
@@ -6,12 +6,12 @@ use lib.ListN.{length}
 use Rattle.float.specs.Float.{sub64}
 use Rattle.store.specs.Loop.{for}
 use Rattle.store.proofs.Loop.{Left, left-start, left-on}
 use Rattle.matrix.specs.Turns.{faceTurn}
 use Rattle.matrix.proofs.Turns.{face-on, near-of, faced}
 use native.Mathlib.Omega.{arith}
 use borrow.Author.Needs.{needs}
-use Rattle.matrix.proofs.subtract_faces.Statement.{statement}
-use Rattle.matrix.proofs.subtract_faces.Tie as tie
+use Rattle.residual.proofs.subtract_faces.Statement.{statement}
+use Rattle.residual.proofs.subtract_faces.Tie as tie
 
 abbrev Inv-loop : tie.InvT-loop
 Inv-loop w f₀ rows lo hi neighbors coefficients x out own start owner₀ face₀ f owner face =

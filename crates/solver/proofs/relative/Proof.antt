@@ -1,8 +1,8 @@
--- `measure::relative` meets its contract: its test is the definition's.
+-- `solver::relative` meets its contract: its test is the definition's.
 -- Assumes nothing.
-use Rattle.measure.specs.Normalization.{relativeOf}
-use Rattle.measure.proofs.relative.Statement.{statement}
-use Rattle.measure.proofs.relative.Tie as tie
+use Rattle.solver.specs.Solver.{relativeOf}
+use Rattle.solver.proofs.relative.Statement.{statement}
+use Rattle.solver.proofs.relative.Tie as tie
 
 returns : tie.Need-returns
 unfolding relativeOf

@@ -1,9 +1,9 @@
--- `matrix::subtract_row` meets its contract.
+-- `residual::subtract_row` meets its contract.
 -- Assumes nothing.
 use Rattle.matrix.proofs.Turns.{faces-ok, rowed-to}
 use borrow.Author.Needs.{needs}
-use Rattle.matrix.proofs.subtract_row.Statement.{statement}
-use Rattle.matrix.proofs.subtract_row.Tie as tie
+use Rattle.residual.proofs.subtract_row.Statement.{statement}
+use Rattle.residual.proofs.subtract_row.Tie as tie
 
 subtract-faces-requires : tie.Need-subtract-faces-requires
 subtract-faces-requires c κs = search (faces-ok)

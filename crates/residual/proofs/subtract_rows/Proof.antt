@@ -1,4 +1,4 @@
--- `matrix::subtract_rows` meets its contract. The loop's invariant: what is left to do from here gives what the whole gives, and lo is where
+-- `residual::subtract_rows` meets its contract. The loop's invariant: what is left to do from here gives what the whole gives, and lo is where
 -- the faces of the row start.
 -- Assumes nothing.
 use mathlib.Core.Path.{_≡_, refl}
@@ -8,12 +8,12 @@ use Rattle.float.specs.Float.{sub64}
 use Rattle.store.specs.Loop.{for}
 use Rattle.store.specs.Region.{idx}
 use Rattle.store.proofs.Loop.{Left, left-start, left-on}
 use Rattle.matrix.specs.Turns.{rowTurn}
 use Rattle.matrix.proofs.Turns.{rows-resize, spread}
 use native.Mathlib.Omega.{arith}
 use borrow.Author.Needs.{needs}
-use Rattle.matrix.proofs.subtract_rows.Statement.{statement}
-use Rattle.matrix.proofs.subtract_rows.Tie as tie
+use Rattle.residual.proofs.subtract_rows.Statement.{statement}
+use Rattle.residual.proofs.subtract_rows.Tie as tie
 
 abbrev Inv-loop : tie.InvT-loop
 Inv-loop w f₀ rows offsets neighbors coefficients x out row₀ lo₀ f row lo =

@@ -1,9 +1,9 @@
--- `galerkin::restrict_weights` meets its contract.
+-- `weights::restrict_weights` meets its contract.
 -- Assumes nothing.
 use Rattle.galerkin.proofs.Turns.{rows-after, weights-done}
 use borrow.Author.Needs.{needs}
-use Rattle.galerkin.proofs.restrict_weights.Statement.{statement}
-use Rattle.galerkin.proofs.restrict_weights.Tie as tie
+use Rattle.weights.proofs.restrict_weights.Statement.{statement}
+use Rattle.weights.proofs.restrict_weights.Tie as tie
 
 zero-diagonal-requires : tie.Need-zero-diagonal-requires
 zero-diagonal-requires c κs = search (rows-after, needs)
