@@ -23,8 +23,7 @@ use Rattle.stepping.specs.Steps.{systemAt, Ready, StepOk, stateAt, stepAt, Step
 use Rattle.stepping.proofs.Placing.{vectors, system-kept}
 use Rattle.stepping.proofs.Moving.{accepted-one}
 use Rattle.solve.specs.declared.Solved.{Solved}
-use Rattle.solver.specs.Solver.{reportOf}
-use Rattle.solve.specs.Solve.{Solution, solution, iterateOf}
+use Rattle.solve.specs.Solve.{Solution, reportOf, solution, iterateOf}
 use Rattle.solve.specs.Contract.{answerOf}
 use Rattle.solve.specs.Steps.{Ran, iterateAt, Iterating}
 

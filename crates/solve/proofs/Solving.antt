@@ -32,7 +32,7 @@ use Rattle.correction.specs.Correction.{subtractOf}
 use Rattle.directions.specs.Contract.{memoryAt}
 use Rattle.measure.specs.Measure.{measureOf}
 use Rattle.measure.specs.Normalization.{normalizationOf, NormalizationOk}
-use Rattle.solver.specs.Solver.{thresholdOf, reportOf}
+use Rattle.solver.specs.Solver.{thresholdOf}
 use Rattle.hierarchy.specs.Level.{Hierarchy}
 use Rattle.layout.specs.Layout.{rowsAt, entriesAt, viewOf}
 use Rattle.sound.specs.declared.Walk.{Walk}
@@ -44,7 +44,7 @@ use Rattle.stepping.specs.Iteration.{System, State, measured, residualOf, measu
 use Rattle.stepping.specs.Steps.{systemAt, regionsAt, Opened, Ready, VectorsOk, Renewed, productAt, stateAt}
 use Rattle.stepping.proofs.Placing.{vectors, rows-is, system-kept, sums-is, kernel-is, kernel-rows}
 use Rattle.solve.specs.declared.Solved.{Solved}
-use Rattle.solve.specs.Solve.{Solution, factorOf, runOf, iterateOf, lengthsOk, inputOk, solveOf}
+use Rattle.solve.specs.Solve.{Solution, factorOf, reportOf, runOf, iterateOf, lengthsOk, inputOk, solveOf}
 use Rattle.solve.specs.Contract.{solvedAt, countersOf, answerOf, solutionOf, statisticsOf, SolveDone}
 use Rattle.solve.specs.Steps.{Ran, iterateAt, askedOf, attemptOf, attemptAt, begunAt, BeginOk}
 use Rattle.solve.proofs.Iterations.{ran-accepted, ran-refused}

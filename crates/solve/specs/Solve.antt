@@ -14,7 +14,7 @@ use Rattle.refusal.specs.Refusal.{wrongLength, badInput, badNormalization}
 use Rattle.refusal.specs.Outcome.{Outcome, accepted, refused, passed, ask, _>>=_, _>>_}
 use Rattle.vector.specs.Dot.{allFinite}
 use Rattle.matrix.specs.Kernel.{applyOf}
-use Rattle.solver.specs.Solver.{thresholdOf, reportOf}
+use Rattle.solver.specs.Solver.{thresholdOf, relativeOf}
 use Rattle.measure.specs.Normalization.{normalizationOf}
 use Rattle.stepping.specs.Iteration.{State, System, residualOf, measuredOf, stepOf}
 
@@ -40,6 +40,16 @@ pub record Solution : Type 0 where
   pub report : LinearSolveReport
   pub x : List Float
   pub counts : List ℕ
+
+-- `report` of mod.rs
+abbrev pub reportOf : LinearSolverStatus → ℕ → Float → Float → LinearSolveReport
+reportOf status iterations initial last = record {
+  status = status;
+  iterations = iterations;
+  «initial_residual» = initial;
+  «final_residual» = last;
+  «relative_residual» = relativeOf initial last;
+}
 
 -- a state with its report
 abbrev pub solution : LinearSolverStatus → ℕ → Float → State → Solution

@@ -78,7 +78,7 @@ fn attempt(
         Product::Finite(initial) => {
             let threshold = solver::threshold(s.absolute_tolerance, s.relative_tolerance, initial);
             if initial <= threshold {
-                return Solved::Report(solver::report(
+                return Solved::Report(iterating::report(
                     LinearSolverStatus::Converged,
                     0,
                     initial,
