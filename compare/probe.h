@@ -68,6 +68,12 @@ void probe_compose(uint32_t *w, size_t w_length, size_t n, size_t map, size_t ne
 void probe_sum_entries(const uint32_t *w, size_t w_length, double *f, size_t f_length, size_t m,
                        size_t positions, size_t values, size_t total, size_t out);
 
+/* The same, of the first m values of a slice of their own.
+ * Required: positions + m <= w_length, m <= given_length, out + total <= f_length, each position below total;
+ * no overlap. */
+void probe_sum_given(const uint32_t *w, size_t w_length, const double *given, size_t given_length, double *f,
+                     size_t f_length, size_t m, size_t positions, size_t total, size_t out);
+
 /* Both entries of each face become half of the one plus half of the other.
  * Required: upper + faces <= w_length, lower + faces <= w_length, values + total <= f_length, each of these
  * entries below total; w does not overlap f. */
@@ -132,6 +138,13 @@ uint64_t probe_update(const uint32_t *w, size_t w_length, double *f, size_t f_le
                       size_t diagonal, size_t inverse, size_t offsets, size_t neighbors, size_t coefficients,
                       size_t entries, size_t diagonals, size_t faces, size_t values, uint64_t level,
                       uint64_t *place, size_t place_length);
+
+/* The same, of an image whose values are the first entries of a slice of their own; those in f are not read.
+ * Required beside: entries <= given_length; no overlap. */
+uint64_t probe_update_given(const uint32_t *w, size_t w_length, const double *given, size_t given_length, double *f,
+                            size_t f_length, size_t rows, size_t diagonal, size_t inverse, size_t offsets,
+                            size_t neighbors, size_t coefficients, size_t entries, size_t diagonals, size_t faces,
+                            size_t values, uint64_t level, uint64_t *place, size_t place_length);
 
 /* Whether the values of each face's two entries are finite and equal.
  * Required: upper + faces <= w_length, lower + faces <= w_length, each of these words below values_length. */

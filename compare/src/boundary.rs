@@ -111,6 +111,18 @@ unsafe extern "C" {
         total: usize,
         out: usize,
     );
+    fn probe_sum_given(
+        w: *const u32,
+        w_length: usize,
+        given: *const f64,
+        given_length: usize,
+        f: *mut f64,
+        f_length: usize,
+        m: usize,
+        positions: usize,
+        total: usize,
+        out: usize,
+    );
     fn probe_symmetrize(
         w: *const u32,
         w_length: usize,
@@ -269,6 +281,27 @@ unsafe extern "C" {
     fn probe_update(
         w: *const u32,
         w_length: usize,
+        f: *mut f64,
+        f_length: usize,
+        rows: usize,
+        diagonal: usize,
+        inverse: usize,
+        offsets: usize,
+        neighbors: usize,
+        coefficients: usize,
+        entries: usize,
+        diagonals: usize,
+        faces: usize,
+        values: usize,
+        level: u64,
+        place: *mut u64,
+        place_length: usize,
+    ) -> u64;
+    fn probe_update_given(
+        w: *const u32,
+        w_length: usize,
+        given: *const f64,
+        given_length: usize,
         f: *mut f64,
         f_length: usize,
         rows: usize,

@@ -241,21 +241,23 @@ impl Ours {
             total,
             values: out,
         };
-        self.write(report, step, "sum_entries", out, |w, f| {
-            sums.sum_entries(w, f)
-        });
-        self.write(report, step, "symmetrize", out, |w, f| {
-            faces.symmetrize(w, f)
-        });
+        let given = self.floats.at(self.values, sums.m).to_vec();
+        for name in ["sum_given", "sum_entries"] {
+            self.write(report, step, name, out, |w, f| match name {
+                "sum_entries" => sums.sum_entries(w, f),
+                _ => sums.sum_given(w, &given, f),
+            });
+            self.write(report, step, "symmetrize", out, |w, f| {
+                faces.symmetrize(w, f)
+            });
+            let ours = self.floats.at(out, total);
+            let kind = report.kind(&format!("galerkin/{name}/{}", step.case.values));
+            report.case(kind, same_floats(ours, step.coarse.values()), || {
+                let theirs = step.coarse.values();
+                format!("ours {ours:?} theirs {theirs:?}, {}", step.shown())
+            });
+        }
         let ours = self.floats.at(out, total);
-        let kind = report.kind(&format!("galerkin/values/{}", step.case.values));
-        report.case(kind, same_floats(ours, step.coarse.values()), || {
-            format!(
-                "ours {ours:?} theirs {:?}, {}",
-                step.coarse.values(),
-                step.shown()
-            )
-        });
         if step.case.values == WHOLE {
             whole_product(report, step, ours);
         }

@@ -169,7 +169,8 @@ fn mirrors(
     });
 }
 
-/// Ours, beside the Rust's; a face that is not finite is asked of the whole image before, so ours passes it.
+/// Ours from the image in the store and from one that is given, beside the Rust's; a face that is not finite is asked of the whole
+/// image before, so ours passes it.
 fn update(
     report: &mut Report,
     at: &Places,
@@ -179,43 +180,78 @@ fn update(
     image: &CsrMatrix,
 ) -> Result<(), Refused> {
     const LEVEL: u64 = 3;
-    let (rows, faces) = (at.kernel.rows, at.faces.len());
-    floats.put(at.image.values, image.values().iter().copied());
-    let start = at.kernel.coefficients;
-    let written = [(start, at.kernel.inverse + rows - start)];
-    let (ours, kept) = floats.call(&written, |f| {
-        at.kernel.update(&words.words, f, &at.image, LEVEL)
-    });
     let answer = theirs.update(image);
+    let due = due(at, words, image, &answer, LEVEL);
+    let mut last = Ok(());
+    for name in ["update_given", "update"] {
+        // Where the image is given, what stands in its place in the store plays no part.
+        floats.put(
+            at.image.values,
+            match name {
+                "update" => image.values().to_vec(),
+                _ => vec![f64::NAN; image.values().len()],
+            },
+        );
+        let start = at.kernel.coefficients;
+        let written = [(start, at.kernel.inverse + at.kernel.rows - start)];
+        let (ours, kept) = floats.call(&written, |f| match name {
+            "update" => at.kernel.update(&words.words, f, &at.image, LEVEL),
+            _ => at
+                .kernel
+                .update_given(&words.words, image.values(), f, &at.image, LEVEL),
+        });
+        let agrees =
+            ours == due && (due.is_err() || updated(at, floats, theirs, image, answer.is_ok()));
+        let kind = report.kind(&format!("matrix/{name}"));
+        report.case(kind, agrees, || {
+            format!("ours {ours:?} theirs {answer:?} of {:?}", image.values())
+        });
+        outside(report, kept, name);
+        report.answer(&match (&due, &answer) {
+            (Err((number, ..)), _) => format!("matrix/{name}/refused-{number}"),
+            (Ok(()), Err(_)) => format!("matrix/{name}/face-not-finite"),
+            (Ok(()), Ok(())) => format!("matrix/{name}/passed"),
+        });
+        last = ours;
+    }
+    last.and(answer.map_err(|_| (0, 0, 0)))
+}
+
+/// What document 01 answers, told from the Rust's answer: the Rust's question 12 names no row; it is the first whose diagonal is not
+/// positive and finite.
+fn due(
+    at: &Places,
+    words: &Store<u32>,
+    image: &CsrMatrix,
+    answer: &Result<(), LinearAlgebraError>,
+    level: u64,
+) -> Result<(), Refused> {
+    let rows = at.kernel.rows;
     let diagonals = words.at(at.image.diagonals, rows);
     let own = |row: usize| image.values()[diagonals[row] as usize];
-    // The Rust's question 12 names no row: it is the first whose diagonal is not positive and finite.
     let bad = (0..rows).find(|&row| !own(row).is_finite() || own(row) <= 0.0);
-    let due = match &answer {
+    match answer {
         Ok(()) | Err(LinearAlgebraError::NonFiniteValue { .. }) => Ok(()),
-        Err(LinearAlgebraError::ZeroDiagonal { row }) => Err((13, LEVEL, *row as u64)),
-        Err(_) => Err((12, LEVEL, bad.unwrap_or(rows) as u64)),
-    };
-    let mut agrees = ours == due;
-    if due.is_ok() {
-        agrees &= same_floats(floats.at(at.kernel.diagonal, rows), theirs.diagonal())
-            && same_floats(floats.at(at.kernel.inverse, rows), theirs.inverse());
-        let copied: Vec<f64> = at.faces.iter().map(|face| image.values()[face.0]).collect();
-        let coefficients = floats.at(at.kernel.coefficients, faces);
-        agrees &= same_floats(coefficients, &copied);
-        agrees &= answer.is_err() || same_floats(coefficients, theirs.coefficients());
+        Err(LinearAlgebraError::ZeroDiagonal { row }) => Err((13, level, *row as u64)),
+        Err(_) => Err((12, level, bad.unwrap_or(rows) as u64)),
     }
-    let kind = report.kind("matrix/update");
-    report.case(kind, agrees, || {
-        format!("ours {ours:?} theirs {answer:?} of {:?}", image.values())
-    });
-    outside(report, kept, "update");
-    report.answer(&match (&due, &answer) {
-        (Err((number, ..)), _) => format!("matrix/update/refused-{number}"),
-        (Ok(()), Err(_)) => "matrix/update/face-not-finite".to_string(),
-        (Ok(()), Ok(())) => "matrix/update/passed".to_string(),
-    });
-    ours.and(answer.map_err(|_| (0, 0, 0)))
+}
+
+/// Whether the kernel in the store is the image's and, where the Rust took the image, the Rust's.
+fn updated(
+    at: &Places,
+    floats: &Store<f64>,
+    theirs: &Kernel,
+    image: &CsrMatrix,
+    taken: bool,
+) -> bool {
+    let (rows, faces) = (at.kernel.rows, at.faces.len());
+    let copied: Vec<f64> = at.faces.iter().map(|face| image.values()[face.0]).collect();
+    let coefficients = floats.at(at.kernel.coefficients, faces);
+    same_floats(floats.at(at.kernel.diagonal, rows), theirs.diagonal())
+        && same_floats(floats.at(at.kernel.inverse, rows), theirs.inverse())
+        && same_floats(coefficients, &copied)
+        && (!taken || same_floats(coefficients, theirs.coefficients()))
 }
 
 fn products(

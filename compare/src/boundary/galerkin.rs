@@ -3,7 +3,7 @@
 use super::aggregation::MOST_ROWS;
 use super::{
     probe_coarse_pattern, probe_compose, probe_restrict_weights, probe_sum_entries,
-    probe_symmetrize, require_below, require_region,
+    probe_sum_given, probe_symmetrize, require_below, require_region,
 };
 
 pub const MOST_ENTRIES: usize = 1_048_576;
@@ -150,6 +150,29 @@ impl Sums {
         self.require(w, f);
         // SAFETY: it was tested just now.
         unsafe { self.sum_entries_untested(w, f) };
+    }
+
+    /// The same, of values that are given in a slice of their own; what is required is `GivenOk` of `galerkin`.
+    pub fn sum_given(&self, w: &[u32], given: &[f64], f: &mut [f64]) {
+        require_region(w.len(), self.positions, self.m);
+        require_region(given.len(), 0, self.m);
+        require_region(f.len(), self.out, self.total);
+        require_below(&w[self.positions..][..self.m], self.total);
+        // SAFETY: the pointers are slices' own, with their lengths, and what is required was tested just now.
+        unsafe {
+            probe_sum_given(
+                w.as_ptr(),
+                w.len(),
+                given.as_ptr(),
+                given.len(),
+                f.as_mut_ptr(),
+                f.len(),
+                self.m,
+                self.positions,
+                self.total,
+                self.out,
+            );
+        }
     }
 
     /// `SumsOk` of `galerkin`.

@@ -2,7 +2,7 @@
 
 use super::{
     probe_apply, probe_equal_mirrors, probe_residual, probe_row_sums_into, probe_update,
-    require_below, require_region, yes,
+    probe_update_given, require_below, require_region, yes,
 };
 
 /// The question that refused, with level and row.
@@ -146,14 +146,8 @@ impl SymmetricMatrix {
         }
     }
 
-    /// New values from an image; what is required is `UpdateOk` of `values`.
-    pub fn update(
-        &self,
-        w: &[u32],
-        f: &mut [f64],
-        image: &Entries,
-        level: u64,
-    ) -> Result<(), Refused> {
+    /// `UpdateOk` of `values`.
+    fn require_image(&self, w: &[u32], f: &[f64], image: &Entries) {
         let (rows, faces) = (self.rows, self.faces(w));
         require_region(w.len(), image.diagonals, rows);
         require_region(w.len(), image.faces, faces);
@@ -163,6 +157,17 @@ impl SymmetricMatrix {
         require_region(self.diagonal, self.coefficients, faces);
         require_region(self.inverse, self.diagonal, rows);
         require_region(f.len(), self.inverse, rows);
+    }
+
+    /// New values from an image.
+    pub fn update(
+        &self,
+        w: &[u32],
+        f: &mut [f64],
+        image: &Entries,
+        level: u64,
+    ) -> Result<(), Refused> {
+        self.require_image(w, f, image);
         let mut place = [0; 2];
         // SAFETY: the pointers are slices' own, with their lengths, and what is required was tested just now.
         let answer = unsafe {
@@ -171,7 +176,46 @@ impl SymmetricMatrix {
                 w.len(),
                 f.as_mut_ptr(),
                 f.len(),
-                rows,
+                self.rows,
+                self.diagonal,
+                self.inverse,
+                self.offsets,
+                self.neighbors,
+                self.coefficients,
+                image.entries,
+                image.diagonals,
+                image.faces,
+                image.values,
+                level,
+                place.as_mut_ptr(),
+                place.len(),
+            )
+        };
+        verdict(answer, place)
+    }
+
+    /// The same, of an image whose values are given in a slice of their own.
+    pub fn update_given(
+        &self,
+        w: &[u32],
+        given: &[f64],
+        f: &mut [f64],
+        image: &Entries,
+        level: u64,
+    ) -> Result<(), Refused> {
+        self.require_image(w, f, image);
+        require_region(given.len(), 0, image.entries);
+        let mut place = [0; 2];
+        // SAFETY: the pointers are slices' own, with their lengths, and what is required was tested just now.
+        let answer = unsafe {
+            probe_update_given(
+                w.as_ptr(),
+                w.len(),
+                given.as_ptr(),
+                given.len(),
+                f.as_mut_ptr(),
+                f.len(),
+                self.rows,
                 self.diagonal,
                 self.inverse,
                 self.offsets,

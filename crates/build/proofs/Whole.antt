@@ -35,7 +35,7 @@ use Rattle.laying.specs.declared.Frontier.{Frontier}
 use Rattle.laying.specs.Contract.{frontierAt}
 use Rattle.ending.specs.declared.Growth.{Growth}
 use Rattle.ending.specs.Contract.{Levels}
-use Rattle.build.specs.declared.Built.{Built}
+use Rattle.answers.specs.declared.Built.{Built}
 use Rattle.growing.specs.Contract.{charge, growAt, Grown}
 use Rattle.build.specs.Contract.{lentOf, builtOf, BuildDone}
 use Rattle.asking.specs.Asking.{lending, askedOf, Asked, Fitting, Spaced}

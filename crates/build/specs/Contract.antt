@@ -14,7 +14,7 @@ use Rattle.hierarchy.specs.Level.{Hierarchy}
 use Rattle.hierarchy.specs.Build.{Lent, Input, buildOf}
 use Rattle.layout.specs.Layout.{viewOf, wordsFit}
 use Rattle.growing.specs.Contract.{charge}
-use Rattle.build.specs.declared.Built.{Built}
+use Rattle.answers.specs.declared.Built.{Built}
 
 -- the handle of a hierarchy
 abbrev pub handleOf : Input → Hierarchy → Handle

@@ -17,7 +17,7 @@ use Rattle.hierarchy.specs.Build.{Charge, fixedCharge, andLevel, Input, pattern
 use Rattle.layout.specs.Layout.{viewOf, wordsFit}
 use Rattle.coarsen.specs.declared.Workspace.{Workspace}
 use Rattle.laying.specs.Contract.{FrontierOk}
-use Rattle.build.specs.declared.Built.{Built}
+use Rattle.answers.specs.declared.Built.{Built}
 use Rattle.growing.specs.Contract.{charge, growAt}
 use Rattle.build.specs.Contract.{builtOf, lentOf}
 use Rattle.asking.specs.Asking.{ControlsFit}

@@ -3,20 +3,14 @@ ghost use lib.ListN.{length};
 ghost use Rattle.build.specs.Contract.{BuildDone};
 ghost use Rattle.asking.specs.Asking.{inputOf, Fitting};
 ghost use Rattle.build.specs.Steps.{LevelsOk, LevelsDone, Begun, Attempted, Cleared};
+use answers::Built;
 use asking::space;
 use coarsen::Workspace;
 use ending::Growth;
 use finest::loading;
 use options::Handle;
 use options::MultigridOptions;
-use refusal::Refusal;
 use refusal::Verdict;
-
-// A build's answer: the handle of its hierarchy, or a refusal.
-pub enum Built {
-    Made(Handle),
-    Refused(Refusal),
-}
 
 // The levels of the matrix in the temporaries, and behind them the row sums of the finest.
 fn levels(w: &mut [u32], f: &mut [f64], o: MultigridOptions, given: bool, t: Workspace) -> Built

@@ -7,7 +7,7 @@ use lib.Ieee.{Float}
 use Rattle.options.specs.declared.Handle.{Handle}
 use Rattle.refusal.specs.Refusal.{unsoundStores}
 use Rattle.sound.specs.Sound.{soundOf}
-use Rattle.countcall.specs.declared.Counted.{Counted}
+use Rattle.answers.specs.declared.Counted.{Counted}
 
 -- how many records at the front of the statistics are the levels', or question 19's refusal
 abbrev pub countedIf : Bool → ℕ → Counted

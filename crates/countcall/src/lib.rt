@@ -1,14 +1,8 @@
 // mod.rs: `statistics`, of any handle and any stores.
 ghost use mathlib.Core.Path.{_≡_};
 ghost use Rattle.countcall.specs.Call.{countedOf};
+use answers::Counted;
 use options::Handle;
-use refusal::Refusal;
-
-// How many records at the front of the statistics are the levels'.
-pub enum Counted {
-    Levels(u64),
-    Refused(Refusal),
-}
 
 // How many records at the front of the statistics are the levels'.
 pub fn statistics(handle: Handle, words: &[u32], floats: &[f64], statistics: &[u64]) -> Counted

@@ -3,9 +3,13 @@
 ghost use lib.ListN.{length};
 ghost use Rattle.store.specs.Loop.{for};
 ghost use Rattle.store.specs.Region.{part, Wrote};
-ghost use Rattle.galerkin.specs.Values.{addEntry, sumsOf, symmetrizeOf, SumsOk, GivenOk, FacesOk};
+ghost use Rattle.galerkin.specs.Values.{addEntry, sumsOf, symmetrizeOf, SumsOk, FacesOk};
 use store::fill;
 use store::index_at;
+
+mod given;
+
+pub use given::sum_given;
 
 // Each of the m values is added at its position.
 fn add_entries(
@@ -48,48 +52,6 @@ pub fn sum_entries(
 {
     fill(f, out, total, 0.0);
     add_entries(w, f, m, positions, values, total, out);
-}
-
-// Each of the first m values that are given is added at its position.
-fn add_given(
-    w: &[u32],
-    given: &[f64],
-    f: &mut [f64],
-    m: usize,
-    positions: usize,
-    total: usize,
-    out: usize,
-)
-    requires { ⌜ GivenOk (now w) (length (now f)) (length (now given)) m positions total out ⌝ }
-    ensures { λ _. ⌜ Wrote out total
-        (for (addEntry (part positions m (now (w .entry))) (now (given .entry))) 0 m (part out total (now (f .entry))))
-        (now (f .entry)) (now (f .exit)) ⌝ }
-{
-    let mut e = 0;
-    while e < m {
-        let i = index_at(w, positions, e, total);
-        f[out + i] = f[out + i] + given[e];
-        e += 1;
-    }
-}
-
-// The same as `sum_entries`, of values that are given in a slice of their own.
-pub fn sum_given(
-    w: &[u32],
-    given: &[f64],
-    f: &mut [f64],
-    m: usize,
-    positions: usize,
-    total: usize,
-    out: usize,
-)
-    requires { ⌜ GivenOk (now w) (length (now f)) (length (now given)) m positions total out ⌝ }
-    ensures { λ _. ⌜ Wrote out total
-        (sumsOf total m (part positions m (now (w .entry))) (now (given .entry)))
-        (now (f .entry)) (now (f .exit)) ⌝ }
-{
-    fill(f, out, total, 0.0);
-    add_given(w, given, f, m, positions, total, out);
 }
 
 // Both entries of each face become half of the one plus half of the other. It is not skipped where they are equal:

@@ -26,7 +26,7 @@ use Rattle.hierarchy.specs.Build.{holds, Lent, Input, patternIn, buildOf}
 use Rattle.hierarchy.proofs.Accepted.{ask-split, then-split, fixedIn}
 use Rattle.hierarchy.proofs.Depth.{build-levels}
 use Rattle.layout.specs.Layout.{viewOf}
-use Rattle.build.specs.declared.Built.{Built}
+use Rattle.answers.specs.declared.Built.{Built}
 use Rattle.build.specs.Contract.{handleOf, builtOf, lentOf, BuildDone}
 use Rattle.build.specs.Steps.{inputOf}
 use Rattle.making.specs.New.{statisticsOf, NewDone}

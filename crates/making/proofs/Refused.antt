@@ -7,7 +7,7 @@ use lib.ListN.{length}
 use lib.Ieee.{Float}
 use Rattle.refusal.specs.declared.Refusal.{Refusal}
 use Rattle.hierarchy.specs.Build.{Input, buildOf}
-use Rattle.build.specs.declared.Built.{Built}
+use Rattle.answers.specs.declared.Built.{Built}
 use Rattle.build.specs.Contract.{lentOf}
 use Rattle.making.specs.New.{statisticsOf, NewDone}
 use Rattle.making.specs.Stores.{Zeroed}

@@ -7,7 +7,7 @@ use lib.ListN.{length}
 use lib.Ieee.{Float}
 use Rattle.options.specs.declared.Handle.{Handle}
 use Rattle.hierarchy.specs.Build.{Input, buildOf}
-use Rattle.build.specs.declared.Built.{Built}
+use Rattle.answers.specs.declared.Built.{Built}
 use Rattle.build.specs.Contract.{builtOf, lentOf}
 use Rattle.making.specs.New.{NewDone}
 use Rattle.making.specs.Stores.{Same}

@@ -11,7 +11,7 @@ use Rattle.refusal.specs.Outcome.{Outcome, accepted, refused}
 use Rattle.hierarchy.specs.Level.{Hierarchy}
 use Rattle.hierarchy.specs.Build.{Input, buildOf}
 use Rattle.statistics.specs.Fresh.{freshOf}
-use Rattle.build.specs.declared.Built.{Built}
+use Rattle.answers.specs.declared.Built.{Built}
 use Rattle.build.specs.Contract.{lentOf, BuildDone}
 
 -- the n words of statistics that a build leaves: each level's rows with zero counters, and zeros past the last level; zeros where it refuses

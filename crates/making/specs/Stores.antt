@@ -8,7 +8,7 @@ use Rattle.float.specs.Float.{zero64}
 use Rattle.store.specs.Vector.{filled}
 use Rattle.options.specs.declared.Handle.{Handle}
 use Rattle.layout.specs.Layout.{viewOf}
-use Rattle.build.specs.declared.Built.{Built}
+use Rattle.answers.specs.declared.Built.{Built}
 
 -- Two builds left the stores z, G and z', G' with the statistics t and t', and answered r and r': the same answer, the same statistics,
 -- and where they accepted the same hierarchy.

@@ -3,7 +3,7 @@ ghost use mathlib.Core.Bool.{true, false};
 ghost use mathlib.Core.List.{[]};
 ghost use Rattle.build.specs.Steps.{inputOf};
 ghost use Rattle.making.specs.New.{NewDone};
-use build::Built;
+use answers::Built;
 use options::MultigridOptions;
 
 // Both builds: the hierarchy, then the statistics of its levels, which are zeros where the build refuses.

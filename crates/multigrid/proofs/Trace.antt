@@ -26,17 +26,18 @@ use Rattle.hierarchy.specs.First.{shapesIn}
 use Rattle.hierarchy.proofs.Accepted.{accepted-one}
 use Rattle.hierarchy.proofs.First.{build-first}
 use Rattle.layout.specs.Layout.{viewOf}
-use Rattle.build.specs.declared.Built.{Built}
+use Rattle.answers.specs.declared.Built.{Built}
 use Rattle.build.specs.Contract.{lentOf}
 use Rattle.sound.specs.Sound.{soundOf}
 use Rattle.built.proofs.Sound.{built-sound}
 use Rattle.statistics.specs.Fresh.{freshOf}
 use Rattle.stepping.specs.Iteration.{systemOf}
-use Rattle.solve.specs.declared.Solved.{Solved}
-use Rattle.solve.specs.Solve.{Solution, solveOf}
-use Rattle.solve.specs.Contract.{countersOf, solvedAt, answerOf, solutionOf}
+use Rattle.answers.specs.declared.Solved.{Solved}
+use Rattle.iterating.specs.Iterate.{Solution, answerOf}
+use Rattle.solve.specs.Solve.{solveOf}
+use Rattle.solve.specs.Contract.{countersOf, solvedAt, solutionOf}
 use Rattle.solve.specs.Contract as solving
-use Rattle.refresh.specs.declared.Updated.{Updated}
+use Rattle.answers.specs.declared.Updated.{Updated}
 use Rattle.refresh.specs.Contract.{updatedAt, hierarchyOf}
 use Rattle.refresh.specs.Contract as refreshing
 use Rattle.making.specs.New.{statisticsOf, NewDone}

@@ -9,10 +9,11 @@ use Rattle.refusal.specs.Outcome.{accepted}
 use Rattle.hierarchy.specs.Level.{Hierarchy}
 use Rattle.hierarchy.specs.Build.{Lent, Input, buildOf}
 use Rattle.stepping.specs.Iteration.{systemOf}
-use Rattle.solve.specs.declared.Solved.{Solved}
+use Rattle.answers.specs.declared.Solved.{Solved}
 use Rattle.solve.specs.Solve.{solveOf}
-use Rattle.solve.specs.Contract.{answerOf, solutionOf}
-use Rattle.refresh.specs.declared.Updated.{Updated}
+use Rattle.iterating.specs.Iterate.{answerOf}
+use Rattle.solve.specs.Contract.{solutionOf}
+use Rattle.answers.specs.declared.Updated.{Updated}
 use Rattle.updatecall.specs.Call.{UpdateCall}
 use Rattle.solvecall.specs.Call.{SolveCall}
 

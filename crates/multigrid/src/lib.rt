@@ -1,5 +1,5 @@
 // mod.rs: the calls of the solver.
-pub use countcall::Counted;
+pub use answers::Counted;
 pub use countcall::statistics;
 pub use making::new;
 pub use making::new_with_face_weights;

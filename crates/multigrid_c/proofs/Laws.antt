@@ -3,12 +3,12 @@ use mathlib.Core.List.{List}
 use Prim.Native.Nat.{ℕ}
 use lib.Ieee.{Float}
 use Rattle.hierarchy.specs.Build.{Input}
-use Rattle.build.specs.declared.Built.{Built}
+use Rattle.answers.specs.declared.Built.{Built}
 use Rattle.making.specs.New.{NewDone}
 use Rattle.options.specs.declared.Handle.{Handle}
 use Rattle.solver.specs.declared.LinearSolverOptions.{LinearSolverOptions}
-use Rattle.solve.specs.declared.Solved.{Solved}
-use Rattle.refresh.specs.declared.Updated.{Updated}
+use Rattle.answers.specs.declared.Solved.{Solved}
+use Rattle.answers.specs.declared.Updated.{Updated}
 use Rattle.told.specs.Told.{Told, ToldUpdate, ToldSolve}
 use Rattle.updatecall.specs.Call.{UpdateCall}
 use Rattle.solvecall.specs.Call.{SolveCall}

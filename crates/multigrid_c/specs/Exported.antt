@@ -4,12 +4,12 @@ use Prim.Native.Nat.{ℕ, _/_}
 use lib.Ieee.{Float}
 use lib.ListN.{length}
 use Rattle.hierarchy.specs.Build.{Input, buildOf}
-use Rattle.build.specs.declared.Built.{Built}
+use Rattle.answers.specs.declared.Built.{Built}
 use Rattle.build.specs.Contract.{lentOf, builtOf}
 use Rattle.options.specs.declared.Handle.{Handle}
 use Rattle.options.specs.declared.MultigridOptions.{MultigridOptions}
 use Rattle.solver.specs.declared.LinearSolverOptions.{LinearSolverOptions}
-use Rattle.solve.specs.Contract as solve
+use Rattle.iterating.specs.Iterate as iterating
 use Rattle.refresh.specs.Contract as refresh
 use Rattle.told.specs.Told.{Told, ToldUpdate, ToldSolve, ToldCount}
 use Rattle.making.specs.New.{NewDone}
@@ -41,8 +41,8 @@ pub record ExportedUpdate (h : Handle) (w : List ℕ) (F G : List Float) (t : Li
 
 -- What an exported solve ensures.
 pub record ExportedSolve (h : Handle) (w : List ℕ) (F G : List Float) (t u : List ℕ) (rhs x y : List Float) (s : LinearSolverOptions) (P Q : List ℕ) (R S : List Float) (r : ℕ) : Type 0 where
-  pub done : SolveCall h w F G t u rhs x y s (solve.answerOf (solvedOf h w F t rhs x s))
-  pub told : ToldSolve (solve.answerOf (solvedOf h w F t rhs x s)) P Q R S r
+  pub done : SolveCall h w F G t u rhs x y s (iterating.answerOf (solvedOf h w F t rhs x s))
+  pub told : ToldSolve (iterating.answerOf (solvedOf h w F t rhs x s)) P Q R S r
 
 -- What the exported statistics ensure.
 pub record ExportedCount (h : Handle) (w : List ℕ) (F : List Float) (t P Q : List ℕ) (r : ℕ) : Type 0 where

@@ -6,7 +6,7 @@ ghost use Rattle.aggregation.specs.Pairs.{pairsOf};
 ghost use Rattle.aggregation.specs.Layout.{weightedAt, GraphOk, Paired};
 ghost use Rattle.pattern.specs.Pattern.{composeOf};
 ghost use Rattle.pattern.specs.Coarsening.{PatternOk, Patterned, ComposeOk};
-ghost use Rattle.galerkin.specs.Values.{sumsOf, symmetrizeOf, restrictWeightsOf, SumsOk, FacesOk, WeightsOk};
+ghost use Rattle.galerkin.specs.Values.{sumsOf, symmetrizeOf, restrictWeightsOf, SumsOk, GivenOk, FacesOk, WeightsOk};
 ghost use Rattle.flat.specs.Flat.{isSet};
 ghost use Rattle.probe.specs.Probe.{graphOf, coarseningOf};
 use aggregation::Graph;
@@ -102,6 +102,24 @@ pub extern "C" fn probe_sum_entries(
         (now (f .entry)) (now (f .exit)) ⌝ }
 {
     galerkin::sum_entries(w, f, m, positions, values, total, out);
+}
+
+#[no_mangle]
+pub extern "C" fn probe_sum_given(
+    w: &[u32],
+    given: &[f64],
+    f: &mut [f64],
+    m: usize,
+    positions: usize,
+    total: usize,
+    out: usize,
+)
+    requires { ⌜ GivenOk (now w) (length (now f)) (length (now given)) m positions total out ⌝ }
+    ensures { λ _. ⌜ Wrote out total
+        (sumsOf total m (part positions m (now (w .entry))) (now (given .entry)))
+        (now (f .entry)) (now (f .exit)) ⌝ }
+{
+    galerkin::sum_given(w, given, f, m, positions, total, out);
 }
 
 #[no_mangle]

@@ -5,7 +5,7 @@ ghost use lib.ListN.{length};
 ghost use Rattle.refusal.specs.Outcome.{verdictOf};
 ghost use Rattle.store.specs.Region.{part, Wrote};
 ghost use Rattle.matrix.specs.Kernel.{kernelAt, applyOf, residualOf, rowSumsOf, KernelOk};
-ghost use Rattle.values.specs.Update.{updateAt, UpdateOk, Updated};
+ghost use Rattle.values.specs.Update.{updateAt, updateWith, UpdateOk, Updated};
 ghost use Rattle.values.specs.Mirrors.{mirrorsEqual, MirrorsOk};
 ghost use Rattle.probe.specs.Probe.{flag, symmetricOf, entriesOf, Told};
 use matrix::SymmetricMatrix;
@@ -154,6 +154,56 @@ pub extern "C" fn probe_update(
         values: values,
     };
     answer(values::update(w, f, s, e, level), place)
+}
+
+#[no_mangle]
+pub extern "C" fn probe_update_given(
+    w: &[u32],
+    given: &[f64],
+    f: &mut [f64],
+    rows: usize,
+    diagonal: usize,
+    inverse: usize,
+    offsets: usize,
+    neighbors: usize,
+    coefficients: usize,
+    entries: usize,
+    diagonals: usize,
+    faces: usize,
+    values: usize,
+    level: u64,
+    place: &mut [u64],
+) -> u64
+    requires { ⌜ UpdateOk (now w) (length (now f)) (symmetricOf rows diagonal inverse offsets neighbors coefficients)
+        (entriesOf entries diagonals faces values) ⌝ }
+    requires { ⌜ entries ≤ length (now given) ⌝ }
+    requires { ⌜ 2 ≤ length (now place) ⌝ }
+    ensures { λ r. ⌜ Told
+        (verdictOf (updateWith level (symmetricOf rows diagonal inverse offsets neighbors coefficients)
+        (entriesOf entries diagonals faces values) (now (w .entry)) (now (given .entry))))
+        (now (place .entry)) (now (place .exit)) r ⌝ }
+    ensures { λ _. ⌜ Updated (now (w .entry)) (symmetricOf rows diagonal inverse offsets neighbors coefficients)
+        (updateWith level (symmetricOf rows diagonal inverse offsets neighbors coefficients)
+        (entriesOf entries diagonals faces values) (now (w .entry)) (now (given .entry)))
+        (now (f .entry)) (now (f .exit))
+        (verdictOf (updateWith level (symmetricOf rows diagonal inverse offsets neighbors coefficients)
+        (entriesOf entries diagonals faces values) (now (w .entry)) (now (given .entry)))) ⌝ }
+{
+    let s = SymmetricMatrix {
+        rows: rows,
+        diagonal: diagonal,
+        inverse: inverse,
+        offsets: offsets,
+        neighbors: neighbors,
+        coefficients: coefficients,
+    };
+    let e = Entries {
+        entries: entries,
+        diagonals: diagonals,
+        faces: faces,
+        values: values,
+    };
+    answer(values::update_given(w, given, f, s, e, level), place)
 }
 
 #[no_mangle]

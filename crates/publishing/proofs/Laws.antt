@@ -10,7 +10,7 @@ use Rattle.store.proofs.Vector.{length-tab}
 use Rattle.options.specs.declared.Handle.{Handle}
 use Rattle.refusal.specs.declared.Refusal.{Refusal}
 use Rattle.statistics.specs.Fresh.{freshAt, PublishOk}
-use Rattle.build.specs.declared.Built.{Built}
+use Rattle.answers.specs.declared.Built.{Built}
 use Rattle.publishing.specs.Published.{LevelsFit, publishedOf, Published}
 
 -- Zeros are as many words as there were, so that the levels of a handle can be published over them.

@@ -7,7 +7,7 @@ use Rattle.store.specs.Region.{lay}
 use Rattle.store.specs.Vector.{filled}
 use Rattle.options.specs.declared.Handle.{Handle}
 use Rattle.statistics.specs.Fresh.{freshAt, PublishOk}
-use Rattle.build.specs.declared.Built.{Built}
+use Rattle.answers.specs.declared.Built.{Built}
 
 -- What publishing requires: the levels of a handle can be published.
 pub record LevelsFit (w : List ℕ) (size : ℕ) (built : Built) : Type 0 where

@@ -1,7 +1,7 @@
 // The statistics of a build's answer: those of its levels where it made a handle, zeros where it refuses.
 ghost use lib.ListN.{length};
 ghost use Rattle.publishing.specs.Published.{LevelsFit, Published};
-use build::Built;
+use answers::Built;
 
 // The answer is passed on as it is.
 pub fn publish(built: Built, words: &[u32], statistics: &mut [u64]) -> Built

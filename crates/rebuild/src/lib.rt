@@ -1,5 +1,5 @@
 // One build of a list: its arguments, the call, and its answer.
-use build::Built;
+use answers::Built;
 use lists::least;
 use lists::reading;
 use options::MultigridOptions;

@@ -36,7 +36,7 @@ use Rattle.renewing.proofs.Chains.{Opened, opened}
 use Rattle.renewing.proofs.Levels.{kernel-ready}
 use Rattle.renewing.proofs.Outcomes.{never, verdict-then, told-accepted, told-refused}
 use Rattle.renewing.proofs.Renewing.{bare-ok, shapes-some, levels-some, floats-end}
-use Rattle.refresh.specs.declared.Updated.{Updated}
+use Rattle.answers.specs.declared.Updated.{Updated}
 use Rattle.refresh.specs.Contract.{updatedAt, answerOf, hierarchyOf, imageOf, UpdateDone}
 use Rattle.refresh.specs.Steps.{With, askedOf, AskOk, sumsStart, SumOk, Summed, ShadowOk, shadowOf, ShadowDone, CommitOk, Committed, AttemptOk, attemptOf, Attempted, toldOf, UpdateOk}
 use Rattle.refresh.proofs.Questions.{many-values}

@@ -12,7 +12,7 @@ use Rattle.hierarchy.specs.Level.{Hierarchy}
 use Rattle.hierarchy.specs.First.{shapesIn}
 use Rattle.layout.specs.Layout.{rowsAt, imageEnd, viewOf}
 use Rattle.renewing.specs.Update.{updateOf}
-use Rattle.refresh.specs.declared.Updated.{Updated}
+use Rattle.answers.specs.declared.Updated.{Updated}
 
 -- the update in stores that pass question 19, of the shapes that it finds there
 abbrev pub updatedAt : Handle → List ℕ → List Float → List ℕ → List ℕ → List Float → Outcome Hierarchy

@@ -29,7 +29,7 @@ use Rattle.sound.specs.Sound.{walkOf}
 use Rattle.sound.specs.Contract.{PlaceOk}
 use Rattle.renewing.specs.Update.{samePattern, renewOf, updateOf}
 use Rattle.renewing.specs.Steps.{Chain, shapesAt}
-use Rattle.refresh.specs.declared.Updated.{Updated}
+use Rattle.answers.specs.declared.Updated.{Updated}
 use Rattle.refresh.specs.Contract.{hierarchyOf, imageOf}
 
 -- ---- questions 31 and 10

@@ -5,19 +5,13 @@ ghost use lib.ListN.{length};
 ghost use Rattle.hierarchy.specs.Refresh.{needsDic};
 ghost use Rattle.refresh.specs.Contract.{updatedAt, UpdateDone};
 ghost use Rattle.refresh.specs.Steps.{With, SumOk, Summed, ShadowOk, ShadowDone, CommitOk, Committed, AttemptOk, attemptOf, Attempted, toldOf, UpdateOk};
+use answers::Updated;
 use options::Handle;
 use options::MultigridResidualNorm;
 use options::MultigridSmoother;
-use refusal::Refusal;
 use refusal::Verdict;
 
 mod arrays;
-
-// Whether an update was made.
-pub enum Updated {
-    Done,
-    Refused(Refusal),
-}
 
 // Whether the smoother needs DIC data.
 fn needs_dic(kind: MultigridSmoother) -> bool

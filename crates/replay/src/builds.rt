@@ -1,10 +1,10 @@
 // A list of builds beside the Rust's answers.
-use build::Built;
-use lists::kinds;
+use answers::Built;
 use lists::kinds::Answer;
+use lists::kinds;
 use lists::reading;
-use lists::stores;
 use lists::stores::Extent;
+use lists::stores;
 use rebuild::Problem;
 
 // The answer of a build in numbers.

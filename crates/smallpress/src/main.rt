@@ -1,6 +1,7 @@
 // Document 01's small press: the matrix 4, -2; -2, 2 with the right-hand side 2, 0, solved from zero. It writes the levels and rows, the
 // report, the solution and the statistics, floats by their bits.
-use build::Built;
+use answers::Built;
+use answers::Solved;
 use libc::STDOUT_FILENO;
 use multigrid::Counted;
 use options::Handle;
@@ -9,7 +10,6 @@ use options::MultigridOptions;
 use options::MultigridResidualNorm;
 use options::MultigridSmoother;
 use refusal::Refusal;
-use solve::Solved;
 use solver::LinearSolveReport;
 use solver::LinearSolverOptions;
 use solver::LinearSolverStatus;

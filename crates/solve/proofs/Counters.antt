@@ -19,8 +19,10 @@ use Rattle.transfer.specs.Transfer.{restrictOf, prolongOf}
 use Rattle.hierarchy.specs.Level.{Level}
 use Rattle.cycle.specs.Cycle.{Cycled, cycled, visited, iterated, rowsIn, rowsFirst, smoothed, ended, residualIn, correctedOf, endOf, upOf, cycleOf}
 use Rattle.stepping.specs.Iteration.{State, System, residualOf, measuredOf, movedOf, stepOf}
-use Rattle.solve.specs.Solve.{Solution, lengthsOk, inputOk, solution, begun, iterateOf, runOf, factorOf, solveOf}
-use Rattle.solve.specs.Contract.{answerOf, solutionOf}
+use Rattle.input.specs.Input.{lengthsOk, inputOk}
+use Rattle.iterating.specs.Iterate.{Solution, solution, iterateOf, answerOf}
+use Rattle.solve.specs.Solve.{begun, runOf, factorOf, solveOf}
+use Rattle.solve.specs.Contract.{solutionOf}
 
 -- ---- outcomes that look alike
 

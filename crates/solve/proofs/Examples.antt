@@ -2,7 +2,7 @@
 -- Assumes nothing.
 use mathlib.Core.Path.{_≡_, refl}
 use mathlib.Core.Bool.{true}
-use mathlib.Core.List.{List, [], _∷_}
+use mathlib.Core.List.{[], _∷_}
 use Prim.Native.Nat.{ℕ}
 use lib.Ieee.{Float, binary64, ofBits, add, sub, mul, div, lt, le, eq, ne}
 use Rattle.float.specs.Float.{zero64, one64, isFinite, maxNum}
@@ -28,6 +28,8 @@ use Rattle.solver.specs.Solver as solver
 use Rattle.hierarchy.specs.Level.{Hierarchy}
 use Rattle.cycle.specs.Cycle as cycle
 use Rattle.stepping.specs.Iteration as iteration
+use Rattle.input.specs.Input as input
+use Rattle.iterating.specs.Iterate as iterating
 use Rattle.solve.specs.Solve as solve
 
 abbrev two : Float
@@ -112,5 +114,5 @@ small-press : solve.solveOf (iteration.systemOf (controls MultigridResidualNorm.
       x = one64 ∷ one64 ∷ [];
       counts = 2 ∷ 1 ∷ 0 ∷ 0 ∷ [];
     })
-unfolding solve.solveOf solve.inputOk solve.runOf solve.iterateOf iteration.stepOf iteration.movedOf cycle.cycleOf cycle.endOf cycle.countOf terminal.terminalOf terminal.solutionOf terminal.scatterOf terminal.gatherOf terminal.diagonalOf factor.solveFactorOf factor.lowRow factor.highRow factor.lowTerm factor.highTerm tri measure.measureOf measure.valueOf measure.squaresOf measure.squareAt measure.sumOf measure.sumTurn dot.allFinite dot.productOf normalization.normalizationOf solver.relativeOf matrix.applyOf matrix.spreadOf matrix.spreadRow matrix.spreadFace correction.subtractOf correction.addPlainOf isFinite maxNum sqrtOf each tab for iter lt le eq ne ofBits add sub mul div
+unfolding solve.solveOf input.inputOk solve.runOf iterating.iterateOf iteration.stepOf iteration.movedOf cycle.cycleOf cycle.endOf cycle.countOf terminal.terminalOf terminal.solutionOf terminal.scatterOf terminal.gatherOf terminal.diagonalOf factor.solveFactorOf factor.lowRow factor.highRow factor.lowTerm factor.highTerm tri measure.measureOf measure.valueOf measure.squaresOf measure.squareAt measure.sumOf measure.sumTurn dot.allFinite dot.productOf normalization.normalizationOf solver.relativeOf matrix.applyOf matrix.spreadOf matrix.spreadRow matrix.spreadFace correction.subtractOf correction.addPlainOf isFinite maxNum sqrtOf each tab for iter lt le eq ne ofBits add sub mul div
 small-press = refl

@@ -1,4 +1,3 @@
-pub mod Iterations
 pub mod Solving
 pub mod Examples
 pub mod Counters

@@ -1,19 +1,19 @@
 -- The whole solve: a law for each way out, on copies and then in the caller's vectors.
 -- Assumes nothing.
 use mathlib.Core.Path.{_≡_, refl, sym, ap, _∙_}
-use mathlib.Core.Bool.{Bool, true, false, cond, not, _&&_}
-use mathlib.Core.List.{List, [], _∷_, _++_}
+use mathlib.Core.Bool.{Bool, true, false, cond, _&&_}
+use mathlib.Core.List.{List, []}
 use Prim.Native.Nat.{ℕ, _+_, _*_, _/_, _≤_, _<_}
 use native.Mathlib.Omega.{arith}
-use borrow.Author.Tests.{leb-true, eqb-true, eq-eqb, ne-eqb}
+use borrow.Author.Tests.{leb-true, eqb-true}
 use lib.Dec.{eqb, leb}
 use lib.ListN.{length, replicate, length-replicate, getD-replicate}
-use lib.Seq.{ext-getD, take-length}
-use lib.Ieee.{Float, le, lt}
-use Rattle.float.specs.Float.{zero64, isFinite}
-use Rattle.store.specs.Region.{part, lay, splice, Wrote, Kept}
-use Rattle.store.specs.Vector.{tab, filled}
-use Rattle.store.proofs.Region.{wrote-at, wrote-off, kept-wrote, kept-on, kept-less, kept-self, kept-part}
+use lib.Seq.{ext-getD}
+use lib.Ieee.{Float, le}
+use Rattle.float.specs.Float.{isFinite}
+use Rattle.store.specs.Region.{part, lay, splice, Kept}
+use Rattle.store.specs.Vector.{filled}
+use Rattle.store.proofs.Region.{kept-on, kept-less, kept-self, kept-part}
 use Rattle.store.proofs.Vector.{length-tab, getD-tab}
 use Rattle.store.proofs.Each.{both-l, both-r}
 use Rattle.options.specs.declared.Handle.{Handle}
@@ -21,33 +21,35 @@ use Rattle.solver.specs.declared.LinearSolverOptions.{LinearSolverOptions}
 use Rattle.solver.specs.declared.LinearSolverStatus.{LinearSolverStatus}
 use Rattle.solver.specs.declared.LinearSolveReport.{LinearSolveReport}
 use Rattle.refusal.specs.declared.Refusal.{Refusal}
-use Rattle.refusal.specs.Refusal.{wrongLength, badInput, badNormalization, badResidual}
+use Rattle.refusal.specs.Refusal.{badNormalization, badResidual}
 use Rattle.refusal.specs.declared.Verdict.{Verdict}
-use Rattle.refusal.specs.Outcome.{Outcome, accepted, refused, ask, verdictOf, _>>=_}
+use Rattle.refusal.specs.Outcome.{Outcome, accepted, refused, verdictOf, _>>=_}
 use Rattle.refusal.proofs.Outcome.{ask-yes, ask-no, refuses}
 use Rattle.vector.specs.declared.Product.{Product}
-use Rattle.vector.specs.Dot.{allFinite}
-use Rattle.matrix.specs.Kernel.{Kernel, kernelAt, applyOf}
+use Rattle.matrix.specs.Kernel.{Kernel, applyOf}
 use Rattle.correction.specs.Correction.{subtractOf}
 use Rattle.directions.specs.Contract.{memoryAt}
 use Rattle.measure.specs.Measure.{measureOf}
 use Rattle.measure.specs.Normalization.{normalizationOf, NormalizationOk}
-use Rattle.solver.specs.Solver.{thresholdOf}
-use Rattle.hierarchy.specs.Level.{Hierarchy}
-use Rattle.layout.specs.Layout.{rowsAt, entriesAt, viewOf}
+use Rattle.solver.specs.Solver.{thresholdOf, reportOf}
+use Rattle.layout.specs.Layout.{rowsAt, entriesAt}
 use Rattle.sound.specs.declared.Walk.{Walk}
 use Rattle.sound.specs.Sound.{walkOf, isSound, handleSound, scratchStart, scratchEnd, cycleStart, soundOf}
 use Rattle.sound.proofs.Question.{handle-few}
 use Rattle.copies.specs.Copies.{EnterOk, Entered, LeaveOk, Taken}
 use Rattle.stepping.specs.declared.Regions.{Regions}
-use Rattle.stepping.specs.Iteration.{System, State, measured, residualOf, measuredOf}
-use Rattle.stepping.specs.Steps.{systemAt, regionsAt, Opened, Ready, VectorsOk, Renewed, productAt, stateAt}
+use Rattle.stepping.specs.Iteration.{System, measured, residualOf}
+use Rattle.stepping.specs.Steps.{systemAt, regionsAt, Opened, Ready, Renewed, productAt}
 use Rattle.stepping.proofs.Placing.{vectors, rows-is, system-kept, sums-is, kernel-is, kernel-rows}
-use Rattle.solve.specs.declared.Solved.{Solved}
-use Rattle.solve.specs.Solve.{Solution, factorOf, reportOf, runOf, iterateOf, lengthsOk, inputOk, solveOf}
-use Rattle.solve.specs.Contract.{solvedAt, countersOf, answerOf, solutionOf, statisticsOf, SolveDone}
-use Rattle.solve.specs.Steps.{Ran, iterateAt, askedOf, attemptOf, attemptAt, begunAt, BeginOk}
-use Rattle.solve.proofs.Iterations.{ran-accepted, ran-refused}
+use Rattle.answers.specs.declared.Solved.{Solved}
+use Rattle.input.specs.Input.{lengthsOk, inputOk, askedOf}
+use Rattle.input.proofs.Asked.{asked-no, both-asked, asked-yes}
+use Rattle.iterating.specs.Iterate.{Solution, answerOf}
+use Rattle.iterating.specs.Contract.{Ran, iterateAt}
+use Rattle.iterating.proofs.Iterations.{ran-accepted, ran-refused}
+use Rattle.solve.specs.Solve.{factorOf, runOf, solveOf}
+use Rattle.solve.specs.Contract.{solvedAt, countersOf, solutionOf, statisticsOf, SolveDone}
+use Rattle.solve.specs.Steps.{attemptOf, attemptAt, begunAt, BeginOk}
 
 -- ---- from question 22 on
 
@@ -319,47 +321,10 @@ opened-of h w size records e =
       leb-true (h .levels) records (t .1),
     )
 
--- Two questions before a result: what refuses it refuses the whole,
-asked-no : {A : Type 0} {q : Refusal} (a b : Bool) (y : List Float) (out : Outcome A)
-    → ask a wrongLength (ask b badInput (accepted y)) ≡ refused q → ask a wrongLength (ask b badInput out) ≡ refused q
-asked-no true true y out e = let none : _≡_ {A = ℕ} 0 1 = cc in absurd (omega arith)
-asked-no true false y out e = cc
-asked-no false b y out e = cc
-
--- and where it is accepted, both hold.
-both-asked : {v : List Float} (a b : Bool) (y : List Float) → ask a wrongLength (ask b badInput (accepted y)) ≡ accepted v
-    → (a ≡ true) × (b ≡ true)
-both-asked true true y e = (refl, refl)
-both-asked true false y e = let none : _≡_ {A = ℕ} 0 1 = cc in absurd (omega arith)
-both-asked false b y e = let none : _≡_ {A = ℕ} 0 1 = cc in absurd (omega arith)
-
-asked-yes : {A : Type 0} {v : List Float} (a b : Bool) (y : List Float) (out : Outcome A)
-    → ask a wrongLength (ask b badInput (accepted y)) ≡ accepted v → ask a wrongLength (ask b badInput out) ≡ out
-asked-yes a b y out e = let t = both-asked a b y e in ask-yes _ _ _ (t .0) ∙ ask-yes _ _ _ (t .1)
-
 -- What passed was accepted.
 accepts-it : {A : Type 0} {v : Verdict} (out : Outcome A) → v ≡ verdictOf out → v ≡ Verdict.Passed → (a : A) × (out ≡ accepted a)
 accepts-it (accepted a) e told = (a, refl)
 accepts-it (refused q) e told = let none : _≡_ {A = ℕ} 0 1 = cc in absurd (omega arith)
-
-module _ (n : ℕ) (s : LinearSolverOptions) (rhs x : List Float) where
-  -- Question 20 of the right-hand side,
-  pub ask-rhs : (length rhs ≡ n → ⊥) → Verdict.Refused wrongLength ≡ verdictOf (askedOf n s rhs x)
-  ask-rhs other = rw (ne-eqb (length rhs) n other)
-
-  module _ (long : length rhs ≡ n) where
-    -- and of the solution.
-    pub ask-x : (length x ≡ n → ⊥) → Verdict.Refused wrongLength ≡ verdictOf (askedOf n s rhs x)
-    ask-x other = rw (eq-eqb (length rhs) n long, ne-eqb (length x) n other)
-
-    module _ (wide : length x ≡ n) {b : Bool} (is : b ≡ inputOk s rhs x) where
-      -- Question 21.
-      pub ask-bad : b ≡ false → Verdict.Refused badInput ≡ verdictOf (askedOf n s rhs x)
-      ask-bad fails = rw (eq-eqb (length rhs) n long, eq-eqb (length x) n wide, ← is, fails)
-
-      -- Both pass.
-      pub ask-good : b ≡ true → Verdict.Passed ≡ verdictOf (askedOf n s rhs x)
-      ask-good holds = rw (eq-eqb (length rhs) n long, eq-eqb (length x) n wide, ← is, holds)
 
 -- What the solve on copies requires.
 pub begin-ok : {h : Handle} {w : List ℕ} {size words : ℕ} (s : LinearSolverOptions) (rhs x : List Float) {r : Verdict} → soundOf h w size (words / 4) ≡ true
@@ -412,29 +377,3 @@ module _ (h : Handle) (w : List ℕ) (F : List Float) (T : List ℕ) (rhs x : Li
         let same : solvedAt h w F T rhs x s ≡ begunAt h w F T rhs x s =
         asked-yes (lengthsOk (systemAt h w F .kernel .rows) rhs x) (inputOk s rhs x) x (begunAt h w F T rhs x s) yes in
         rw same d
-
--- A vector is the region of its length.
-part-whole : (v : List Float) → part 0 (length v) v ≡ v
-unfolding part
-part-whole v = take-length v
-
--- The tests of question 21, as the code makes them.
-pub input-is : (s : LinearSolverOptions) (rhs x : List Float) {a r b c : Bool} → a ≡ isFinite (s .«absolute_tolerance»)
-    → r ≡ isFinite (s .«relative_tolerance») → b ≡ allFinite (length rhs) (part 0 (length rhs) rhs) → c ≡ allFinite (length x) (part 0 (length x) x)
-    → leb 1 (s .«max_iterations») && (a && not (lt (s .«absolute_tolerance») zero64)) && (r && not (lt (s .«relative_tolerance») zero64)) && b && c
-    ≡ inputOk s rhs x
-unfolding inputOk
-input-is s rhs x ea er eb ec = rw (ea, er, eb, ec, part-whole rhs, part-whole x)
-
--- the hierarchy of a system
-abbrev hierarchyIn : System → Hierarchy
-hierarchyIn y = record { levels = y .levels; sums = y .sums }
-
--- A solve leaves the hierarchy as it was.
-pub view-kept : (h : Handle) (w : List ℕ) (F : List Float) (records : ℕ) → soundOf h w (length F) records ≡ true → {G : List Float}
-    → Kept (scratchStart (h .levels) w) F G → viewOf (h .levels) w G 0 ≡ viewOf (h .levels) w F 0
-view-kept h w F records e {G} kept =
-    let o = opened-of h w (length F) records e .0 in
-    let ready : Ready h w (length F) (regionsAt h w) = record { opened = o; regions = refl } in
-    let l = vectors ready in
-    ap (λ (y : System). hierarchyIn y) (system-kept ready kept (omega arith) (omega arith))

@@ -1,9 +1,7 @@
 -- A solve in lent stores: what it requires and ensures. Definitions only.
 use mathlib.Core.Path.{_≡_}
-use mathlib.Core.Bool.{true}
 use mathlib.Core.List.{List}
 use Prim.Native.Nat.{ℕ, _*_}
-use lib.ListN.{length}
 use lib.Ieee.{Float}
 use Rattle.store.specs.Region.{part, lay, Kept}
 use Rattle.store.specs.Vector.{filled}
@@ -12,8 +10,9 @@ use Rattle.solver.specs.declared.LinearSolverOptions.{LinearSolverOptions}
 use Rattle.refusal.specs.Outcome.{Outcome, accepted, refused}
 use Rattle.sound.specs.Sound.{scratchStart}
 use Rattle.stepping.specs.Steps.{systemAt}
-use Rattle.solve.specs.declared.Solved.{Solved}
-use Rattle.solve.specs.Solve.{Solution, solveOf}
+use Rattle.answers.specs.declared.Solved.{Solved}
+use Rattle.iterating.specs.Iterate.{Solution, answerOf}
+use Rattle.solve.specs.Solve.{solveOf}
 
 -- the counters that a solve starts from: the statistics of its levels, in a table with room for 128 levels, the most that there are
 abbrev pub countersOf : ℕ → List ℕ → List ℕ
@@ -22,11 +21,6 @@ countersOf levels t = lay (part 0 (4 * levels) t) (filled 512 0)
 -- the solve in stores that pass question 19
 abbrev pub solvedAt : Handle → List ℕ → List Float → List ℕ → List Float → List Float → LinearSolverOptions → Outcome Solution
 solvedAt h w F t rhs x s = solveOf (systemAt h w F) s rhs x (countersOf (h .levels) t)
-
--- the answer
-abbrev pub answerOf : Outcome Solution → Solved
-answerOf (accepted v) = Solved.Report (v .report)
-answerOf (refused q) = Solved.Refused q
 
 -- the solution: as it was where the solve is refused
 abbrev pub solutionOf : List Float → Outcome Solution → List Float

@@ -1,71 +1,19 @@
 -- `solve` of mod.rs over lists, with questions 20 to 30 in the order of the Rust. Definitions only.
-use mathlib.Core.Bool.{Bool, cond, _&&_}
+use mathlib.Core.Bool.{cond}
 use mathlib.Core.List.{List, []}
-use Prim.Native.Nat.{ℕ, zero, suc, _+_}
-use lib.Dec.{eqb, leb}
+use Prim.Native.Nat.{ℕ}
 use lib.Ieee.{Float, le}
-use lib.ListN.{length}
 use Rattle.float.specs.Float.{isFinite}
 use Rattle.solver.specs.declared.LinearSolverOptions.{LinearSolverOptions}
 use Rattle.solver.specs.declared.LinearSolverStatus.{LinearSolverStatus}
-use Rattle.solver.specs.declared.LinearSolveReport.{LinearSolveReport}
-use Rattle.options.specs.Options.{tolerable}
 use Rattle.refusal.specs.Refusal.{wrongLength, badInput, badNormalization}
-use Rattle.refusal.specs.Outcome.{Outcome, accepted, refused, passed, ask, _>>=_, _>>_}
-use Rattle.vector.specs.Dot.{allFinite}
+use Rattle.refusal.specs.Outcome.{Outcome, accepted, ask, _>>=_, _>>_}
 use Rattle.matrix.specs.Kernel.{applyOf}
-use Rattle.solver.specs.Solver.{thresholdOf, relativeOf}
+use Rattle.solver.specs.Solver.{thresholdOf}
 use Rattle.measure.specs.Normalization.{normalizationOf}
-use Rattle.stepping.specs.Iteration.{State, System, residualOf, measuredOf, stepOf}
-
--- ---- questions 20 and 21
-
--- question 20: right-hand side and solution have the row count
-abbrev pub lengthsOk : ℕ → List Float → List Float → Bool
-lengthsOk n rhs x = eqb (length rhs) n && eqb (length x) n
-
--- question 21: a limit above zero, tolerances finite and not below zero, both vectors finite
-unfoldable pub inputOk : LinearSolverOptions → List Float → List Float → Bool
-inputOk s rhs x =
-    leb 1 (s .«max_iterations»)
-    && tolerable (s .«absolute_tolerance»)
-    && tolerable (s .«relative_tolerance»)
-    && allFinite (length rhs) rhs
-    && allFinite (length x) x
-
--- ---- the solve
-
--- what an accepted solve gives: its report, the solution and the statistics
-pub record Solution : Type 0 where
-  pub report : LinearSolveReport
-  pub x : List Float
-  pub counts : List ℕ
-
--- `report` of mod.rs
-abbrev pub reportOf : LinearSolverStatus → ℕ → Float → Float → LinearSolveReport
-reportOf status iterations initial last = record {
-  status = status;
-  iterations = iterations;
-  «initial_residual» = initial;
-  «final_residual» = last;
-  «relative_residual» = relativeOf initial last;
-}
-
--- a state with its report
-abbrev pub solution : LinearSolverStatus → ℕ → Float → State → Solution
-solution status iterations initial s = record {
-  report = reportOf status iterations initial (s .last);
-  x = s .x;
-  counts = s .counts;
-}
-
-module _ (y : System) (rhs : List Float) (factor initial threshold : Float) where
-  -- so many iterations at most, after `done`
-  unfoldable pub iterateOf : ℕ → ℕ → State → Outcome Solution
-  iterateOf zero done s = accepted (solution LinearSolverStatus.MaxIterations done initial s)
-  iterateOf (suc more) done s = do
-    t ← stepOf y rhs factor s
-    cond (le (t .last) threshold) (accepted (solution LinearSolverStatus.Converged (done + 1) initial t)) (iterateOf more (done + 1) t)
+use Rattle.stepping.specs.Iteration.{State, System, residualOf, measuredOf}
+use Rattle.input.specs.Input.{lengthsOk, inputOk}
+use Rattle.iterating.specs.Iterate.{Solution, solution, iterateOf}
 
 -- the state before the first iteration
 abbrev pub begun : List Float → List Float → List ℕ → Float → State

@@ -5,55 +5,18 @@ ghost use Prim.Native.Nat.{_/_};
 ghost use lib.ListN.{length};
 ghost use Rattle.sound.specs.Sound.{soundOf};
 ghost use Rattle.stepping.specs.Steps.{Ready};
-ghost use Rattle.solve.specs.Solve.{inputOk};
 ghost use Rattle.solve.specs.Contract.{solvedAt, SolveDone};
-ghost use Rattle.refusal.specs.Outcome.{verdictOf};
-ghost use Rattle.solve.specs.Steps.{askedOf, BeginOk, begunAt, attemptAt, Ran};
+ghost use Rattle.iterating.specs.Contract.{Ran};
+ghost use Rattle.solve.specs.Steps.{BeginOk, begunAt, attemptAt};
+use answers::Solved;
 use options::Handle;
-use refusal::Refusal;
 use refusal::Verdict;
-use solver::LinearSolveReport;
 use solver::LinearSolverOptions;
 use solver::LinearSolverStatus;
 use stepping::Regions;
 use stepping::iteration;
 use stepping::places;
 use vector::Product;
-
-mod iterating;
-
-// The report of a solve, or its refusal.
-pub enum Solved {
-    Report(LinearSolveReport),
-    Refused(Refusal),
-}
-
-// Question 21: a limit above zero, tolerances finite and not below zero, both vectors finite.
-fn input_fits(s: LinearSolverOptions, rhs: &[f64], x: &[f64]) -> bool
-    ensures { λ r. ⌜ r ≡ inputOk s (now (rhs .entry)) (now (x .entry)) ⌝ }
-{
-    (1 <= s.max_iterations)
-        & (float::is_finite(s.absolute_tolerance) & !(s.absolute_tolerance < 0.0))
-        & (float::is_finite(s.relative_tolerance) & !(s.relative_tolerance < 0.0))
-        & vector::all_finite(rhs, rhs.len(), 0)
-        & vector::all_finite(x, x.len(), 0)
-}
-
-// Questions 20 and 21, of a system of so many rows.
-fn ask_input(n: usize, s: LinearSolverOptions, rhs: &[f64], x: &[f64]) -> Verdict
-    ensures { λ r. ⌜ r ≡ verdictOf (askedOf n s (now (rhs .entry)) (now (x .entry))) ⌝ }
-{
-    if rhs.len() != n {
-        return Verdict::Refused(refusal::WRONG_LENGTH);
-    }
-    if x.len() != n {
-        return Verdict::Refused(refusal::WRONG_LENGTH);
-    }
-    if !input_fits(s, rhs, x) {
-        return Verdict::Refused(refusal::BAD_INPUT);
-    }
-    Verdict::Passed
-}
 
 // Questions 22 and 23 on the right-hand side and the start in the store, and the iterations unless the start is good enough.
 fn attempt(
@@ -78,7 +41,7 @@ fn attempt(
         Product::Finite(initial) => {
             let threshold = solver::threshold(s.absolute_tolerance, s.relative_tolerance, initial);
             if initial <= threshold {
-                return Solved::Report(iterating::report(
+                return Solved::Report(solver::report(
                     LinearSolverStatus::Converged,
                     0,
                     initial,
@@ -130,7 +93,7 @@ pub fn solve(
     requires { ⌜ soundOf h (now w) (length (now f)) (length (now statistics) / 4) ≡ true ⌝ }
     ensures { λ r. ⌜ SolveDone h (now (w .entry)) (now (f .entry)) (now (f .exit)) (now (statistics .entry)) (now (statistics .exit)) (now (x .entry)) (now (x .exit)) (solvedAt h (now (w .entry)) (now (f .entry)) (now (statistics .entry)) (now (rhs .entry)) (now (x .entry)) s) r ⌝ }
 {
-    match ask_input(h.rows as usize, s, rhs, x) {
+    match input::ask_input(h.rows as usize, s, rhs, x) {
         Verdict::Refused(q) => Solved::Refused(q),
         Verdict::Passed => begin(h, w, f, statistics, rhs, x, s),
     }

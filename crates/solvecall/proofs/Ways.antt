@@ -14,7 +14,7 @@ use Rattle.solver.specs.declared.LinearSolverOptions.{LinearSolverOptions}
 use Rattle.refusal.specs.Refusal.{unsoundStores}
 use Rattle.layout.specs.Layout.{viewOf}
 use Rattle.sound.specs.Sound.{soundOf, scratchStart}
-use Rattle.solve.specs.declared.Solved.{Solved}
+use Rattle.answers.specs.declared.Solved.{Solved}
 use Rattle.solve.specs.Contract.{solvedAt, SolveDone}
 use Rattle.refresh.proofs.Moving.{view-stays}
 use Rattle.solvecall.specs.Call.{solvedOf, SolveCall}

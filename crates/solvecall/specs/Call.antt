@@ -10,8 +10,8 @@ use Rattle.refusal.specs.Refusal.{unsoundStores}
 use Rattle.refusal.specs.Outcome.{Outcome, ask}
 use Rattle.layout.specs.Layout.{viewOf}
 use Rattle.sound.specs.Sound.{soundOf}
-use Rattle.solve.specs.declared.Solved.{Solved}
-use Rattle.solve.specs.Solve.{Solution}
+use Rattle.answers.specs.declared.Solved.{Solved}
+use Rattle.iterating.specs.Iterate.{Solution}
 use Rattle.solve.specs.Contract.{solvedAt, SolveDone}
 
 -- a solve: question 19, and then that of the hierarchy in the stores

@@ -1,7 +1,7 @@
 // mod.rs: `solve`, of any handle and any stores.
 ghost use Rattle.solvecall.specs.Call.{SolveCall};
+use answers::Solved;
 use options::Handle;
-use solve::Solved;
 use solver::LinearSolverOptions;
 
 // Solves for the right-hand side, from what x holds. Refused, x, the statistics and the hierarchy stay as they were.

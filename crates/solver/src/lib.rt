@@ -1,6 +1,6 @@
-// Types of a solve (solver.rs): its controls, and the report that it returns; and two numbers of mod.rs that they lead to.
+// Types of a solve (solver.rs): its controls, and the report that it returns; and how mod.rs makes it.
 ghost use mathlib.Core.Path.{_≡_};
-ghost use Rattle.solver.specs.Solver.{defaultSolver, convergedOf, thresholdOf, relativeOf};
+ghost use Rattle.solver.specs.Solver.{defaultSolver, convergedOf, thresholdOf, relativeOf, reportOf};
 
 pub struct LinearSolverOptions {
     pub absolute_tolerance: f64,
@@ -57,4 +57,22 @@ pub fn relative(initial: f64, last: f64) -> f64
     ensures { λ r. ⌜ r ≡ relativeOf initial last ⌝ }
 {
     if initial > 0.0 { last / initial } else { 0.0 }
+}
+
+// The report of a solve (`report` of mod.rs).
+pub fn report(
+    status: LinearSolverStatus,
+    iterations: u64,
+    initial: f64,
+    last: f64,
+) -> LinearSolveReport
+    ensures { λ r. ⌜ r ≡ reportOf status iterations initial last ⌝ }
+{
+    LinearSolveReport {
+        status: status,
+        iterations: iterations,
+        initial_residual: initial,
+        final_residual: last,
+        relative_residual: relative(initial, last),
+    }
 }

@@ -7,10 +7,10 @@ use lib.ListN.{set}
 use Rattle.solver.specs.declared.LinearSolverStatus.{LinearSolverStatus}
 use Rattle.solver.specs.declared.LinearSolveReport.{LinearSolveReport}
 use Rattle.refusal.specs.declared.Refusal.{Refusal}
-use Rattle.build.specs.declared.Built.{Built}
-use Rattle.solve.specs.declared.Solved.{Solved}
-use Rattle.refresh.specs.declared.Updated.{Updated}
-use Rattle.countcall.specs.declared.Counted.{Counted}
+use Rattle.answers.specs.declared.Built.{Built}
+use Rattle.answers.specs.declared.Solved.{Solved}
+use Rattle.answers.specs.declared.Updated.{Updated}
+use Rattle.answers.specs.declared.Counted.{Counted}
 
 -- three elements at the front of a list
 abbrev pub three : {A : Type 0} → List A → A → A → A → List A

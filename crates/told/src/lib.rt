@@ -3,10 +3,10 @@ ghost use Prim.Native.Nat.{_≤_};
 ghost use mathlib.Core.Path.{_≡_};
 ghost use lib.ListN.{length};
 ghost use Rattle.told.specs.Told.{three, statusOf, Told, ToldUpdate, ToldSolve, ToldCount};
-use build::Built;
-use countcall::Counted;
-use refresh::Updated;
-use solve::Solved;
+use answers::Built;
+use answers::Counted;
+use answers::Solved;
+use answers::Updated;
 use solver::LinearSolverStatus;
 
 // Three numbers at the front of `place`.

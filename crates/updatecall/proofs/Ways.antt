@@ -11,7 +11,7 @@ use Rattle.options.specs.declared.Handle.{Handle}
 use Rattle.refusal.specs.Refusal.{unsoundStores}
 use Rattle.layout.specs.Layout.{viewOf}
 use Rattle.sound.specs.Sound.{soundOf}
-use Rattle.refresh.specs.declared.Updated.{Updated}
+use Rattle.answers.specs.declared.Updated.{Updated}
 use Rattle.refresh.specs.Contract.{updatedAt, UpdateDone}
 use Rattle.updatecall.specs.Call.{updatedOf, UpdateCall}
 

@@ -8,7 +8,7 @@ use Rattle.refusal.specs.Refusal.{unsoundStores}
 use Rattle.refusal.specs.Outcome.{Outcome, ask}
 use Rattle.hierarchy.specs.Level.{Hierarchy}
 use Rattle.sound.specs.Sound.{soundOf}
-use Rattle.refresh.specs.declared.Updated.{Updated}
+use Rattle.answers.specs.declared.Updated.{Updated}
 use Rattle.refresh.specs.Contract.{updatedAt, UpdateDone}
 
 -- an update: question 19, and then that of the hierarchy in the stores

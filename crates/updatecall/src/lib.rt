@@ -1,7 +1,7 @@
 // mod.rs: `update_values`, of any handle and any stores.
 ghost use Rattle.updatecall.specs.Call.{UpdateCall};
+use answers::Updated;
 use options::Handle;
-use refresh::Updated;
 
 // New coefficients on the pattern of the build. Refused, the hierarchy stays as it was.
 pub fn update_values(

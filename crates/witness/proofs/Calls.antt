@@ -38,13 +38,15 @@ use Rattle.solver.specs.Solver as solver
 use Rattle.cycle.specs.Cycle as cycle
 use Rattle.layout.specs.Layout as layout
 use Rattle.hierarchy.proofs.Accepted.{accepted-one}
-use Rattle.build.specs.declared.Built.{Built}
+use Rattle.answers.specs.declared.Built.{Built}
 use Rattle.build.specs.Contract.{lentOf}
 use Rattle.statistics.specs.Fresh as fresh
 use Rattle.sound.specs.Sound as sound
 use Rattle.stepping.specs.Iteration as iteration
+use Rattle.input.specs.Input as input
+use Rattle.iterating.specs.Iterate as iterating
 use Rattle.solve.specs.Solve as solve
-use Rattle.refresh.specs.declared.Updated.{Updated}
+use Rattle.answers.specs.declared.Updated.{Updated}
 use Rattle.renewing.specs.Update as update
 use Rattle.making.specs.New.{NewDone, statisticsOf}
 use Rattle.updatecall.specs.Call.{UpdateCall}
@@ -107,17 +109,17 @@ visited n = 1 ∷ n ∷ 0 ∷ 0 ∷ []
 
 -- A solve for 1, from zero, gives 1,
 solves-first : SolveCall handle words (floats one64 one64) (floats one64 one64) (visited 0) (visited 1) (one64 ∷ []) (zero64 ∷ []) (one64 ∷ []) asked converged
-unfolding layout.viewOf layout.levelsAt layout.levelAt layout.wordsEnd layout.floatsEnd layout.imageEnd part lay splice tab tri sound.soundOf sound.handleSound sound.walkOf sound.headSound sound.arraysSound sound.allBelow sound.rowSound sound.rowsWalked sound.scratchEnd validOf isFinite lt le eq ofBits each solve.solveOf solve.inputOk solve.runOf solve.iterateOf iteration.stepOf iteration.movedOf cycle.cycleOf cycle.endOf cycle.countOf terminal.terminalOf terminal.solutionOf terminal.scatterOf terminal.gatherOf terminal.diagonalOf factor.solveFactorOf factor.lowRow factor.highRow factor.lowTerm factor.highTerm measure.measureOf measure.valueOf measure.squaresOf measure.squareAt measure.sumOf measure.sumTurn dot.allFinite dot.productOf normalization.normalizationOf solver.relativeOf matrix.applyOf matrix.spreadOf matrix.spreadRow matrix.spreadFace correction.subtractOf correction.addPlainOf maxNum sqrtOf for iter ne add sub mul div
+unfolding layout.viewOf layout.levelsAt layout.levelAt layout.wordsEnd layout.floatsEnd layout.imageEnd part lay splice tab tri sound.soundOf sound.handleSound sound.walkOf sound.headSound sound.arraysSound sound.allBelow sound.rowSound sound.rowsWalked sound.scratchEnd validOf isFinite lt le eq ofBits each solve.solveOf input.inputOk solve.runOf iterating.iterateOf iteration.stepOf iteration.movedOf cycle.cycleOf cycle.endOf cycle.countOf terminal.terminalOf terminal.solutionOf terminal.scatterOf terminal.gatherOf terminal.diagonalOf factor.solveFactorOf factor.lowRow factor.highRow factor.lowTerm factor.highTerm measure.measureOf measure.valueOf measure.squaresOf measure.squareAt measure.sumOf measure.sumTurn dot.allFinite dot.productOf normalization.normalizationOf solver.relativeOf matrix.applyOf matrix.spreadOf matrix.spreadRow matrix.spreadFace correction.subtractOf correction.addPlainOf maxNum sqrtOf for iter ne add sub mul div
 solves-first = record { done = record { answer = refl; solution = refl; statistics = refl; floats = record { below = refl; size = refl } }; view = refl }
 
 -- a second one too,
 solves-second : SolveCall handle words (floats one64 one64) (floats one64 one64) (visited 1) (visited 2) (one64 ∷ []) (zero64 ∷ []) (one64 ∷ []) asked converged
-unfolding layout.viewOf layout.levelsAt layout.levelAt layout.wordsEnd layout.floatsEnd layout.imageEnd part lay splice tab tri sound.soundOf sound.handleSound sound.walkOf sound.headSound sound.arraysSound sound.allBelow sound.rowSound sound.rowsWalked sound.scratchEnd validOf isFinite lt le eq ofBits each solve.solveOf solve.inputOk solve.runOf solve.iterateOf iteration.stepOf iteration.movedOf cycle.cycleOf cycle.endOf cycle.countOf terminal.terminalOf terminal.solutionOf terminal.scatterOf terminal.gatherOf terminal.diagonalOf factor.solveFactorOf factor.lowRow factor.highRow factor.lowTerm factor.highTerm measure.measureOf measure.valueOf measure.squaresOf measure.squareAt measure.sumOf measure.sumTurn dot.allFinite dot.productOf normalization.normalizationOf solver.relativeOf matrix.applyOf matrix.spreadOf matrix.spreadRow matrix.spreadFace correction.subtractOf correction.addPlainOf maxNum sqrtOf for iter ne add sub mul div
+unfolding layout.viewOf layout.levelsAt layout.levelAt layout.wordsEnd layout.floatsEnd layout.imageEnd part lay splice tab tri sound.soundOf sound.handleSound sound.walkOf sound.headSound sound.arraysSound sound.allBelow sound.rowSound sound.rowsWalked sound.scratchEnd validOf isFinite lt le eq ofBits each solve.solveOf input.inputOk solve.runOf iterating.iterateOf iteration.stepOf iteration.movedOf cycle.cycleOf cycle.endOf cycle.countOf terminal.terminalOf terminal.solutionOf terminal.scatterOf terminal.gatherOf terminal.diagonalOf factor.solveFactorOf factor.lowRow factor.highRow factor.lowTerm factor.highTerm measure.measureOf measure.valueOf measure.squaresOf measure.squareAt measure.sumOf measure.sumTurn dot.allFinite dot.productOf normalization.normalizationOf solver.relativeOf matrix.applyOf matrix.spreadOf matrix.spreadRow matrix.spreadFace correction.subtractOf correction.addPlainOf maxNum sqrtOf for iter ne add sub mul div
 solves-second = record { done = record { answer = refl; solution = refl; statistics = refl; floats = record { below = refl; size = refl } }; view = refl }
 
 -- and once the coefficient is 2 it gives a half.
 solves-third : SolveCall handle words (floats two half) (floats two half) (visited 2) (visited 3) (one64 ∷ []) (zero64 ∷ []) (half ∷ []) asked converged
-unfolding layout.viewOf layout.levelsAt layout.levelAt layout.wordsEnd layout.floatsEnd layout.imageEnd part lay splice tab tri sound.soundOf sound.handleSound sound.walkOf sound.headSound sound.arraysSound sound.allBelow sound.rowSound sound.rowsWalked sound.scratchEnd validOf isFinite lt le eq ofBits each solve.solveOf solve.inputOk solve.runOf solve.iterateOf iteration.stepOf iteration.movedOf cycle.cycleOf cycle.endOf cycle.countOf terminal.terminalOf terminal.solutionOf terminal.scatterOf terminal.gatherOf terminal.diagonalOf factor.solveFactorOf factor.lowRow factor.highRow factor.lowTerm factor.highTerm measure.measureOf measure.valueOf measure.squaresOf measure.squareAt measure.sumOf measure.sumTurn dot.allFinite dot.productOf normalization.normalizationOf solver.relativeOf matrix.applyOf matrix.spreadOf matrix.spreadRow matrix.spreadFace correction.subtractOf correction.addPlainOf maxNum sqrtOf for iter ne add sub mul div
+unfolding layout.viewOf layout.levelsAt layout.levelAt layout.wordsEnd layout.floatsEnd layout.imageEnd part lay splice tab tri sound.soundOf sound.handleSound sound.walkOf sound.headSound sound.arraysSound sound.allBelow sound.rowSound sound.rowsWalked sound.scratchEnd validOf isFinite lt le eq ofBits each solve.solveOf input.inputOk solve.runOf iterating.iterateOf iteration.stepOf iteration.movedOf cycle.cycleOf cycle.endOf cycle.countOf terminal.terminalOf terminal.solutionOf terminal.scatterOf terminal.gatherOf terminal.diagonalOf factor.solveFactorOf factor.lowRow factor.highRow factor.lowTerm factor.highTerm measure.measureOf measure.valueOf measure.squaresOf measure.squareAt measure.sumOf measure.sumTurn dot.allFinite dot.productOf normalization.normalizationOf solver.relativeOf matrix.applyOf matrix.spreadOf matrix.spreadRow matrix.spreadFace correction.subtractOf correction.addPlainOf maxNum sqrtOf for iter ne add sub mul div
 solves-third = record { done = record { answer = refl; solution = refl; statistics = refl; floats = record { below = refl; size = refl } }; view = refl }
 
 -- An update to zero is refused by question 12,

@@ -12,8 +12,8 @@ use Rattle.solver.specs.declared.LinearSolverOptions.{LinearSolverOptions}
 use Rattle.solver.specs.declared.LinearSolverStatus.{LinearSolverStatus}
 use Rattle.refusal.specs.Refusal.{badDiagonal}
 use Rattle.hierarchy.specs.Build.{Input}
-use Rattle.solve.specs.declared.Solved.{Solved}
-use Rattle.refresh.specs.declared.Updated.{Updated}
+use Rattle.answers.specs.declared.Solved.{Solved}
+use Rattle.answers.specs.declared.Updated.{Updated}
 use Rattle.multigrid.specs.Trace.{Event, updated, solved}
 
 abbrev pub two : Float

@@ -1,10 +1,10 @@
 // A solve of a list: its arguments, the call, and its answer with what it leaves beside those that are due.
+use answers::Solved;
 use crate::recall::Agreed;
 use lists::least;
 use lists::reading;
 use lists::stores;
 use options::Handle;
-use solve::Solved;
 use solver::LinearSolverOptions;
 use solver::LinearSolverStatus;
 

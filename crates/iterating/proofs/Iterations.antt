@@ -1,6 +1,6 @@
 -- The iterations of a solve: what is left of them gives the whole.
 -- Assumes nothing.
-use mathlib.Core.Path.{_≡_, refl, sym, ap, _∙_}
+use mathlib.Core.Path.{_≡_, sym, ap, _∙_}
 use mathlib.Core.Bool.{true, false, cond}
 use mathlib.Core.List.{List}
 use Prim.Native.Nat.{ℕ, suc, _+_, _-_, _≤_, _<_}
@@ -18,14 +18,14 @@ use Rattle.refusal.specs.Outcome.{Outcome, accepted, refused, _>>=_}
 use Rattle.refusal.proofs.Outcome.{then-accepted, then-refused}
 use Rattle.stepping.specs.declared.Regions.{Regions}
 use Rattle.stepping.specs.declared.Step.{Step}
-use Rattle.stepping.specs.Iteration.{System, State, stepOf}
+use Rattle.stepping.specs.Iteration.{State, stepOf}
 use Rattle.stepping.specs.Steps.{systemAt, Ready, StepOk, stateAt, stepAt, StepDone}
 use Rattle.stepping.proofs.Placing.{vectors, system-kept}
 use Rattle.stepping.proofs.Moving.{accepted-one}
-use Rattle.solve.specs.declared.Solved.{Solved}
-use Rattle.solve.specs.Solve.{Solution, reportOf, solution, iterateOf}
-use Rattle.solve.specs.Contract.{answerOf}
-use Rattle.solve.specs.Steps.{Ran, iterateAt, Iterating}
+use Rattle.answers.specs.declared.Solved.{Solved}
+use Rattle.solver.specs.Solver.{reportOf}
+use Rattle.iterating.specs.Iterate.{Solution, solution, iterateOf, answerOf}
+use Rattle.iterating.specs.Contract.{Ran, iterateAt, Iterating}
 
 module _ {g : Regions} {out : Outcome Solution} {F G : List Float} {u : List ℕ} (kept : Kept (g .solution) F G) where
   -- An accepted solve leaves its state and reports it.

@@ -1,9 +1,9 @@
--- `galerkin::sum_given` meets its contract.
+-- `galerkin::given::sum_given` meets its contract.
 -- Assumes nothing.
 use Rattle.galerkin.proofs.Turns.{given-after, given-done}
 use borrow.Author.Needs.{needs}
-use Rattle.galerkin.proofs.sum_given.Statement.{statement}
-use Rattle.galerkin.proofs.sum_given.Tie as tie
+use Rattle.galerkin.proofs.given.sum_given.Statement.{statement}
+use Rattle.galerkin.proofs.given.sum_given.Tie as tie
 
 add-given-requires : tie.Need-add-given-requires
 add-given-requires c κs = search (given-after, needs)

@@ -1,10 +1,10 @@
--- `solve::ask_input` meets its contract: questions 20 and 21.
+-- `input::ask_input` meets its contract: questions 20 and 21.
 -- Assumes nothing.
 use borrow.Author.Tests.{not-true, not-false}
-use Rattle.solve.proofs.Solving.{ask-rhs, ask-x, ask-bad, ask-good}
+use Rattle.input.proofs.Asked.{ask-rhs, ask-x, ask-bad, ask-good}
 use borrow.Author.Needs.{needs}
-use Rattle.solve.proofs.ask_input.Statement.{statement}
-use Rattle.solve.proofs.ask_input.Tie as tie
+use Rattle.input.proofs.ask_input.Statement.{statement}
+use Rattle.input.proofs.ask_input.Tie as tie
 
 returns : tie.Need-returns
 returns c =

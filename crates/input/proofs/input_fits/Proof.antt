@@ -1,9 +1,9 @@
--- `solve::input_fits` meets its contract: the tests are the definition's.
+-- `input::input_fits` meets its contract: the tests are the definition's.
 -- Assumes nothing.
-use Rattle.solve.proofs.Solving.{input-is}
+use Rattle.input.proofs.Asked.{input-is}
 use borrow.Author.Needs.{needs}
-use Rattle.solve.proofs.input_fits.Statement.{statement}
-use Rattle.solve.proofs.input_fits.Tie as tie
+use Rattle.input.proofs.input_fits.Statement.{statement}
+use Rattle.input.proofs.input_fits.Tie as tie
 
 returns : tie.Need-returns
 returns c = input-is _ _ _ (c .before .before .before .before .before .is-finite .ensures) (c .before .before .before .is-finite2 .ensures) (c .before .all-finite .ensures) (c .all-finite2 .ensures)

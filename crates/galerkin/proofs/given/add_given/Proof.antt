@@ -1,12 +1,12 @@
--- `galerkin::add_given` meets its contract. The loop's invariant: what is left to add gives the whole sums.
+-- `galerkin::given::add_given` meets its contract. The loop's invariant: what is left to add gives the whole sums.
 -- Assumes nothing.
 use Prim.Native.Nat.{_-_}
 use native.Mathlib.Omega.{arith}
 use borrow.Author.Needs.{needs}
 use Rattle.galerkin.proofs.Region.{going-start, going-end}
 use Rattle.galerkin.proofs.Turns.{Giving, given-near, given-on}
-use Rattle.galerkin.proofs.add_given.Statement.{statement}
-use Rattle.galerkin.proofs.add_given.Tie as tie
+use Rattle.galerkin.proofs.given.add_given.Statement.{statement}
+use Rattle.galerkin.proofs.given.add_given.Tie as tie
 
 abbrev Inv-loop : tie.InvT-loop
 Inv-loop w given f₀ m positions total out e₀ f e = Giving w given m positions total out e f₀ f

@@ -1,10 +1,10 @@
--- `solve::iterating::report` meets its contract.
+-- `solver::report` meets its contract.
 -- Assumes nothing.
 use mathlib.Core.Path.{ap}
 use Rattle.solver.specs.declared.LinearSolveReport.{LinearSolveReport}
 use borrow.Author.Needs.{needs}
-use Rattle.solve.proofs.iterating.report.Statement.{statement}
-use Rattle.solve.proofs.iterating.report.Tie as tie
+use Rattle.solver.proofs.report.Statement.{statement}
+use Rattle.solver.proofs.report.Tie as tie
 
 returns : tie.Need-returns
 returns c = rw (c .relative .ensures)

@@ -1,13 +1,13 @@
--- `solve::iterating::iterate` meets its contract. The loop's invariant: what is left of the iterations gives the whole. The measure is how
+-- `iterating::iterate` meets its contract. The loop's invariant: what is left of the iterations gives the whole. The measure is how
 -- many are left.
 -- Assumes nothing.
 use Prim.Native.Nat.{_-_}
-use Rattle.solve.specs.Steps.{Iterating}
-use Rattle.solve.proofs.Iterations.{iterating-start, iterating-ok, iterating-on, iterating-yes, iterating-no, iterating-end}
+use Rattle.iterating.specs.Contract.{Iterating}
+use Rattle.iterating.proofs.Iterations.{iterating-start, iterating-ok, iterating-on, iterating-yes, iterating-no, iterating-end}
 use native.Mathlib.Omega.{arith}
 use borrow.Author.Needs.{needs}
-use Rattle.solve.proofs.iterating.iterate.Statement.{statement}
-use Rattle.solve.proofs.iterating.iterate.Tie as tie
+use Rattle.iterating.proofs.iterate.Statement.{statement}
+use Rattle.iterating.proofs.iterate.Tie as tie
 
 abbrev Inv-loop : tie.InvT-loop
 Inv-loop h w f₀ t₀ g factor initial threshold limit used₀ last₀ done₀ f t used last done = Iterating h w f₀ f t₀ t g factor initial threshold limit used last done

@@ -1,33 +1,13 @@
-// The iterations of a solve, and its report.
-ghost use mathlib.Core.Path.{_≡_};
+// mod.rs: the iterations of a solve.
 ghost use lib.ListN.{length};
 ghost use Rattle.stepping.specs.Steps.{Ready};
-ghost use Rattle.solve.specs.Solve.{reportOf};
-ghost use Rattle.solve.specs.Steps.{iterateAt, Ran};
-use crate::Solved;
+ghost use Rattle.iterating.specs.Contract.{iterateAt, Ran};
+use answers::Solved;
 use options::Handle;
-use solver::LinearSolveReport;
 use solver::LinearSolverStatus;
 use stepping::Regions;
 use stepping::Step;
 use stepping::iteration;
-
-pub fn report(
-    status: LinearSolverStatus,
-    iterations: u64,
-    initial: f64,
-    last: f64,
-) -> LinearSolveReport
-    ensures { λ r. ⌜ r ≡ reportOf status iterations initial last ⌝ }
-{
-    LinearSolveReport {
-        status: status,
-        iterations: iterations,
-        initial_residual: initial,
-        final_residual: last,
-        relative_residual: solver::relative(initial, last),
-    }
-}
 
 // Iterations until the norm of the residual is at or below the threshold, or so many are done.
 pub fn iterate(
@@ -58,7 +38,7 @@ pub fn iterate(
                 last = norm;
                 done += 1;
                 if norm <= threshold {
-                    return Solved::Report(report(
+                    return Solved::Report(solver::report(
                         LinearSolverStatus::Converged,
                         done,
                         initial,
@@ -71,5 +51,5 @@ pub fn iterate(
             }
         }
     }
-    Solved::Report(report(LinearSolverStatus::MaxIterations, done, initial, last))
+    Solved::Report(solver::report(LinearSolverStatus::MaxIterations, done, initial, last))
 }
