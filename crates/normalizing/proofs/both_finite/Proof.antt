@@ -1,9 +1,9 @@
--- `directions::both_finite` meets its contract.
+-- `normalizing::both_finite` meets its contract.
 -- Assumes nothing.
 use borrow.Author.Needs.{needs}
-use Rattle.directions.proofs.Normal.{both-yes, both-no}
-use Rattle.directions.proofs.both_finite.Statement.{statement}
-use Rattle.directions.proofs.both_finite.Tie as tie
+use Rattle.normalizing.proofs.Normal.{both-yes, both-no}
+use Rattle.normalizing.proofs.both_finite.Statement.{statement}
+use Rattle.normalizing.proofs.both_finite.Tie as tie
 
 returns : tie.Need-returns
 returns c = search (both-yes)

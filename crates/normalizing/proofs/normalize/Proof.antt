@@ -1,9 +1,9 @@
--- `directions::normalize` meets its contract.
+-- `normalizing::normalize` meets its contract.
 -- Assumes nothing.
 use borrow.Author.Needs.{needs}
-use Rattle.directions.proofs.Normal.{first-ok, second-ok, normal-yes, normal-bad, normal-zero, normal-no}
-use Rattle.directions.proofs.normalize.Statement.{statement}
-use Rattle.directions.proofs.normalize.Tie as tie
+use Rattle.normalizing.proofs.Normal.{first-ok, second-ok, normal-yes, normal-bad, normal-zero, normal-no}
+use Rattle.normalizing.proofs.normalize.Statement.{statement}
+use Rattle.normalizing.proofs.normalize.Tie as tie
 
 over-requires : tie.Need-over-requires
 over-requires c κs = search (first-ok)

@@ -1,9 +1,9 @@
--- `directions::advance` meets its contract.
+-- `advancing::advance` meets its contract.
 -- Assumes nothing.
 use borrow.Author.Needs.{needs}
-use Rattle.directions.proofs.Normal.{more-ok, advance-yes, advance-no}
-use Rattle.directions.proofs.advance.Statement.{statement}
-use Rattle.directions.proofs.advance.Tie as tie
+use Rattle.advancing.proofs.Moved.{more-ok, advance-yes, advance-no}
+use Rattle.advancing.proofs.advance.Statement.{statement}
+use Rattle.advancing.proofs.advance.Tie as tie
 
 more-requires : tie.Need-more-requires
 more-requires c κs = search (more-ok)
