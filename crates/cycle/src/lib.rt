@@ -27,7 +27,7 @@ fn count(t: &mut [u64; 512], depth: u64, counter: u64, more: u64)
     ensures { λ _. ⌜ now (t .exit) ≡ countOf (4 * depth + counter) more (now (t .entry)) ⌝ }
 {
     let i = (4 * depth + counter) as usize;
-    t[i] = float::saturating_add(t[i], more);
+    t[i] = saturating::saturating_add(t[i], more);
 }
 
 // The place of the level whose words start at a and whose floats start at b.
@@ -134,7 +134,7 @@ fn up(
     match visit::up(w, f, g, kind, o.scale_correction, pre, post) {
         Verdict::Refused(q) => Verdict::Refused(q),
         Verdict::Passed => {
-            count(t, depth, 2, float::saturating_add(pre, post));
+            count(t, depth, 2, saturating::saturating_add(pre, post));
             Verdict::Passed
         }
     }

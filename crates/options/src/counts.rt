@@ -3,6 +3,8 @@ ghost use mathlib.Core.Path.{_≡_};
 ghost use Prim.Native.Nat.{min};
 ghost use Rattle.options.specs.Counts.{extraOf, preSweepsOf, postSweepsOf};
 use crate::MultigridOptions;
+use saturating::saturating_add;
+use saturating::saturating_mul;
 
 fn min(a: u64, b: u64) -> u64
     ensures { λ r. ⌜ r ≡ min a b ⌝ }
@@ -17,7 +19,7 @@ fn extra_sweeps_at(o: MultigridOptions, depth: u64) -> u64
     if depth == 0 {
         return 0;
     }
-    float::saturating_mul(o.sweep_level_multiplier, depth - 1)
+    saturating_mul(o.sweep_level_multiplier, depth - 1)
 }
 
 // None on the finest level, and none at all where the control is zero.
@@ -32,7 +34,7 @@ pub fn pre_sweeps_at(o: MultigridOptions, depth: u64) -> u64
     } else {
         extra_sweeps_at(o, depth)
     };
-    min(float::saturating_add(o.pre_sweeps, extra), o.max_sweeps)
+    min(saturating_add(o.pre_sweeps, extra), o.max_sweeps)
 }
 
 // The finest level has a count of its own; on the others the extra sweeps come even where the control is zero.
@@ -43,5 +45,5 @@ pub fn post_sweeps_at(o: MultigridOptions, depth: u64) -> u64
         return o.finest_sweeps;
     }
     let extra = extra_sweeps_at(o, depth);
-    min(float::saturating_add(o.post_sweeps, extra), o.max_sweeps)
+    min(saturating_add(o.post_sweeps, extra), o.max_sweeps)
 }

@@ -1,11 +1,11 @@
--- `float::saturating_mul` meets its contract: the quotient decides whether the product fits.
+-- `saturating::saturating_mul` meets its contract: the quotient decides whether the product fits.
 -- Assumes nothing.
 use native.Mathlib.Nat.{zero-mul}
 use native.Mathlib.Omega.{arith}
 use borrow.Author.Needs.{needs}
-use Rattle.float.proofs.Saturate.{fits, past}
-use Rattle.float.proofs.saturating_mul.Statement.{statement}
-use Rattle.float.proofs.saturating_mul.Tie as tie
+use Rattle.saturating.proofs.Saturate.{fits, past}
+use Rattle.saturating.proofs.saturating_mul.Statement.{statement}
+use Rattle.saturating.proofs.saturating_mul.Tie as tie
 
 returns : tie.Need-returns
 returns c = rw (c .if1 .taken) (rw zero-mul)
