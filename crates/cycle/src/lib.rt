@@ -110,7 +110,7 @@ fn down(
 {
     let g = inner_at(w, a, b, s);
     let kind = o.smoother;
-    visit::down(w, f, g, kind, options::pre_sweeps_at(o, depth))
+    visit::down(w, f, g, kind, counts::pre_sweeps_at(o, depth))
 }
 
 // The way up of a level, after which its sweeps are counted.
@@ -129,8 +129,8 @@ fn up(
 {
     let g = inner_at(w, a, b, s);
     let kind = o.smoother;
-    let pre = options::pre_sweeps_at(o, depth);
-    let post = options::post_sweeps_at(o, depth);
+    let pre = counts::pre_sweeps_at(o, depth);
+    let post = counts::post_sweeps_at(o, depth);
     match visit::up(w, f, g, kind, o.scale_correction, pre, post) {
         Verdict::Refused(q) => Verdict::Refused(q),
         Verdict::Passed => {

@@ -3,9 +3,9 @@
 use borrow.Author.Needs.{needs}
 use borrow.Author.Tests.{ne-eqb}
 use native.Mathlib.Omega.{arith}
-use Rattle.options.specs.Counts.{postSweepsOf}
-use Rattle.options.proofs.counts.post_sweeps_at.Statement.{statement}
-use Rattle.options.proofs.counts.post_sweeps_at.Tie as tie
+use Rattle.counts.specs.Counts.{postSweepsOf}
+use Rattle.counts.proofs.post_sweeps_at.Statement.{statement}
+use Rattle.counts.proofs.post_sweeps_at.Tie as tie
 
 returns : tie.Need-returns
 unfolding postSweepsOf

@@ -4,9 +4,9 @@ use borrow.Author.Needs.{needs}
 use borrow.Author.Tests.{eq-eqb, ne-eqb}
 use mathlib.Core.Logic.{⊎-elim}
 use native.Mathlib.Omega.{arith}
-use Rattle.options.specs.Counts.{preSweepsOf}
-use Rattle.options.proofs.counts.pre_sweeps_at.Statement.{statement}
-use Rattle.options.proofs.counts.pre_sweeps_at.Tie as tie
+use Rattle.counts.specs.Counts.{preSweepsOf}
+use Rattle.counts.proofs.pre_sweeps_at.Statement.{statement}
+use Rattle.counts.proofs.pre_sweeps_at.Tie as tie
 
 returns : tie.Need-returns
 unfolding preSweepsOf

@@ -2,8 +2,8 @@
 -- Assumes nothing.
 use borrow.Author.Needs.{needs}
 use native.Mathlib.Omega.{arith}
-use Rattle.options.proofs.counts.extra_sweeps_at.Statement.{statement}
-use Rattle.options.proofs.counts.extra_sweeps_at.Tie as tie
+use Rattle.counts.proofs.extra_sweeps_at.Statement.{statement}
+use Rattle.counts.proofs.extra_sweeps_at.Tie as tie
 
 returns : tie.Need-returns
 returns c = rw (c .if1 .taken) (omega arith)

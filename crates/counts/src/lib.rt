@@ -1,8 +1,8 @@
 // How often a level is smoothed before and after the coarser levels' correction (cycle.rs).
 ghost use mathlib.Core.Path.{_≡_};
 ghost use Prim.Native.Nat.{min};
-ghost use Rattle.options.specs.Counts.{extraOf, preSweepsOf, postSweepsOf};
-use crate::MultigridOptions;
+ghost use Rattle.counts.specs.Counts.{extraOf, preSweepsOf, postSweepsOf};
+use options::MultigridOptions;
 use saturating::saturating_add;
 use saturating::saturating_mul;
 
