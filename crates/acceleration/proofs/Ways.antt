@@ -20,9 +20,13 @@ use Rattle.refusal.proofs.Outcome.{refuses}
 use Rattle.store.specs.Region.{part}
 use Rattle.store.proofs.Region.{le-or-lt}
 use Rattle.acceleration.specs.declared.Corrected.{Corrected}
-use Rattle.directions.specs.Directions.{Pair, normalOf, advanceOf}
-use Rattle.directions.specs.Contract.{pairAt, memoryAt, Stepped, PassOk, NormalOk, Normal, AdvanceOk, Advanced}
+use Rattle.directions.specs.Directions.{Pair}
+use Rattle.directions.specs.Contract.{pairAt, memoryAt, Stepped, PassOk}
 use Rattle.directions.proofs.Passes.{memory-same}
+use Rattle.normalizing.specs.Normal.{normalOf}
+use Rattle.normalizing.specs.Contract.{NormalOk, Normal}
+use Rattle.advancing.specs.Advance.{advanceOf}
+use Rattle.advancing.specs.Contract.{AdvanceOk, Advanced}
 use Rattle.acceleration.specs.Gcr.{Corrections, twiceOf, keptOf, correctOf}
 use Rattle.acceleration.specs.Contract.{Restarted, CorrectOk, CorrectedBy}
 

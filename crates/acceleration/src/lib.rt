@@ -6,9 +6,9 @@ ghost use Rattle.store.specs.Region.{part};
 ghost use Rattle.directions.specs.Contract.{pairAt, memoryAt, Stepped, PassOk};
 ghost use Rattle.acceleration.specs.Gcr.{twiceOf, correctOf};
 ghost use Rattle.acceleration.specs.Contract.{Restarted, CorrectOk, CorrectedBy};
-use directions::advance;
-use directions::normalize;
+use advancing::advance;
 use directions::pass;
+use normalizing::normalize;
 use refusal::Refusal;
 use refusal::Verdict;
 

@@ -11,7 +11,7 @@ use Rattle.store.specs.Region.{idx, part, Kept}
 use Rattle.store.proofs.Region.{length-part}
 use Rattle.options.specs.declared.MultigridOptions.{MultigridOptions}
 use Rattle.options.specs.declared.MultigridSmoother.{MultigridSmoother}
-use Rattle.options.specs.Counts.{preSweepsOf, postSweepsOf}
+use Rattle.counts.specs.Counts.{preSweepsOf, postSweepsOf}
 use Rattle.refusal.specs.declared.Refusal.{Refusal}
 use Rattle.refusal.specs.Refusal.{badCoarseSolution}
 use Rattle.refusal.specs.declared.Verdict.{Verdict}

@@ -12,7 +12,7 @@ use Rattle.store.specs.Region.{idx, part, Kept}
 use Rattle.store.specs.Vector.{filled}
 use Rattle.store.proofs.Region.{kept-on, kept-less, kept-self, kept-part}
 use Rattle.options.specs.declared.MultigridOptions.{MultigridOptions}
-use Rattle.options.specs.Counts.{preSweepsOf, postSweepsOf}
+use Rattle.counts.specs.Counts.{preSweepsOf, postSweepsOf}
 use Rattle.refusal.specs.declared.Refusal.{Refusal}
 use Rattle.refusal.specs.declared.Verdict.{Verdict}
 use Rattle.refusal.specs.Outcome.{Outcome, accepted, refused, verdictOf, isRefused, _>>=_}

@@ -9,7 +9,7 @@ use lib.ListN.{length}
 use lib.Ieee.{Float}
 use Rattle.store.specs.Region.{idx, part, Kept}
 use Rattle.options.specs.declared.MultigridOptions.{MultigridOptions}
-use Rattle.options.specs.Counts.{preSweepsOf, postSweepsOf}
+use Rattle.counts.specs.Counts.{preSweepsOf, postSweepsOf}
 use Rattle.refusal.specs.declared.Verdict.{Verdict}
 use Rattle.refusal.specs.Outcome.{Outcome, accepted, verdictOf, _>>=_}
 use Rattle.packed.specs.Triangle.{tri}

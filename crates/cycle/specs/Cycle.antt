@@ -9,7 +9,7 @@ use Rattle.float.specs.Float.{zero64}
 use Rattle.store.specs.Region.{idx}
 use Rattle.store.specs.Vector.{filled}
 use Rattle.options.specs.declared.MultigridOptions.{MultigridOptions}
-use Rattle.options.specs.Counts.{preSweepsOf, postSweepsOf}
+use Rattle.counts.specs.Counts.{preSweepsOf, postSweepsOf}
 use Rattle.refusal.specs.Outcome.{Outcome, accepted, _>>=_}
 use Rattle.matrix.specs.Kernel.{Kernel, applyOf}
 use Rattle.smoother.specs.Smooth.{smoothOf}

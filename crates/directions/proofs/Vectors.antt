@@ -1,4 +1,4 @@
--- The loops of `lessen`, `more` and `over`: a turn, and what the loop leaves.
+-- The loop of `lessen`: a turn, and what the loop leaves.
 -- Assumes nothing.
 use mathlib.Core.Path.{ap, _∙_}
 use mathlib.Core.List.{List}
@@ -6,26 +6,18 @@ use Prim.Native.Nat.{ℕ, _+_, _≤_}
 use native.Mathlib.Omega.{arith}
 use lib.Ieee.{Float, nan}
 use lib.ListN.{length, set}
-use Rattle.float.specs.Float.{add64, sub64, mul64, div64}
+use Rattle.float.specs.Float.{sub64, mul64}
 use Rattle.store.specs.Loop.{for}
 use Rattle.store.specs.Region.{at, part, splice, Wrote}
 use Rattle.store.proofs.Loop.{Left, left-end}
 use Rattle.store.proofs.Region.{getD-part, wrote}
 use Rattle.store.proofs.Vector.{length-tab, tab-same, for-each}
-use Rattle.directions.specs.Directions.{lessOf, moreOf, overOf}
+use Rattle.directions.specs.Directions.{lessOf}
 use Rattle.directions.specs.Contract.{AxpyOk}
 
 -- a turn of `lessen`
 unfoldable pub lessTurn : Float → ℕ → ℕ → ℕ → List Float → List Float
 lessTurn a x y k F = set F (y + k) (sub64 (at F (y + k)) (mul64 a (at F (x + k))))
-
--- a turn of `more`
-unfoldable pub moreTurn : Float → ℕ → ℕ → ℕ → List Float → List Float
-moreTurn a x y k F = set F (y + k) (add64 (at F (y + k)) (mul64 a (at F (x + k))))
-
--- a turn of `over`
-unfoldable pub overTurn : Float → ℕ → ℕ → ℕ → List Float → List Float
-overTurn a x y k F = set F (y + k) (div64 (at F (x + k)) a)
 
 module _ (a : Float) {F G : List Float} {n x y k : ℕ} (ok : AxpyOk (length F) n x y) where
   -- The loop of `lessen` leaves y - a x.
@@ -36,23 +28,4 @@ module _ (a : Float) {F G : List Float} {n x y k : ℕ} (ok : AxpyOk (length F) 
       wrote (left-end l h
       ∙ for-each y n F (λ k G. sub64 (at G (y + k)) (mul64 a (at G (x + k))))
       (λ k b G same. rw (same (y + k) nan (omega arith), same (x + k) nan (omega arith)))
-      ∙ ap (λ (v : List Float). splice y v F) (tab-same _ _ n (λ k b. simp getD-part))) (length-tab _ n)
-
-  -- The loop of `more` leaves y + a x.
-  pub more-done : Left (moreTurn a x y) k n G (for (moreTurn a x y) 0 n F) → n ≤ k
-      → Wrote y n (moreOf n a (part x n F) (part y n F)) F G
-  unfolding moreOf moreTurn
-  more-done l h =
-      wrote (left-end l h
-      ∙ for-each y n F (λ k G. add64 (at G (y + k)) (mul64 a (at G (x + k))))
-      (λ k b G same. rw (same (y + k) nan (omega arith), same (x + k) nan (omega arith)))
-      ∙ ap (λ (v : List Float). splice y v F) (tab-same _ _ n (λ k b. simp getD-part))) (length-tab _ n)
-
-  -- The loop of `over` leaves x / a.
-  pub over-done : Left (overTurn a x y) k n G (for (overTurn a x y) 0 n F) → n ≤ k
-      → Wrote y n (overOf n a (part x n F)) F G
-  unfolding overOf overTurn
-  over-done l h =
-      wrote (left-end l h
-      ∙ for-each y n F (λ k G. div64 (at G (x + k)) a) (λ k b G same. rw (same (x + k) nan (omega arith)))
       ∙ ap (λ (v : List Float). splice y v F) (tab-same _ _ n (λ k b. simp getD-part))) (length-tab _ n)

@@ -1,13 +1,12 @@
 -- The memory as regions of the store, and what the functions require and ensure. Definitions only.
 use mathlib.Core.Path.{_≡_}
-use mathlib.Core.Bool.{Bool, false}
+use mathlib.Core.Bool.{Bool}
 use mathlib.Core.List.{List, [], _∷_}
 use Prim.Native.Nat.{ℕ, zero, suc, _+_, _*_, _≤_}
 use lib.Ieee.{Float}
 use lib.ListN.{length}
 use Rattle.refusal.specs.Refusal.{badDotProduct}
-use Rattle.refusal.specs.declared.Verdict.{Verdict}
-use Rattle.refusal.specs.Outcome.{Outcome, accepted, ask, verdictOf}
+use Rattle.refusal.specs.Outcome.{Outcome, accepted, ask}
 use Rattle.store.specs.Region.{part, Clear}
 use Rattle.directions.specs.Directions.{Pair}
 
@@ -50,31 +49,3 @@ pub record AxpyOk (size n x y : ℕ) : Type 0 where
   pub xs : x + n ≤ size
   pub ys : y + n ≤ size
   pub clear : Clear x n y n
-
--- the place of the pair to store, below the new one
-pub record NormalOk (size n p q direction image : ℕ) : Type 0 where
-  pub ps : p + n ≤ q
-  pub qs : q + n ≤ direction
-  pub directions : direction + n ≤ image
-  pub images : image + n ≤ size
-
--- the verdict and, where it passed, the pair at p and q; nothing else has changed
-pub record Normal (n p q : ℕ) (outcome : Outcome Pair) (F G : List Float) (v : Verdict) : Type 0 where
-  pub answer : v ≡ verdictOf outcome
-  pub pair : v ≡ Verdict.Passed → outcome ≡ accepted (pairAt n p q G)
-  pub off : (a m : ℕ) → Clear a m p n → Clear a m q n → part a m G ≡ part a m F
-  pub size : length G ≡ length F
-
--- the solution below the pair at p and q, and the residual above it
-pub record AdvanceOk (size n solution p q residual : ℕ) : Type 0 where
-  pub solutions : solution + n ≤ p
-  pub ps : p + n ≤ q
-  pub qs : q + n ≤ residual
-  pub residuals : residual + n ≤ size
-
--- r tells whether `outcome` is accepted, with the solution left in G; nothing else has changed
-pub record Advanced (n solution : ℕ) (outcome : Outcome (List Float)) (F G : List Float) (r : Bool) : Type 0 where
-  pub is : ask r badDotProduct (accepted (part solution n G)) ≡ outcome
-  pub still : r ≡ false → part solution n G ≡ part solution n F
-  pub off : (a m : ℕ) → Clear a m solution n → part a m G ≡ part a m F
-  pub size : length G ≡ length F

@@ -1,14 +1,8 @@
-// The directions of acceleration.rs: a new pair made orthogonal to the stored ones, normalised, and the step along it.
-ghost use mathlib.Core.Path.{_≡_};
-ghost use mathlib.Core.Bool.{_&&_};
-ghost use Prim.Native.Nat.{_+_, _≤_};
+// The directions of acceleration.rs: a new pair made orthogonal to the stored ones.
 ghost use lib.ListN.{length};
 ghost use Rattle.store.specs.Region.{part, Wrote};
-ghost use Rattle.vector.specs.Dot.{allFinite};
-ghost use Rattle.directions.specs.Directions.{lessOf, moreOf, overOf, stepOf, passOf, normalOf, advanceOf};
-ghost use Rattle.directions.specs.Contract.{pairAt, memoryAt, AxpyOk, StepOk, Stepped, PassOk, NormalOk, Normal};
-ghost use Rattle.directions.specs.Contract.{AdvanceOk, Advanced};
-use refusal::Verdict;
+ghost use Rattle.directions.specs.Directions.{lessOf, stepOf, passOf};
+ghost use Rattle.directions.specs.Contract.{pairAt, memoryAt, AxpyOk, StepOk, Stepped, PassOk};
 use vector::Product;
 
 // y -= a * x
@@ -22,33 +16,6 @@ fn lessen(f: &mut [f64], n: usize, a: f64, x: usize, y: usize)
     let mut row = 0;
     while row < n {
         f[y + row] = f[y + row] - a * f[x + row];
-        row += 1;
-    }
-}
-
-// y += a * x
-fn more(f: &mut [f64], n: usize, a: f64, x: usize, y: usize)
-    requires { ⌜ AxpyOk (length (now f)) n x y ⌝ }
-    ensures { λ _. ⌜
-        Wrote y n (moreOf n a (part x n (now (f .entry))) (part y n (now (f .entry)))) (now (f .entry))
-        (now (f .exit))
-        ⌝ }
-{
-    let mut row = 0;
-    while row < n {
-        f[y + row] = f[y + row] + a * f[x + row];
-        row += 1;
-    }
-}
-
-// y = x / a
-fn over(f: &mut [f64], n: usize, a: f64, x: usize, y: usize)
-    requires { ⌜ AxpyOk (length (now f)) n x y ⌝ }
-    ensures { λ _. ⌜ Wrote y n (overOf n a (part x n (now (f .entry)))) (now (f .entry)) (now (f .exit)) ⌝ }
-{
-    let mut row = 0;
-    while row < n {
-        f[y + row] = f[x + row] / a;
         row += 1;
     }
 }
@@ -102,73 +69,4 @@ pub fn pass(
         }
     }
     true
-}
-
-// The new pair over the norm of its image, stored at p and q. The source tests row by row; question 30 names no row.
-pub fn normalize(
-    f: &mut [f64],
-    n: usize,
-    p: usize,
-    q: usize,
-    direction: usize,
-    image: usize,
-) -> Verdict
-    requires { ⌜ NormalOk (length (now f)) n p q direction image ⌝ }
-    ensures { λ v. ⌜
-        Normal n p q (normalOf n (pairAt n direction image (now (f .entry)))) (now (f .entry)) (now (f .exit)) v
-        ⌝ }
-{
-    match vector::norm_l2(f, image, n) {
-        Product::Finite(norm) => {
-            if norm != 0.0 {
-                over(f, n, norm, direction, p);
-                over(f, n, norm, image, q);
-                if both_finite(f, n, p, q) {
-                    Verdict::Passed
-                } else {
-                    Verdict::Refused(refusal::BAD_DIRECTION)
-                }
-            } else {
-                Verdict::Refused(refusal::ZERO_IMAGE)
-            }
-        }
-        Product::NotFinite => Verdict::Refused(refusal::BAD_DOT_PRODUCT),
-    }
-}
-
-fn both_finite(f: &[f64], n: usize, p: usize, q: usize) -> bool
-    requires { ⌜ p + n ≤ length (now f) ⌝ }
-    requires { ⌜ q + n ≤ length (now f) ⌝ }
-    ensures { λ r. ⌜ r ≡ allFinite n (part p n (now (f .entry))) && allFinite n (part q n (now (f .entry))) ⌝ }
-{
-    if vector::all_finite(f, n, p) {
-        vector::all_finite(f, n, q)
-    } else {
-        false
-    }
-}
-
-// The solution moved along the pair at p and q; false, and nothing moved, where the product is not finite.
-pub fn advance(
-    f: &mut [f64],
-    n: usize,
-    solution: usize,
-    p: usize,
-    q: usize,
-    residual: usize,
-) -> bool
-    requires { ⌜ AdvanceOk (length (now f)) n solution p q residual ⌝ }
-    ensures { λ r. ⌜
-        Advanced n solution
-        (advanceOf n (part residual n (now (f .entry))) (pairAt n p q (now (f .entry))) (part solution n (now (f .entry))))
-        (now (f .entry)) (now (f .exit)) r
-        ⌝ }
-{
-    match vector::dot(f, residual, q, n) {
-        Product::Finite(alpha) => {
-            more(f, n, alpha, p, solution);
-            true
-        }
-        Product::NotFinite => false,
-    }
 }

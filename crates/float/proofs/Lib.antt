@@ -1,3 +1,2 @@
 pub mod Compare
-pub mod Saturate
 pub mod Sign

@@ -1,6 +1,5 @@
-// The methods of f64 and u64 that the solver calls, as functions. No public one asks anything of its arguments.
+// The methods of f64 that the solver calls, as functions. No public one asks anything of its arguments.
 ghost use mathlib.Core.Path.{_≡_};
-ghost use Prim.Native.Nat.{_+_, _*_, min};
 ghost use lib.Ieee.{binary64, toBits, ofBits};
 ghost use Rattle.float.specs.Float.{isFinite, absOf, maxNum, squareOf};
 
@@ -57,23 +56,4 @@ pub fn square(x: f64) -> f64
     ensures { λ r. ⌜ r ≡ squareOf x ⌝ }
 {
     x * x
-}
-
-// a + b, or the largest u64 where the sum does not fit.
-pub fn saturating_add(a: u64, b: u64) -> u64
-    ensures { λ r. ⌜ r ≡ min (a + b) 18446744073709551615 ⌝ }
-{
-    let room = u64::MAX - a;
-    if b <= room { a + b } else { u64::MAX }
-}
-
-// a * b, or the largest u64 where the product does not fit.
-pub fn saturating_mul(a: u64, b: u64) -> u64
-    ensures { λ r. ⌜ r ≡ min (a * b) 18446744073709551615 ⌝ }
-{
-    if a == 0 {
-        return 0;
-    }
-    let most = u64::MAX / a;
-    if b <= most { a * b } else { u64::MAX }
 }

@@ -2,11 +2,6 @@
 ghost use mathlib.Core.Path.{_≡_};
 ghost use Rattle.options.specs.Options.{defaultOptions, validOf, controlsAsked};
 ghost use Rattle.refusal.specs.Outcome.{verdictOf};
-
-mod counts;
-
-pub use counts::post_sweeps_at;
-pub use counts::pre_sweeps_at;
 use refusal::Verdict;
 
 pub enum MultigridSmoother {

@@ -1,4 +1,4 @@
-// The functions of `float`.
+// The functions of `float` and `saturating`.
 ghost use mathlib.Core.Path.{_≡_};
 ghost use Prim.Native.Nat.{_+_, _*_, min};
 ghost use lib.Ieee.{binary64, toBits, ofBits};
@@ -60,12 +60,12 @@ pub extern "C" fn probe_of_bits(bits: u64) -> f64
 pub extern "C" fn probe_saturating_add(a: u64, b: u64) -> u64
     ensures { λ r. ⌜ r ≡ min (a + b) 18446744073709551615 ⌝ }
 {
-    float::saturating_add(a, b)
+    saturating::saturating_add(a, b)
 }
 
 #[no_mangle]
 pub extern "C" fn probe_saturating_mul(a: u64, b: u64) -> u64
     ensures { λ r. ⌜ r ≡ min (a * b) 18446744073709551615 ⌝ }
 {
-    float::saturating_mul(a, b)
+    saturating::saturating_mul(a, b)
 }

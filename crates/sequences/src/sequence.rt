@@ -23,8 +23,8 @@ fn counted(calls: u64, same: bool) -> Tally {
 
 fn sum(a: Tally, b: Tally) -> Tally {
     Tally {
-        calls: float::saturating_add(a.calls, b.calls),
-        differences: float::saturating_add(a.differences, b.differences),
+        calls: saturating::saturating_add(a.calls, b.calls),
+        differences: saturating::saturating_add(a.differences, b.differences),
     }
 }
 

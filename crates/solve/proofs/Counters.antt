@@ -11,7 +11,7 @@ use Rattle.store.specs.Vector.{filled}
 use Rattle.options.specs.declared.MultigridOptions.{MultigridOptions}
 use Rattle.solver.specs.declared.LinearSolverOptions.{LinearSolverOptions}
 use Rattle.solver.specs.declared.LinearSolverStatus.{LinearSolverStatus}
-use Rattle.options.specs.Counts.{preSweepsOf, postSweepsOf}
+use Rattle.counts.specs.Counts.{preSweepsOf, postSweepsOf}
 use Rattle.refusal.specs.declared.Refusal.{Refusal}
 use Rattle.refusal.specs.Outcome.{Outcome, accepted, refused, ask, _>>=_}
 use Rattle.solver.specs.Solver.{thresholdOf}

@@ -17,7 +17,7 @@ use Rattle.sweeps.specs.Sweep.{gaussSeidelOf}
 use Rattle.cholesky.specs.Factor.{Csr, choleskyOf}
 use Rattle.refusal.specs.Outcome.{Outcome, accepted, refused}
 use Rattle.options.specs.Options.{defaultOptions}
-use Rattle.options.specs.Counts.{preSweepsOf, postSweepsOf}
+use Rattle.counts.specs.Counts.{preSweepsOf, postSweepsOf}
 use Rattle.options.specs.declared.MultigridOptions.{MultigridOptions}
 
 -- the bits of the root of the f64 with these bits

@@ -1,0 +1,47 @@
+-- `normalizing::normalize` meets its contract.
+-- Assumes nothing.
+use borrow.Author.Needs.{needs}
+use Rattle.normalizing.proofs.Normal.{first-ok, second-ok, normal-yes, normal-bad, normal-zero, normal-no}
+use Rattle.normalizing.proofs.normalize.Statement.{statement}
+use Rattle.normalizing.proofs.normalize.Tie as tie
+
+over-requires : tie.Need-over-requires
+over-requires c κs = search (first-ok)
+
+over-requires-2 : tie.Need-over-requires-2
+over-requires-2 c κs = search (second-ok)
+
+returns : tie.Need-returns
+returns c =
+    normal-yes (c .before .before .before .before .before .before .before .before .before .before .before .before .before .before .before .before .before .before .pre) (c .before .before .before .before .before .before .before .before .before .before .before .before .before .before .before .norm-l2 .ensures) (c .before .before .before .before .before .before .before .before .before .before .before .before .before .norm .given .1) (c .before .before .before .before .before .before .before .before .before .before .before .if1 .taken) (c .before .before .before .before .before .before .before .before .before .over .ensures) (c .before .before .before .before .before .over2 .ensures)
+    (c .before .both-finite .ensures) (c .if2 .taken)
+
+returns-2 : tie.Need-returns-2
+returns-2 c =
+    normal-bad (c .before .before .before .before .before .before .before .before .before .before .before .before .before .before .before .before .before .before .pre) (c .before .before .before .before .before .before .before .before .before .before .before .before .before .before .before .norm-l2 .ensures) (c .before .before .before .before .before .before .before .before .before .before .before .before .before .norm .given .1) (c .before .before .before .before .before .before .before .before .before .before .before .if1 .taken) (c .before .before .before .before .before .before .before .before .before .over .ensures) (c .before .before .before .before .before .over2 .ensures)
+    (c .before .both-finite .ensures) (c .if2 .left)
+
+returns-3 : tie.Need-returns-3
+returns-3 c = search (normal-zero)
+
+returns-4 : tie.Need-returns-4
+returns-4 c = search (normal-no)
+
+pub normalize-spec : {M : Type 1} → statement M
+normalize-spec =
+    tie.close
+    (tie.spec
+    (λ c κs. search needs)
+    (λ c. search needs)
+    over-requires
+    over-requires-2
+    (λ c κs. search needs)
+    (λ c. search needs)
+    (λ c. search needs)
+    returns
+    (λ c. search needs)
+    returns-2
+    (λ c. search needs)
+    returns-3
+    (λ c. search needs)
+    returns-4)
