@@ -23,7 +23,7 @@ use Rattle.layout.specs.declared.Place.{Place}
 use Rattle.layout.specs.Layout.{entriesAt, locate}
 use Rattle.sound.specs.Sound.{shapeIn}
 use Rattle.renewing.specs.Update.{sameList, samePattern}
-use Rattle.renewing.specs.Steps.{bareAt}
+use Rattle.standing.specs.Standing.{bareAt}
 use Rattle.refresh.specs.Steps.{askedOf, PatternOk, AskOk}
 
 module _ (w : List ℕ) (from : ℕ) (v : List ℕ) where

@@ -31,10 +31,11 @@ use Rattle.layout.proofs.Views.{floats-to}
 use Rattle.sound.specs.Sound.{shapeIn, scratchStart}
 use Rattle.sound.specs.Contract.{LevelsOk}
 use Rattle.renewing.specs.Update.{samePattern, renewOf, updateOf}
-use Rattle.renewing.specs.Steps.{Under, shapesAt, StartOk, Renewed}
+use Rattle.renewlevel.specs.Level.{Under}
+use Rattle.renewing.specs.Steps.{shapesAt, StartOk, Renewed}
 use Rattle.renewing.proofs.Chains.{Opened, opened}
-use Rattle.renewing.proofs.Levels.{kernel-ready}
-use Rattle.renewing.proofs.Outcomes.{never, verdict-then, told-accepted, told-refused}
+use Rattle.renewlevel.proofs.Levels.{kernel-ready}
+use Rattle.standing.proofs.Outcomes.{never, verdict-then, told-accepted, told-refused}
 use Rattle.renewing.proofs.Renewing.{bare-ok, shapes-some, levels-some, floats-end}
 use Rattle.refresh.specs.declared.Updated.{Updated}
 use Rattle.refresh.specs.Contract.{updatedAt, answerOf, hierarchyOf, imageOf, UpdateDone}

@@ -8,7 +8,7 @@ ghost use Rattle.store.specs.Vector.{each};
 ghost use Rattle.refusal.specs.Outcome.{verdictOf};
 ghost use Rattle.sound.specs.Sound.{shapeIn};
 ghost use Rattle.renewing.specs.Update.{sameList, samePattern};
-ghost use Rattle.renewing.specs.Steps.{bareAt};
+ghost use Rattle.standing.specs.Standing.{bareAt};
 ghost use Rattle.refresh.specs.Steps.{askedOf, PatternOk, AskOk};
 use layout::Place;
 use refusal::Verdict;
