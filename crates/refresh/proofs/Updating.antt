@@ -37,10 +37,11 @@ use Rattle.renewing.proofs.Chains.{Opened, opened}
 use Rattle.renewlevel.proofs.Levels.{kernel-ready}
 use Rattle.standing.proofs.Outcomes.{never, verdict-then, told-accepted, told-refused}
 use Rattle.renewing.proofs.Renewing.{bare-ok, shapes-some, levels-some, floats-end}
+use Rattle.samepattern.specs.Arrays.{askedOf, AskOk}
+use Rattle.samepattern.proofs.Questions.{many-values}
 use Rattle.refresh.specs.declared.Updated.{Updated}
 use Rattle.refresh.specs.Contract.{updatedAt, answerOf, hierarchyOf, imageOf, UpdateDone}
-use Rattle.refresh.specs.Steps.{With, askedOf, AskOk, sumsStart, SumOk, Summed, ShadowOk, shadowOf, ShadowDone, CommitOk, Committed, AttemptOk, attemptOf, Attempted, toldOf, UpdateOk}
-use Rattle.refresh.proofs.Questions.{many-values}
+use Rattle.refresh.specs.Steps.{With, sumsStart, SumOk, Summed, ShadowOk, shadowOf, ShadowDone, CommitOk, Committed, AttemptOk, attemptOf, Attempted, toldOf, UpdateOk}
 use Rattle.refresh.proofs.Moving.{shapes-are, image-shift, levels-stay, view-stays}
 
 -- ---- the shadow

@@ -2,23 +2,21 @@
 use mathlib.Core.Path.{_≡_}
 use mathlib.Core.Bool.{cond}
 use mathlib.Core.List.{List}
-use Prim.Native.Nat.{ℕ, _+_, _-_, _*_, _≤_, _<_}
+use Prim.Native.Nat.{ℕ, _-_, _*_, _≤_}
 use lib.ListN.{length}
 use lib.Ieee.{Float}
 use Rattle.float.specs.Float.{zero64}
-use Rattle.store.specs.Region.{idx, Wrote, Kept}
+use Rattle.store.specs.Region.{Wrote, Kept}
 use Rattle.store.specs.Vector.{filled}
 use Rattle.options.specs.declared.Handle.{Handle}
 use Rattle.options.specs.declared.MultigridOptions.{MultigridOptions}
 use Rattle.options.specs.declared.MultigridResidualNorm.{MultigridResidualNorm}
 use Rattle.options.specs.declared.MultigridSmoother.{MultigridSmoother}
 use Rattle.refusal.specs.declared.Refusal.{Refusal}
-use Rattle.refusal.specs.Refusal.{unequalMirrors, otherPattern}
 use Rattle.refusal.specs.declared.Verdict.{Verdict}
-use Rattle.refusal.specs.Outcome.{Outcome, accepted, refused, passed, ask, verdictOf, _>>=_, _>>_}
+use Rattle.refusal.specs.Outcome.{Outcome, accepted, refused, verdictOf, _>>=_, _>>_}
 use Rattle.matrix.specs.Kernel.{kernelAt, rowSumsOf, KernelOk}
-use Rattle.values.specs.Mirrors.{mirrorsEqual}
-use Rattle.hierarchy.specs.Level.{Shape, Hierarchy}
+use Rattle.hierarchy.specs.Level.{Hierarchy}
 use Rattle.hierarchy.specs.First.{shapesIn}
 use Rattle.hierarchy.specs.Refresh.{needsSums, withSums}
 use Rattle.layout.specs.declared.Place.{Place}
@@ -27,32 +25,10 @@ use Rattle.layout.specs.Parts.{kernelIn}
 use Rattle.sound.specs.declared.Walk.{Walk}
 use Rattle.sound.specs.Sound.{walkOf}
 use Rattle.sound.specs.Contract.{PlaceOk}
-use Rattle.renewing.specs.Update.{samePattern, renewOf, updateOf}
+use Rattle.renewing.specs.Update.{renewOf, updateOf}
 use Rattle.renewing.specs.Steps.{Chain, shapesAt}
 use Rattle.refresh.specs.declared.Updated.{Updated}
 use Rattle.refresh.specs.Contract.{hierarchyOf, imageOf}
-
--- ---- questions 31 and 10
-
--- the questions of a finest level of shape s
-abbrev pub askedOf : Shape → List ℕ → List ℕ → List Float → Outcome Unit
-askedOf s offsets columns values = do
-  ask (samePattern s offsets columns values) otherPattern
-  ask (mirrorsEqual (length (s .uppers)) (s .uppers) (s .lowers) values) unequalMirrors
-  passed
-
--- The pattern of the level at p lies in the words.
-pub record PatternOk (w : List ℕ) (p : Place) : Type 0 where
-  pub offsets : p .offsets + (p .rows + 1) ≤ length w
-  pub columns : p .columns + p .entries ≤ length w
-
--- The finest level, whose mirrored entries are entries.
-pub record AskOk (w : List ℕ) : Type 0 where
-  pub place : PlaceOk w 0 0
-  pub inside : locate w 0 0 .links ≤ length w
-  pub pattern : PatternOk w (locate w 0 0)
-  pub uppers : (k : ℕ) → k < locate w 0 0 .faces → idx w (locate w 0 0 .uppers + k) < locate w 0 0 .entries
-  pub lowers : (k : ℕ) → k < locate w 0 0 .faces → idx w (locate w 0 0 .lowers + k) < locate w 0 0 .entries
 
 -- ---- the row sums
 

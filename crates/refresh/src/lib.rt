@@ -11,8 +11,6 @@ use options::MultigridSmoother;
 use refusal::Refusal;
 use refusal::Verdict;
 
-mod arrays;
-
 // Whether an update was made.
 pub enum Updated {
     Done,
@@ -101,7 +99,7 @@ fn attempt(
     requires { ⌜ AttemptOk levels (now w) (length (now f)) ⌝ }
     ensures { λ r. ⌜ With kind norm (λ o. Attempted levels (now (w .entry)) (now (f .entry)) (now (f .exit)) (attemptOf o levels (now (w .entry)) (now (f .entry)) (now (offsets .entry)) (now (columns .entry)) (now (values .entry))) r) ⌝ }
 {
-    let asked = arrays::asked(w, offsets, columns, values);
+    let asked = samepattern::asked(w, offsets, columns, values);
     if asked.refused() {
         return asked;
     }

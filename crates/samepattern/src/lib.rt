@@ -1,4 +1,5 @@
-// What an update asks of its arrays before it writes: question 31, that they have the pattern of the finest level, and question 10.
+// What `update_values` of mod.rs asks of its arrays before it writes: question 31, that they have the pattern of the finest level, and
+// question 10.
 ghost use mathlib.Core.Path.{_≡_};
 ghost use Prim.Native.Nat.{_+_, _≤_};
 ghost use lib.Dec.{eqb};
@@ -9,7 +10,7 @@ ghost use Rattle.refusal.specs.Outcome.{verdictOf};
 ghost use Rattle.sound.specs.Sound.{shapeIn};
 ghost use Rattle.renewing.specs.Update.{sameList, samePattern};
 ghost use Rattle.standing.specs.Standing.{bareAt};
-ghost use Rattle.refresh.specs.Steps.{askedOf, PatternOk, AskOk};
+ghost use Rattle.samepattern.specs.Arrays.{askedOf, PatternOk, AskOk};
 use layout::Place;
 use refusal::Verdict;
 

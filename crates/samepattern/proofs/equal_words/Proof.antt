@@ -1,11 +1,11 @@
--- `refresh::arrays::equal_words` meets its contract. The loop's invariant: the answer so far is that of the words passed.
+-- `samepattern::equal_words` meets its contract. The loop's invariant: the answer so far is that of the words passed.
 -- Assumes nothing.
 use Prim.Native.Nat.{_-_}
 use lib.ListN.{length}
-use Rattle.refresh.proofs.Questions.{Gathered, gathered-start, gathered-on, gathered-end}
+use Rattle.samepattern.proofs.Questions.{Gathered, gathered-start, gathered-on, gathered-end}
 use native.Mathlib.Omega.{arith}
-use Rattle.refresh.proofs.arrays.equal_words.Statement.{statement}
-use Rattle.refresh.proofs.arrays.equal_words.Tie as tie
+use Rattle.samepattern.proofs.equal_words.Statement.{statement}
+use Rattle.samepattern.proofs.equal_words.Tie as tie
 
 abbrev Inv-loop : tie.InvT-loop
 Inv-loop w from v n ok₀ k₀ ok k = Gathered w from v k ok

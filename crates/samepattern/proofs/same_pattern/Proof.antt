@@ -1,9 +1,9 @@
--- `refresh::arrays::same_pattern` meets its contract.
+-- `samepattern::same_pattern` meets its contract.
 -- Assumes nothing.
-use Rattle.refresh.proofs.Questions.{pattern-same}
+use Rattle.samepattern.proofs.Questions.{pattern-same}
 use borrow.Author.Needs.{needs}
-use Rattle.refresh.proofs.arrays.same_pattern.Statement.{statement}
-use Rattle.refresh.proofs.arrays.same_pattern.Tie as tie
+use Rattle.samepattern.proofs.same_pattern.Statement.{statement}
+use Rattle.samepattern.proofs.same_pattern.Tie as tie
 
 returns : tie.Need-returns
 returns c =

@@ -24,7 +24,7 @@ use Rattle.layout.specs.Layout.{entriesAt, locate}
 use Rattle.sound.specs.Sound.{shapeIn}
 use Rattle.renewing.specs.Update.{sameList, samePattern}
 use Rattle.standing.specs.Standing.{bareAt}
-use Rattle.refresh.specs.Steps.{askedOf, PatternOk, AskOk}
+use Rattle.samepattern.specs.Arrays.{askedOf, PatternOk, AskOk}
 
 module _ (w : List ℕ) (from : ℕ) (v : List ℕ) where
   -- the test of index k

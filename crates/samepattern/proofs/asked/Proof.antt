@@ -1,8 +1,8 @@
--- `refresh::arrays::asked` meets its contract: question 31, then 10.
+-- `samepattern::asked` meets its contract: question 31, then 10.
 -- Assumes nothing.
-use Rattle.refresh.proofs.Questions.{pattern-ready, mirrors-ready, asked-other, asked-unequal, asked-passed}
-use Rattle.refresh.proofs.arrays.asked.Statement.{statement}
-use Rattle.refresh.proofs.arrays.asked.Tie as tie
+use Rattle.samepattern.proofs.Questions.{pattern-ready, mirrors-ready, asked-other, asked-unequal, asked-passed}
+use Rattle.samepattern.proofs.asked.Statement.{statement}
+use Rattle.samepattern.proofs.asked.Tie as tie
 
 place-at-requires : tie.Need-place-at-requires
 place-at-requires c κs = c .before .before .before .before .pre .place

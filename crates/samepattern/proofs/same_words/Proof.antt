@@ -1,9 +1,9 @@
--- `refresh::arrays::same_words` meets its contract.
+-- `samepattern::same_words` meets its contract.
 -- Assumes nothing.
-use Rattle.refresh.proofs.Questions.{words-differ, words-same}
+use Rattle.samepattern.proofs.Questions.{words-differ, words-same}
 use borrow.Author.Needs.{needs}
-use Rattle.refresh.proofs.arrays.same_words.Statement.{statement}
-use Rattle.refresh.proofs.arrays.same_words.Tie as tie
+use Rattle.samepattern.proofs.same_words.Statement.{statement}
+use Rattle.samepattern.proofs.same_words.Tie as tie
 
 returns : tie.Need-returns
 returns c =
