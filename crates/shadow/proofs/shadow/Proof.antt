@@ -1,11 +1,11 @@
--- `refresh::shadow` meets its contract: the levels and the row sums.
+-- `shadow::shadow` meets its contract: the levels and the row sums.
 -- Assumes nothing.
 use mathlib.Core.Path.{sym, _∙_}
-use Rattle.refresh.proofs.Updating.{renew-ready, sums-ready, shadow-no, shadow-yes}
+use Rattle.shadow.proofs.Shadowing.{renew-ready, sums-ready, shadow-no, shadow-yes}
 use native.Mathlib.Omega.{arith}
 use borrow.Author.Needs.{needs}
-use Rattle.refresh.proofs.shadow.Statement.{statement}
-use Rattle.refresh.proofs.shadow.Tie as tie
+use Rattle.shadow.proofs.shadow.Statement.{statement}
+use Rattle.shadow.proofs.shadow.Tie as tie
 
 renew-requires : tie.Need-renew-requires
 renew-requires c κs = renew-ready (c .before .before .before .before .before .pre)

@@ -15,8 +15,8 @@ use Rattle.hierarchy.specs.First.{shapesIn}
 use Rattle.layout.specs.Layout.{rowsAt, coupledAt, locate, levelAt, wordsEnd, floatsEnd, levelsAt, imageEnd, viewOf}
 use Rattle.layout.proofs.Views.{floats-to}
 use Rattle.sound.specs.Sound.{shapeIn}
-use Rattle.refresh.specs.Contract.{imageOf}
 use Rattle.renewing.specs.Steps.{shapesAt}
+use Rattle.shadow.specs.Shadow.{imageOf}
 
 -- The shapes of levels in the stores do not depend on the floats.
 pub shapes-are : (k : ℕ) (w : List ℕ) (F : List Float) (a b : ℕ) → shapesIn (levelsAt k w F a b) ≡ shapesAt k w a

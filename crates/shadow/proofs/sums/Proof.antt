@@ -1,10 +1,10 @@
--- `refresh::sums` meets its contract: zeros, or the row sums of the finest level's kernel.
+-- `shadow::sums` meets its contract: zeros, or the row sums of the finest level's kernel.
 -- Assumes nothing.
-use Rattle.refresh.proofs.Summing.{sums-part, sums-room, sum-ready, summed-none, summed-all}
+use Rattle.shadow.proofs.Summing.{sums-part, sums-room, sum-ready, summed-none, summed-all}
 use native.Mathlib.Omega.{arith}
 use borrow.Author.Needs.{needs}
-use Rattle.refresh.proofs.sums.Statement.{statement}
-use Rattle.refresh.proofs.sums.Tie as tie
+use Rattle.shadow.proofs.sums.Statement.{statement}
+use Rattle.shadow.proofs.sums.Tie as tie
 
 place-at-requires : tie.Need-place-at-requires
 place-at-requires c κs = c .before .before .pre .place

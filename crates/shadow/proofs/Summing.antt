@@ -16,7 +16,7 @@ use Rattle.hierarchy.specs.Refresh.{needsSums}
 use Rattle.layout.specs.declared.Place.{Place}
 use Rattle.layout.specs.Layout.{locate}
 use Rattle.layout.specs.Parts.{kernelIn}
-use Rattle.refresh.specs.Steps.{SumOk, sumsAt, Summed}
+use Rattle.shadow.specs.Shadow.{SumOk, sumsAt, Summed}
 
 -- A choice that fails,
 cond-no : {A : Type 0} (b : Bool) (x y : A) → b ≡ false → cond b x y ≡ y
