@@ -17,9 +17,9 @@ use Rattle.sound.specs.Contract.{PlaceOk}
 use Rattle.renewing.specs.Steps.{RenewOk}
 use Rattle.renewing.proofs.Chains.{opened}
 use Rattle.renewing.proofs.Renewing.{renew-place, inner-words, next-place, next-ready, ends-at, levels-some}
-use Rattle.refresh.specs.Contract.{imageOf}
+use Rattle.shadow.specs.Shadow.{imageOf}
+use Rattle.shadow.proofs.Moving.{floats-shift, floats-own, image-shift, Moved, kept-moved, copied-moved, level-moved}
 use Rattle.refresh.specs.Steps.{CommitOk, Committed}
-use Rattle.refresh.proofs.Moving.{floats-shift, floats-own, image-shift, Moved, kept-moved, copied-moved, level-moved}
 
 -- The loop stands at `level`, whose words start at a and which stands at p: from its floats on nothing is written yet, and once the levels
 -- from there on are those of the shadow, all are.

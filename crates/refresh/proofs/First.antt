@@ -17,8 +17,9 @@ use Rattle.hierarchy.specs.Level.{Shape, Numbers, Level, Hierarchy}
 use Rattle.hierarchy.specs.First.{shapesIn}
 use Rattle.hierarchy.specs.Refresh.{numbersOf, coarseValues, refreshOf, withSums}
 use Rattle.hierarchy.proofs.Accepted.{ask-split, then-split, accepted-one}
-use Rattle.renewing.specs.Update.{samePattern, diagonalsStand, renewOf, updateOf}
-use Rattle.renewing.proofs.Outcomes.{never}
+use Rattle.standing.specs.Standing.{diagonalsStand}
+use Rattle.renewing.specs.Update.{samePattern, renewOf, updateOf}
+use Rattle.standing.proofs.Outcomes.{never}
 
 -- The levels of an accepted update of those shapes: a refresh of the same shapes makes them, and their shapes are these.
 pub record Second (o : MultigridOptions) (level : ℕ) (shapes : List Shape) (values : List Float) (levels : List Level) : Type 0 where

@@ -1,6 +1,3 @@
-pub mod Questions
-pub mod Summing
-pub mod Moving
 pub mod Copying
 pub mod Updating
 pub mod First

@@ -1,7 +1,7 @@
 -- An update in lent stores: what it requires and ensures. Definitions only.
 use mathlib.Core.Path.{_≡_}
 use mathlib.Core.List.{List}
-use Prim.Native.Nat.{ℕ, _+_}
+use Prim.Native.Nat.{ℕ}
 use lib.ListN.{length}
 use lib.Ieee.{Float}
 use Rattle.store.specs.Region.{Kept}
@@ -10,8 +10,9 @@ use Rattle.refusal.specs.declared.Refusal.{Refusal}
 use Rattle.refusal.specs.Outcome.{Outcome, accepted, refused}
 use Rattle.hierarchy.specs.Level.{Hierarchy}
 use Rattle.hierarchy.specs.First.{shapesIn}
-use Rattle.layout.specs.Layout.{rowsAt, imageEnd, viewOf}
+use Rattle.layout.specs.Layout.{viewOf}
 use Rattle.renewing.specs.Update.{updateOf}
+use Rattle.shadow.specs.Shadow.{imageOf}
 use Rattle.answers.specs.declared.Updated.{Updated}
 
 -- the update in stores that pass question 19, of the shapes that it finds there
@@ -27,10 +28,6 @@ answerOf (refused q) = Updated.Refused q
 abbrev pub hierarchyOf : Hierarchy → Outcome Hierarchy → Hierarchy
 hierarchyOf old (accepted h) = h
 hierarchyOf old (refused q) = old
-
--- where the image ends
-abbrev pub imageOf : ℕ → List ℕ → ℕ
-imageOf levels w = imageEnd levels w 0 0 + rowsAt w 0
 
 -- What an update whose outcome is `out` ensures: its answer, and the hierarchy in the stores; refused, no word of the image changed.
 pub record UpdateDone (h : Handle) (w : List ℕ) (F G : List Float) (out : Outcome Hierarchy) (r : Updated) : Type 0 where

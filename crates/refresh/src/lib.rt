@@ -2,63 +2,14 @@
 // over it once nothing can be refused any more.
 ghost use mathlib.Core.Path.{_≡_};
 ghost use lib.ListN.{length};
-ghost use Rattle.hierarchy.specs.Refresh.{needsDic};
 ghost use Rattle.refresh.specs.Contract.{updatedAt, UpdateDone};
-ghost use Rattle.refresh.specs.Steps.{With, SumOk, Summed, ShadowOk, ShadowDone, CommitOk, Committed, AttemptOk, attemptOf, Attempted, toldOf, UpdateOk};
+ghost use Rattle.shadow.specs.Shadow.{With};
+ghost use Rattle.refresh.specs.Steps.{CommitOk, Committed, AttemptOk, attemptOf, Attempted, toldOf, UpdateOk};
 use answers::Updated;
 use options::Handle;
 use options::MultigridResidualNorm;
 use options::MultigridSmoother;
 use refusal::Verdict;
-
-mod arrays;
-
-// Whether the smoother needs DIC data.
-fn needs_dic(kind: MultigridSmoother) -> bool
-    ensures { λ r. ⌜ r ≡ needsDic kind ⌝ }
-{
-    match kind {
-        MultigridSmoother::GaussSeidel => false,
-        MultigridSmoother::SymmetricGaussSeidel => false,
-        MultigridSmoother::DicGaussSeidel => true,
-    }
-}
-
-// The row sums of the finest level of the shadow that starts at `image`, where the norm needs them; else zeros. They end the shadow.
-fn sums(w: &[u32], f: &mut [f64], norm: MultigridResidualNorm, image: usize)
-    requires { ⌜ SumOk (now w) (length (now f)) image ⌝ }
-    ensures { λ _. ⌜ Summed (now (w .entry)) (now (f .entry)) (now (f .exit)) norm image ⌝ }
-{
-    let p = sound::place_at(w, 0, image);
-    let end = 2 * image - p.rows;
-    match norm {
-        MultigridResidualNorm::AbsoluteL2 => store::fill(f, end, p.rows, 0.0),
-        MultigridResidualNorm::NormalizedL1 => {
-            rowsums::row_sums_into(w, f, layout::kernel_in(p), end);
-        }
-    }
-}
-
-// The new image in the shadow, which starts where the old image ends.
-fn shadow(
-    w: &[u32],
-    f: &mut [f64],
-    kind: MultigridSmoother,
-    norm: MultigridResidualNorm,
-    levels: u64,
-    values: &[f64],
-    image: usize,
-) -> Verdict
-    requires { ⌜ ShadowOk levels (now w) (length (now f)) (length (now values)) image ⌝ }
-    ensures { λ r. ⌜ With kind norm (λ o. ShadowDone o levels (now (w .entry)) (now (f .entry)) (now (f .exit)) (now (values .entry)) image r) ⌝ }
-{
-    let answer = renewing::renew(w, values, f, needs_dic(kind), levels, image);
-    if answer.refused() {
-        return answer;
-    }
-    sums(w, f, norm, image);
-    answer
-}
 
 // The numbers of all levels and the row sums, copied from the shadow, which starts at `image`, over the old ones. The values before a
 // level's numbers are left out: no call reads them again.
@@ -95,13 +46,13 @@ fn attempt(
     requires { ⌜ AttemptOk levels (now w) (length (now f)) ⌝ }
     ensures { λ r. ⌜ With kind norm (λ o. Attempted levels (now (w .entry)) (now (f .entry)) (now (f .exit)) (attemptOf o levels (now (w .entry)) (now (f .entry)) (now (offsets .entry)) (now (columns .entry)) (now (values .entry))) r) ⌝ }
 {
-    let asked = arrays::asked(w, offsets, columns, values);
+    let asked = samepattern::asked(w, offsets, columns, values);
     if asked.refused() {
         return asked;
     }
     // The image and its shadow end where the scratch of a solve starts.
     let image = sound::scratch_start(w, levels) / 2;
-    let answer = shadow(w, f, kind, norm, levels, values, image);
+    let answer = shadow::shadow(w, f, kind, norm, levels, values, image);
     if answer.refused() {
         return answer;
     }

@@ -29,10 +29,12 @@ use Rattle.layout.proofs.Views.{level-kept}
 use Rattle.sound.specs.Sound.{shapeIn}
 use Rattle.sound.specs.Contract.{PlaceOk}
 use Rattle.sound.proofs.Facts.{Here, targetsOf, sumsOf, endsOf}
-use Rattle.renewing.specs.Update.{diagonalsStand, renewOf}
-use Rattle.renewing.specs.Steps.{Chain, Under, LevelOk, LevelReady, levelOf, levelRenewed, LevelDone, CoarseOk, coarseAt, TurnOk, turnOf, Turned, shapesAt, renewAt, RenewOk, Renewed, RestOk, StartOk, FirstOk}
+use Rattle.standing.specs.Standing.{diagonalsStand}
+use Rattle.renewing.specs.Update.{renewOf}
+use Rattle.renewlevel.specs.Level.{Under, LevelOk, LevelReady, levelOf, levelRenewed, LevelDone, CoarseOk, coarseAt, FirstOk}
+use Rattle.renewing.specs.Steps.{Chain, TurnOk, turnOf, Turned, shapesAt, renewAt, RenewOk, Renewed, RestOk, StartOk}
 use Rattle.renewing.proofs.Chains.{Opened, opened}
-use Rattle.renewing.proofs.Outcomes.{accepts, never, verdict-then, then-then, told-refused}
+use Rattle.standing.proofs.Outcomes.{accepts, never, verdict-then, then-then, told-refused}
 use Rattle.renewing.proofs.Turning.{no-tri}
 
 -- ---- what the calls require

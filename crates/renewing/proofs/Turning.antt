@@ -20,8 +20,9 @@ use Rattle.hierarchy.specs.Level.{Numbers}
 use Rattle.hierarchy.proofs.Accepted.{accepted-one}
 use Rattle.layout.specs.declared.Place.{Place}
 use Rattle.layout.specs.Layout.{numbersAt}
-use Rattle.renewing.specs.Steps.{LevelOk, LevelReady, levelRenewed, LevelDone, CoarseOk, coarseAt, CoarseDone, TurnOk, FirstOk, turnOf, Turned}
-use Rattle.renewing.proofs.Outcomes.{never, told-accepted, told-refused}
+use Rattle.renewlevel.specs.Level.{LevelOk, LevelReady, levelRenewed, LevelDone, CoarseOk, coarseAt, CoarseDone, FirstOk}
+use Rattle.renewing.specs.Steps.{TurnOk, turnOf, Turned}
+use Rattle.standing.proofs.Outcomes.{never, told-accepted, told-refused}
 
 -- A triangle of no rows is empty.
 pub no-tri : tri 0 ≡ 0

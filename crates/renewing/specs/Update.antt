@@ -2,19 +2,20 @@
 use mathlib.Core.Bool.{Bool, _&&_}
 use mathlib.Core.List.{List, [], _∷_}
 use Prim.Native.Nat.{ℕ, _+_}
-use lib.Dec.{eqb, leb, ltb}
+use lib.Dec.{eqb}
 use lib.ListN.{length}
 use lib.Ieee.{Float}
 use Rattle.store.specs.Region.{idx}
 use Rattle.store.specs.Vector.{each}
 use Rattle.options.specs.declared.MultigridOptions.{MultigridOptions}
-use Rattle.refusal.specs.Refusal.{unequalMirrors, missingDiagonal, badCoarseValue, otherPattern}
-use Rattle.refusal.specs.Outcome.{Outcome, accepted, refused, passed, ask, askEach, _>>=_, _>>_}
+use Rattle.refusal.specs.Refusal.{unequalMirrors, badCoarseValue, otherPattern}
+use Rattle.refusal.specs.Outcome.{Outcome, accepted, refused, ask, _>>=_, _>>_}
 use Rattle.vector.specs.Dot.{allFinite}
 use Rattle.values.specs.Mirrors.{mirrorsEqual}
 use Rattle.pattern.specs.Pattern.{entries}
 use Rattle.hierarchy.specs.Level.{Shape, Level, Hierarchy}
 use Rattle.hierarchy.specs.Refresh.{numbersOf, coarseValues, withSums}
+use Rattle.standing.specs.Standing.{diagonalsStand}
 
 -- ---- question 31
 
@@ -26,19 +27,6 @@ sameList u v = eqb (length u) (length v) && each (λ k. eqb (idx u k) (idx v k))
 unfoldable pub samePattern : Shape → List ℕ → List ℕ → List Float → Bool
 samePattern s offsets columns values =
     sameList offsets (s .pattern .offsets) && sameList columns (s .pattern .columns) && eqb (length values) (length columns)
-
--- ---- question 11
-
--- whether the stored position of row's diagonal is the row's diagonal entry
-unfoldable pub diagonalStands : Shape → ℕ → Bool
-diagonalStands s row =
-    let d = idx (s .diagonals) row in
-    leb (idx (s .pattern .offsets) row) d && ltb d (idx (s .pattern .offsets) (row + 1)) && eqb (idx (s .pattern .columns) d) row
-
--- question 11 of a level, row by row: only stores that no build wrote can fail it
-unfoldable pub diagonalsStand : ℕ → Shape → Outcome Unit
-diagonalsStand level s =
-    askEach (s .pattern .rows) (λ row. ask (diagonalStands s row) (missingDiagonal level row) passed) passed
 
 -- ---- the levels
 

@@ -1,24 +1,22 @@
 // The loop over the levels of `update` of hierarchy.rs: new numbers for each level in turn, and the values of the next.
-ghost use mathlib.Core.Path.{_≡_};
 ghost use Prim.Native.Nat.{_+_, _-_, _≤_};
 ghost use lib.ListN.{length};
 ghost use Rattle.store.specs.Region.{part, Wrote};
-ghost use Rattle.renewing.specs.Steps.{Under, TurnOk, FirstOk, Turned, RestOk, StartOk, Renewed};
+ghost use Rattle.renewlevel.specs.Level.{Under, FirstOk};
+ghost use Rattle.renewing.specs.Steps.{TurnOk, Turned, RestOk, StartOk, Renewed};
 use layout::Place;
 use refusal::Verdict;
-
-mod level;
 
 // A level that is not the last, at p, and the values of the next, at t: question 18.
 fn turn(w: &[u32], f: &mut [f64], dic: bool, p: Place, t: Place, level: u64) -> Verdict
     requires { ⌜ TurnOk (now w) (length (now f)) p t ⌝ }
     ensures { λ r. ⌜ Under dic (λ o. Turned (now (w .entry)) (part (p .values) (p .entries) (now (f .entry))) (now (f .entry)) (now (f .exit)) o p t level r) ⌝ }
 {
-    let numbers = level::renew_level(w, f, dic, p, false, 0, level);
+    let numbers = renewlevel::renew_level(w, f, dic, p, false, 0, level);
     if numbers.refused() {
         return numbers;
     }
-    if level::coarse_values(w, f, p, t) {
+    if renewlevel::coarse_values(w, f, p, t) {
         return numbers;
     }
     Verdict::Refused(refusal::BAD_COARSE_VALUE)
@@ -29,11 +27,11 @@ fn first_turn(w: &[u32], given: &[f64], f: &mut [f64], dic: bool, p: Place, t: P
     requires { ⌜ FirstOk (now w) (length (now f)) (length (now given)) p t ⌝ }
     ensures { λ r. ⌜ Under dic (λ o. Turned (now (w .entry)) (now (given .entry)) (now (f .entry)) (now (f .exit)) o p t 0 r) ⌝ }
 {
-    let numbers = level::first_level(w, given, f, dic, p, 0);
+    let numbers = renewlevel::first_level(w, given, f, dic, p, 0);
     if numbers.refused() {
         return numbers;
     }
-    if level::coarse_given(w, given, f, p, t) {
+    if renewlevel::coarse_given(w, given, f, p, t) {
         return numbers;
     }
     Verdict::Refused(refusal::BAD_COARSE_VALUE)
@@ -66,7 +64,7 @@ fn renew_rest(
         level += 1;
     }
     let coupled = store::wide(w[a + 2]);
-    level::renew_level(w, f, dic, p, true, coupled, level)
+    renewlevel::renew_level(w, f, dic, p, true, coupled, level)
 }
 
 // The values `from`, copied to `to`.

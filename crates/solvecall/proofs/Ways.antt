@@ -16,7 +16,7 @@ use Rattle.layout.specs.Layout.{viewOf}
 use Rattle.sound.specs.Sound.{soundOf, scratchStart}
 use Rattle.answers.specs.declared.Solved.{Solved}
 use Rattle.solve.specs.Contract.{solvedAt, SolveDone}
-use Rattle.refresh.proofs.Moving.{view-stays}
+use Rattle.shadow.proofs.Moving.{view-stays}
 use Rattle.solvecall.specs.Call.{solvedOf, SolveCall}
 
 -- The hierarchy in the stores is as it was where nothing below the scratch changed.

@@ -47,6 +47,7 @@ use Rattle.input.specs.Input as input
 use Rattle.iterating.specs.Iterate as iterating
 use Rattle.solve.specs.Solve as solve
 use Rattle.answers.specs.declared.Updated.{Updated}
+use Rattle.standing.specs.Standing as standing
 use Rattle.renewing.specs.Update as update
 use Rattle.making.specs.New.{NewDone, statisticsOf}
 use Rattle.updatecall.specs.Call.{UpdateCall}
@@ -124,12 +125,12 @@ solves-third = record { done = record { answer = refl; solution = refl; statisti
 
 -- An update to zero is refused by question 12,
 refused-update : UpdateCall handle words (floats one64 one64) (floats one64 one64) (visited 1) (0 ∷ 1 ∷ []) (0 ∷ []) (zero64 ∷ []) (Updated.Refused (badDiagonal 0 0))
-unfolding layout.viewOf layout.levelsAt layout.levelAt layout.wordsEnd layout.floatsEnd layout.imageEnd part lay splice tab tri sound.soundOf sound.handleSound sound.walkOf sound.headSound sound.arraysSound sound.allBelow sound.rowSound sound.rowsWalked sound.scratchEnd validOf isFinite lt le eq ofBits each update.updateOf update.renewOf update.sameList update.samePattern update.diagonalStands update.diagonalsStand askRows mirrorsAgree mirrorsEqual updateOf diagonalAsked isPositive cholesky.choleskyOf cholesky.rowsOf refreshing.withSums div for iter
+unfolding layout.viewOf layout.levelsAt layout.levelAt layout.wordsEnd layout.floatsEnd layout.imageEnd part lay splice tab tri sound.soundOf sound.handleSound sound.walkOf sound.headSound sound.arraysSound sound.allBelow sound.rowSound sound.rowsWalked sound.scratchEnd validOf isFinite lt le eq ofBits each update.updateOf update.renewOf update.sameList update.samePattern standing.diagonalStands standing.diagonalsStand askRows mirrorsAgree mirrorsEqual updateOf diagonalAsked isPositive cholesky.choleskyOf cholesky.rowsOf refreshing.withSums div for iter
 refused-update = record { done = record { answer = refl; view = refl; kept = λ q e. record { below = refl; size = refl }; size = refl } }
 
 -- one to 2 is accepted.
 accepted-update : UpdateCall handle words (floats one64 one64) (floats two half) (visited 2) (0 ∷ 1 ∷ []) (0 ∷ []) (two ∷ []) Updated.Done
-unfolding layout.viewOf layout.levelsAt layout.levelAt layout.wordsEnd layout.floatsEnd layout.imageEnd part lay splice tab tri sound.soundOf sound.handleSound sound.walkOf sound.headSound sound.arraysSound sound.allBelow sound.rowSound sound.rowsWalked sound.scratchEnd validOf isFinite lt le eq ofBits each update.updateOf update.renewOf update.sameList update.samePattern update.diagonalStands update.diagonalsStand askRows mirrorsAgree mirrorsEqual updateOf diagonalAsked isPositive cholesky.choleskyOf cholesky.rowsOf refreshing.withSums div for iter
+unfolding layout.viewOf layout.levelsAt layout.levelAt layout.wordsEnd layout.floatsEnd layout.imageEnd part lay splice tab tri sound.soundOf sound.handleSound sound.walkOf sound.headSound sound.arraysSound sound.allBelow sound.rowSound sound.rowsWalked sound.scratchEnd validOf isFinite lt le eq ofBits each update.updateOf update.renewOf update.sameList update.samePattern standing.diagonalStands standing.diagonalsStand askRows mirrorsAgree mirrorsEqual updateOf diagonalAsked isPositive cholesky.choleskyOf cholesky.rowsOf refreshing.withSums div for iter
 accepted-update = record {
   done = record {
     answer = refl;

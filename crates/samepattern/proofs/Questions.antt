@@ -1,0 +1,139 @@
+-- Questions 31 and 10 of an update, as the code asks them.
+-- Assumes nothing.
+use mathlib.Core.Path.{_≡_, refl, sym, ap, _∙_}
+use mathlib.Core.Bool.{Bool, true, false, _&&_}
+use mathlib.Core.List.{List}
+use Prim.Native.Nat.{ℕ, _+_, _≤_, _<_}
+use native.Mathlib.Numerals.{add-one}
+use native.Mathlib.Omega.{arith}
+use lib.Dec.{eqb}
+use lib.ListN.{length}
+use lib.Ieee.{Float}
+use borrow.Author.Tests.{eqb-true, eq-eqb, ne-eqb}
+use Rattle.store.specs.Region.{idx, part}
+use Rattle.store.specs.Vector.{each}
+use Rattle.store.proofs.Region.{getD-part, length-part}
+use Rattle.store.proofs.Each.{both-l, both-r, each-same}
+use Rattle.refusal.specs.Refusal.{unequalMirrors, otherPattern}
+use Rattle.refusal.specs.declared.Verdict.{Verdict}
+use Rattle.refusal.specs.Outcome.{passed, ask, verdictOf}
+use Rattle.refusal.proofs.Outcome.{ask-yes, ask-no}
+use Rattle.values.specs.Mirrors.{mirrorsEqual, MirrorsOk}
+use Rattle.layout.specs.declared.Place.{Place}
+use Rattle.layout.specs.Layout.{entriesAt, locate}
+use Rattle.sound.specs.Sound.{shapeIn}
+use Rattle.renewing.specs.Update.{sameList, samePattern}
+use Rattle.standing.specs.Standing.{bareAt}
+use Rattle.samepattern.specs.Arrays.{askedOf, PatternOk, AskOk}
+
+module _ (w : List ℕ) (from : ℕ) (v : List ℕ) where
+  -- the test of index k
+  abbrev pub wordSame : ℕ → Bool
+  wordSame k = eqb (idx v k) (idx w (from + k))
+
+  -- The invariant of the loop: the answer so far is that of the words passed.
+  pub record Gathered (k : ℕ) (ok : Bool) : Type 0 where
+    pub is : ok ≡ each wordSame k
+    pub within : k ≤ length v
+
+  -- At the start there is none.
+  pub gathered-start : Gathered 0 true
+  unfolding each
+  gathered-start = record { is = refl; within = omega arith }
+
+  -- A turn takes one word more.
+  pub gathered-on : {k : ℕ} {ok : Bool} → Gathered k ok → k < length v → Gathered (k + 1) (ok && eqb (idx v k) (idx w (from + k)))
+  unfolding each
+  gathered-on {k} g h = record { is = rw (add-one k, g .is); within = omega arith }
+
+  -- At the end they are all.
+  pub gathered-end : {k : ℕ} {ok : Bool} → Gathered k ok → length v ≤ k → ok ≡ each wordSame (length v)
+  gathered-end {k} g h =
+      let b : k ≤ length v = g .within in
+      let z : k ≡ length v = omega arith in
+      g .is ∙ ap (each wordSame) z
+
+  module _ {n : ℕ} (fits : from + n ≤ length w) where
+    -- Lists of different lengths are not the same.
+    pub words-differ : (length v ≡ n → ⊥) → false ≡ sameList v (part from n w)
+    unfolding sameList
+    words-differ e = let l = length-part from n w fits in sym (rw (l, ne-eqb (length v) n e))
+
+    -- Those of the same length are compared word by word.
+    pub words-same : length v ≡ n → {r : Bool} → r ≡ each wordSame (length v) → r ≡ sameList v (part from n w)
+    unfolding sameList
+    words-same e {r} t =
+        let l : length (part from n w) ≡ n = length-part from n w fits in
+        let long : eqb (length v) n ≡ true = eq-eqb (length v) n e in
+        t ∙ ap (each wordSame) e
+        ∙ each-same wordSame (λ k. eqb (idx v k) (idx (part from n w) k)) n (λ k h. ap (eqb (idx v k)) (sym (getD-part from n w k 0 h)))
+        ∙ sym (rw (l, long))
+
+-- Question 31.
+pub pattern-same : (w : List ℕ) (p : Place) (offsets columns : List ℕ) (values : List Float) {a b : Bool}
+    → a ≡ sameList offsets (part (p .offsets) (p .rows + 1) w) → b ≡ sameList columns (part (p .columns) (p .entries) w)
+    → (a && b && eqb (length values) (length columns)) ≡ samePattern (bareAt w p) offsets columns values
+unfolding samePattern
+pattern-same w p offsets columns values e f = rw (e, f)
+
+-- What question 31 tells: as many values as the finest level has entries.
+pub many-values : {w : List ℕ} (offsets columns : List ℕ) (values : List Float) → AskOk w → samePattern (shapeIn w 0) offsets columns values ≡ true
+    → length values ≡ entriesAt w 0
+unfolding samePattern sameList
+many-values {w} offsets columns values ok e =
+    let p = locate w 0 0 in
+    let rows = sameList offsets (part (p .offsets) (p .rows + 1) w) in
+    let same = sameList columns (part (p .columns) (p .entries) w) in
+    let one = both-r (rows && same) (eqb (length values) (length columns)) e in
+    let two = both-r rows same (both-l (rows && same) (eqb (length values) (length columns)) e) in
+    let three = both-l (eqb (length columns) (length (part (p .columns) (p .entries) w))) _ two in
+    eqb-true (length values) (length columns) one ∙ eqb-true (length columns) (length (part (p .columns) (p .entries) w)) three
+    ∙ length-part (p .columns) (p .entries) w (ok .pattern .columns)
+
+module _ {w : List ℕ} (offsets columns : List ℕ) (values : List Float) {p : Place} {t : Bool} (ok : AskOk w) (is : p ≡ locate w 0 0)
+    (e : t ≡ samePattern (bareAt w p) offsets columns values) where
+  -- The answer of question 31 is that of the finest shape.
+  same-is : t ≡ samePattern (shapeIn w 0) offsets columns values
+  unfolding samePattern
+  same-is = rw is at e
+
+  -- What question 10 requires.
+  pub mirrors-ready : t ≡ true → MirrorsOk w (length values) (p .faces) (p .uppers) (p .lowers)
+  mirrors-ready told =
+      let many : length values ≡ entriesAt w 0 = many-values offsets columns values ok (sym same-is ∙ told) in
+      let inside = ok .inside in
+      rw (is, many) (record { uppers = omega arith; lowers = omega arith; up = ok .uppers; low = ok .lowers })
+
+  -- Question 31 refuses.
+  pub asked-other : t ≡ false → Verdict.Refused otherPattern ≡ verdictOf (askedOf (shapeIn w 0) offsets columns values)
+  asked-other fails =
+      ap verdictOf (sym (ask-no (samePattern (shapeIn w 0) offsets columns values) otherPattern _ (sym same-is ∙ fails)))
+
+  module _ (told : t ≡ true) {m : Bool} (f : m ≡ mirrorsEqual (p .faces) (part (p .uppers) (p .faces) w) (part (p .lowers) (p .faces) w) values) where
+    -- The answer of question 10 is that of the finest shape.
+    mirrors-are : mirrorsEqual (length (shapeIn w 0 .uppers)) (shapeIn w 0 .uppers) (shapeIn w 0 .lowers) values ≡ m
+    mirrors-are =
+        let q = locate w 0 0 in
+        let inside = ok .inside in
+        let l : length (part (q .uppers) (q .faces) w) ≡ q .faces = length-part (q .uppers) (q .faces) w (omega arith) in
+        ap (λ (n : ℕ). mirrorsEqual n (part (q .uppers) (q .faces) w) (part (q .lowers) (q .faces) w) values) l ∙ sym (rw is at f)
+
+    -- Once 31 has passed, 10 is asked.
+    on : askedOf (shapeIn w 0) offsets columns values ≡ ask m unequalMirrors passed
+    on =
+        let s = shapeIn w 0 in
+        ask-yes (samePattern s offsets columns values) otherPattern
+        (ask (mirrorsEqual (length (s .uppers)) (s .uppers) (s .lowers) values) unequalMirrors passed) (sym same-is ∙ told)
+        ∙ ap (λ (b : Bool). ask b unequalMirrors passed) mirrors-are
+
+    -- Question 10 refuses.
+    pub asked-unequal : m ≡ false → Verdict.Refused unequalMirrors ≡ verdictOf (askedOf (shapeIn w 0) offsets columns values)
+    asked-unequal fails = sym (ap verdictOf (on ∙ ask-no m unequalMirrors passed fails))
+
+    -- Both pass.
+    pub asked-passed : m ≡ true → Verdict.Passed ≡ verdictOf (askedOf (shapeIn w 0) offsets columns values)
+    asked-passed holds = sym (ap verdictOf (on ∙ ask-yes m unequalMirrors passed holds))
+
+-- What the comparison of the pattern requires.
+pub pattern-ready : {w : List ℕ} {p : Place} → AskOk w → p ≡ locate w 0 0 → PatternOk w p
+pattern-ready ok is = rw is (ok .pattern)

@@ -1,0 +1,15 @@
+-- `samepattern::same_pattern` meets its contract.
+-- Assumes nothing.
+use Rattle.samepattern.proofs.Questions.{pattern-same}
+use borrow.Author.Needs.{needs}
+use Rattle.samepattern.proofs.same_pattern.Statement.{statement}
+use Rattle.samepattern.proofs.same_pattern.Tie as tie
+
+returns : tie.Need-returns
+returns c =
+    pattern-same _ (c .before .before .before .before .before .before .before .args .p) _ _ _ (c .before .same-words .ensures)
+    (c .same-words2 .ensures)
+
+pub same-pattern-spec : {M : Type 1} → statement M
+same-pattern-spec =
+    tie.close (tie.spec (λ c. search needs) (λ c κs. search needs) (λ c κs. search needs) returns)

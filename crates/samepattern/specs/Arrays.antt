@@ -1,0 +1,34 @@
+-- Questions 31 and 10 of an update: what the functions require and ensure. Definitions only.
+use mathlib.Core.List.{List}
+use Prim.Native.Nat.{ℕ, _+_, _≤_, _<_}
+use lib.ListN.{length}
+use lib.Ieee.{Float}
+use Rattle.store.specs.Region.{idx}
+use Rattle.refusal.specs.Refusal.{unequalMirrors, otherPattern}
+use Rattle.refusal.specs.Outcome.{Outcome, passed, ask, _>>=_, _>>_}
+use Rattle.values.specs.Mirrors.{mirrorsEqual}
+use Rattle.hierarchy.specs.Level.{Shape}
+use Rattle.layout.specs.declared.Place.{Place}
+use Rattle.layout.specs.Layout.{locate}
+use Rattle.sound.specs.Contract.{PlaceOk}
+use Rattle.renewing.specs.Update.{samePattern}
+
+-- the questions of a finest level of shape s
+abbrev pub askedOf : Shape → List ℕ → List ℕ → List Float → Outcome Unit
+askedOf s offsets columns values = do
+  ask (samePattern s offsets columns values) otherPattern
+  ask (mirrorsEqual (length (s .uppers)) (s .uppers) (s .lowers) values) unequalMirrors
+  passed
+
+-- The pattern of the level at p lies in the words.
+pub record PatternOk (w : List ℕ) (p : Place) : Type 0 where
+  pub offsets : p .offsets + (p .rows + 1) ≤ length w
+  pub columns : p .columns + p .entries ≤ length w
+
+-- The finest level, whose mirrored entries are entries.
+pub record AskOk (w : List ℕ) : Type 0 where
+  pub place : PlaceOk w 0 0
+  pub inside : locate w 0 0 .links ≤ length w
+  pub pattern : PatternOk w (locate w 0 0)
+  pub uppers : (k : ℕ) → k < locate w 0 0 .faces → idx w (locate w 0 0 .uppers + k) < locate w 0 0 .entries
+  pub lowers : (k : ℕ) → k < locate w 0 0 .faces → idx w (locate w 0 0 .lowers + k) < locate w 0 0 .entries

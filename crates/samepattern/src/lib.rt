@@ -1,0 +1,66 @@
+// What `update_values` of mod.rs asks of its arrays before it writes: question 31, that they have the pattern of the finest level, and
+// question 10.
+ghost use mathlib.Core.Path.{_≡_};
+ghost use Prim.Native.Nat.{_+_, _≤_};
+ghost use lib.Dec.{eqb};
+ghost use lib.ListN.{length};
+ghost use Rattle.store.specs.Region.{idx, part};
+ghost use Rattle.store.specs.Vector.{each};
+ghost use Rattle.refusal.specs.Outcome.{verdictOf};
+ghost use Rattle.sound.specs.Sound.{shapeIn};
+ghost use Rattle.renewing.specs.Update.{sameList, samePattern};
+ghost use Rattle.standing.specs.Standing.{bareAt};
+ghost use Rattle.samepattern.specs.Arrays.{askedOf, PatternOk, AskOk};
+use layout::Place;
+use refusal::Verdict;
+
+// Whether the words from `from` on are those of v. No branch leaves the loop, so that it takes several words at once.
+fn equal_words(w: &[u32], from: usize, v: &[u32]) -> bool
+    requires { ⌜ from + length (now v) ≤ length (now w) ⌝ }
+    ensures { λ r. ⌜ r ≡ each (λ k. eqb (idx (now (v .entry)) k) (idx (now (w .entry)) (from + k))) (length (now (v .entry))) ⌝ }
+{
+    let n = v.len();
+    let mut ok = true;
+    let mut k = 0;
+    while k < n {
+        ok = ok & (v[k] == w[from + k]);
+        k += 1;
+    }
+    ok
+}
+
+// Whether v is the n words from `from` on.
+fn same_words(w: &[u32], from: usize, n: usize, v: &[u32]) -> bool
+    requires { ⌜ from + n ≤ length (now w) ⌝ }
+    ensures { λ r. ⌜ r ≡ sameList (now (v .entry)) (part from n (now (w .entry))) ⌝ }
+{
+    if v.len() != n {
+        return false;
+    }
+    equal_words(w, from, v)
+}
+
+// Question 31.
+fn same_pattern(w: &[u32], p: Place, offsets: &[u32], columns: &[u32], values: &[f64]) -> bool
+    requires { ⌜ PatternOk (now w) p ⌝ }
+    ensures { λ r. ⌜ r ≡ samePattern (bareAt (now (w .entry)) p) (now (offsets .entry)) (now (columns .entry)) (now (values .entry)) ⌝ }
+{
+    same_words(w, p.offsets, p.rows + 1, offsets)
+        & same_words(w, p.columns, p.entries, columns)
+        & (values.len() == columns.len())
+}
+
+// Questions 31 and 10.
+pub fn asked(w: &[u32], offsets: &[u32], columns: &[u32], values: &[f64]) -> Verdict
+    requires { ⌜ AskOk (now w) ⌝ }
+    ensures { λ r. ⌜ r ≡ verdictOf (askedOf (shapeIn (now (w .entry)) 0) (now (offsets .entry)) (now (columns .entry)) (now (values .entry))) ⌝ }
+{
+    let p = sound::place_at(w, 0, 0);
+    if same_pattern(w, p, offsets, columns, values) {
+        if values::equal_mirrors(w, values, p.faces, p.uppers, p.lowers) {
+            return Verdict::Passed;
+        }
+        return Verdict::Refused(refusal::UNEQUAL_MIRRORS);
+    }
+    Verdict::Refused(refusal::OTHER_PATTERN)
+}
