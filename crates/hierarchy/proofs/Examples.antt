@@ -19,7 +19,7 @@ use Rattle.options.specs.Options.{validOf}
 use Rattle.refusal.specs.Outcome.{Outcome, accepted, refused, askRows}
 use Rattle.vector.specs.Dot.{allFinite}
 use Rattle.matrix.specs.Kernel.{sumFace, sumRow, rowSumsOf}
-use Rattle.values.specs.Mirrors.{mirrorsAgree, mirrorsEqual}
+use Rattle.mirrors.specs.Mirrors.{mirrorsAgree, mirrorsEqual}
 use Rattle.values.specs.Update.{isPositive, diagonalAsked, updateOf}
 use Rattle.packed.specs.Triangle.{tri, lessOf}
 use Rattle.cholesky.specs.Factor as factor

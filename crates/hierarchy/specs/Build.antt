@@ -11,7 +11,7 @@ use Rattle.options.specs.Options.{controlsAsked}
 use Rattle.refusal.specs.Outcome.{Outcome, accepted, passed, ask, _>>=_, _>>_}
 use Rattle.vector.specs.Dot.{allFinite}
 use Rattle.values.specs.Update.{Coefficients, updateOf}
-use Rattle.values.specs.Mirrors.{mirrorsEqual}
+use Rattle.mirrors.specs.Mirrors.{mirrorsEqual}
 use Rattle.aggregation.specs.Pairs.{Pairing, weighted, strengthsOf, pairsOf}
 use Rattle.pattern.specs.Pattern.{Pattern, entries, coarse, coarsePositions, composeOf}
 use Rattle.galerkin.specs.Values.{galerkinOf, restrictWeightsOf}

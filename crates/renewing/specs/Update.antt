@@ -11,7 +11,7 @@ use Rattle.options.specs.declared.MultigridOptions.{MultigridOptions}
 use Rattle.refusal.specs.Refusal.{unequalMirrors, missingDiagonal, badCoarseValue, otherPattern}
 use Rattle.refusal.specs.Outcome.{Outcome, accepted, refused, passed, ask, askEach, _>>=_, _>>_}
 use Rattle.vector.specs.Dot.{allFinite}
-use Rattle.values.specs.Mirrors.{mirrorsEqual}
+use Rattle.mirrors.specs.Mirrors.{mirrorsEqual}
 use Rattle.pattern.specs.Pattern.{entries}
 use Rattle.hierarchy.specs.Level.{Shape, Level, Hierarchy}
 use Rattle.hierarchy.specs.Refresh.{numbersOf, coarseValues, withSums}

@@ -20,7 +20,7 @@ use Rattle.hierarchy.specs.Level.{Hierarchy}
 use Rattle.hierarchy.specs.Build.{Lent, Input, buildOf}
 use Rattle.hierarchy.specs.Build as building
 use Rattle.hierarchy.specs.Refresh as refreshing
-use Rattle.values.specs.Mirrors.{mirrorsAgree, mirrorsEqual}
+use Rattle.mirrors.specs.Mirrors.{mirrorsAgree, mirrorsEqual}
 use Rattle.values.specs.Update.{isPositive, diagonalAsked, updateOf}
 use Rattle.packed.specs.Triangle.{tri, lessOf}
 use Rattle.cholesky.specs.Factor as cholesky

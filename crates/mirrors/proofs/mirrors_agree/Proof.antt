@@ -1,9 +1,9 @@
--- `values::symmetry::mirrors_agree` meets its contract.
+-- `mirrors::mirrors_agree` meets its contract.
 -- Assumes nothing.
-use Rattle.values.proofs.Mirrors.{finite-equal}
+use Rattle.mirrors.proofs.Mirrors.{finite-equal}
 use borrow.Author.Needs.{needs}
-use Rattle.values.proofs.symmetry.mirrors_agree.Statement.{statement}
-use Rattle.values.proofs.symmetry.mirrors_agree.Tie as tie
+use Rattle.mirrors.proofs.mirrors_agree.Statement.{statement}
+use Rattle.mirrors.proofs.mirrors_agree.Tie as tie
 
 returns : tie.Need-returns
 returns c = rw (c .is-finite .ensures) (finite-equal _ _)

@@ -1,11 +1,11 @@
--- `values::symmetry::equal_mirrors` meets its contract. The loop's invariant: the answer so far is that of the pairs passed.
+-- `mirrors::equal_mirrors` meets its contract. The loop's invariant: the answer so far is that of the pairs passed.
 -- Assumes nothing.
 use Prim.Native.Nat.{_-_}
-use Rattle.values.proofs.Mirrors.{up-of, low-of, Agreed, agreed-start, agreed-on, agreed-done}
+use Rattle.mirrors.proofs.Mirrors.{up-of, low-of, Agreed, agreed-start, agreed-on, agreed-done}
 use native.Mathlib.Omega.{arith}
 use borrow.Author.Needs.{needs}
-use Rattle.values.proofs.symmetry.equal_mirrors.Statement.{statement}
-use Rattle.values.proofs.symmetry.equal_mirrors.Tie as tie
+use Rattle.mirrors.proofs.equal_mirrors.Statement.{statement}
+use Rattle.mirrors.proofs.equal_mirrors.Tie as tie
 
 abbrev Inv-loop : tie.InvT-loop
 Inv-loop w values faces upper lower count ok₀ face₀ ok face = Agreed w values upper lower faces face ok

@@ -10,7 +10,7 @@ use Rattle.store.specs.Region.{at, idx, part}
 use Rattle.store.specs.Vector.{each}
 use Rattle.store.proofs.Region.{getD-part}
 use Rattle.store.proofs.Each.{Tested, each-same, tested-start, tested-on, tested-done}
-use Rattle.values.specs.Mirrors.{mirrorsAgree, mirrorsEqual, MirrorsOk}
+use Rattle.mirrors.specs.Mirrors.{mirrorsAgree, mirrorsEqual, MirrorsOk}
 
 -- What equals a finite number is finite.
 pub finite-equal : (a b : Float) → isFinite a && eq a b ≡ mirrorsAgree a b
