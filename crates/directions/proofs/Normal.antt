@@ -16,7 +16,8 @@ use Rattle.store.specs.Region.{Clear, part, Wrote}
 use Rattle.store.proofs.Region.{wrote-at, wrote-off}
 use Rattle.vector.specs.declared.Product.{Product}
 use Rattle.vector.specs.declared.Product.the-variants.{Finite, NotFinite}
-use Rattle.vector.specs.Dot.{dotOf, productOf, normOf, allFinite}
+use Rattle.vector.specs.Dot.{dotOf, productOf, normOf}
+use Rattle.finite.specs.Finite.{allFinite}
 use Rattle.directions.specs.Directions.{Pair, moreOf, overOf, normalOf, advanceOf}
 use Rattle.directions.specs.Contract.{pairAt, AxpyOk, NormalOk, Normal, AdvanceOk, Advanced}
 

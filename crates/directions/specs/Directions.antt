@@ -10,7 +10,8 @@ use Rattle.store.specs.Region.{at}
 use Rattle.store.specs.Vector.{tab}
 use Rattle.vector.specs.declared.Product.{Product}
 use Rattle.vector.specs.declared.Product.the-variants.{Finite, NotFinite}
-use Rattle.vector.specs.Dot.{dotOf, productOf, normOf, allFinite}
+use Rattle.vector.specs.Dot.{dotOf, productOf, normOf}
+use Rattle.finite.specs.Finite.{allFinite}
 
 -- a direction p and its image q = A p: a stored pair, or the new one
 pub record Pair : Type 0 where

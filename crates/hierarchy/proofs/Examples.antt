@@ -17,7 +17,7 @@ use Rattle.options.specs.declared.MultigridCoarseSolver.{MultigridCoarseSolver}
 use Rattle.refusal.specs.Refusal.{badOffsets, badColumns, invalidControls, noRows, storeTooSmall, unequalMirrors, missingDiagonal, badDiagonal, badReciprocal, tooManyCoupled, badPivot}
 use Rattle.options.specs.Options.{validOf}
 use Rattle.refusal.specs.Outcome.{Outcome, accepted, refused, askRows}
-use Rattle.vector.specs.Dot.{allFinite}
+use Rattle.finite.specs.Finite.{allFinite}
 use Rattle.matrix.specs.Kernel.{sumFace, sumRow, rowSumsOf}
 use Rattle.mirrors.specs.Mirrors.{mirrorsAgree, mirrorsEqual}
 use Rattle.values.specs.Update.{isPositive, diagonalAsked, updateOf}

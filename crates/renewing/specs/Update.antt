@@ -10,7 +10,7 @@ use Rattle.store.specs.Vector.{each}
 use Rattle.options.specs.declared.MultigridOptions.{MultigridOptions}
 use Rattle.refusal.specs.Refusal.{unequalMirrors, missingDiagonal, badCoarseValue, otherPattern}
 use Rattle.refusal.specs.Outcome.{Outcome, accepted, refused, passed, ask, askEach, _>>=_, _>>_}
-use Rattle.vector.specs.Dot.{allFinite}
+use Rattle.finite.specs.Finite.{allFinite}
 use Rattle.mirrors.specs.Mirrors.{mirrorsEqual}
 use Rattle.pattern.specs.Pattern.{entries}
 use Rattle.hierarchy.specs.Level.{Shape, Level, Hierarchy}

@@ -17,6 +17,7 @@ use Rattle.solver.specs.declared.LinearSolverOptions.{LinearSolverOptions}
 use Rattle.solver.specs.declared.LinearSolverStatus.{LinearSolverStatus}
 use Rattle.refusal.specs.Outcome.{accepted}
 use Rattle.vector.specs.Dot as dot
+use Rattle.finite.specs.Finite as finite
 use Rattle.matrix.specs.Kernel as matrix
 use Rattle.triangular.specs.Factor as factor
 use Rattle.coarse.specs.Terminal as terminal
@@ -112,5 +113,5 @@ small-press : solve.solveOf (iteration.systemOf (controls MultigridResidualNorm.
       x = one64 ∷ one64 ∷ [];
       counts = 2 ∷ 1 ∷ 0 ∷ 0 ∷ [];
     })
-unfolding solve.solveOf solve.inputOk solve.runOf solve.iterateOf iteration.stepOf iteration.movedOf cycle.cycleOf cycle.endOf cycle.countOf terminal.terminalOf terminal.solutionOf terminal.scatterOf terminal.gatherOf terminal.diagonalOf factor.solveFactorOf factor.lowRow factor.highRow factor.lowTerm factor.highTerm tri measure.measureOf measure.valueOf measure.squaresOf measure.squareAt measure.sumOf measure.sumTurn dot.allFinite dot.productOf normalization.normalizationOf solver.relativeOf matrix.applyOf matrix.spreadOf matrix.spreadRow matrix.spreadFace correction.subtractOf correction.addPlainOf isFinite maxNum sqrtOf each tab for iter lt le eq ne ofBits add sub mul div
+unfolding solve.solveOf solve.inputOk solve.runOf solve.iterateOf iteration.stepOf iteration.movedOf cycle.cycleOf cycle.endOf cycle.countOf terminal.terminalOf terminal.solutionOf terminal.scatterOf terminal.gatherOf terminal.diagonalOf factor.solveFactorOf factor.lowRow factor.highRow factor.lowTerm factor.highTerm tri measure.measureOf measure.valueOf measure.squaresOf measure.squareAt measure.sumOf measure.sumTurn finite.allFinite dot.productOf normalization.normalizationOf solver.relativeOf matrix.applyOf matrix.spreadOf matrix.spreadRow matrix.spreadFace correction.subtractOf correction.addPlainOf isFinite maxNum sqrtOf each tab for iter lt le eq ne ofBits add sub mul div
 small-press = refl

@@ -26,7 +26,7 @@ use Rattle.refusal.specs.declared.Verdict.{Verdict}
 use Rattle.refusal.specs.Outcome.{Outcome, accepted, refused, ask, verdictOf, _>>=_}
 use Rattle.refusal.proofs.Outcome.{ask-yes, ask-no, refuses}
 use Rattle.vector.specs.declared.Product.{Product}
-use Rattle.vector.specs.Dot.{allFinite}
+use Rattle.finite.specs.Finite.{allFinite}
 use Rattle.matrix.specs.Kernel.{Kernel, kernelAt, applyOf}
 use Rattle.correction.specs.Correction.{subtractOf}
 use Rattle.directions.specs.Contract.{memoryAt}

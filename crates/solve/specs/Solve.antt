@@ -12,7 +12,7 @@ use Rattle.solver.specs.declared.LinearSolveReport.{LinearSolveReport}
 use Rattle.options.specs.Options.{tolerable}
 use Rattle.refusal.specs.Refusal.{wrongLength, badInput, badNormalization}
 use Rattle.refusal.specs.Outcome.{Outcome, accepted, refused, passed, ask, _>>=_, _>>_}
-use Rattle.vector.specs.Dot.{allFinite}
+use Rattle.finite.specs.Finite.{allFinite}
 use Rattle.matrix.specs.Kernel.{applyOf}
 use Rattle.solver.specs.Solver.{thresholdOf, relativeOf}
 use Rattle.measure.specs.Normalization.{normalizationOf}

@@ -1,11 +1,11 @@
--- `vector::all_finite` meets its contract. The loop's invariant: the answer so far is that of the elements passed.
+-- `finite::all_finite` meets its contract. The loop's invariant: the answer so far is that of the elements passed.
 -- Assumes nothing.
 use Prim.Native.Nat.{_-_}
 use native.Mathlib.Omega.{arith}
 use borrow.Author.Needs.{needs}
-use Rattle.vector.proofs.Laws.{Finites, finites-start, finites-on, finites-done}
-use Rattle.vector.proofs.all_finite.Statement.{statement}
-use Rattle.vector.proofs.all_finite.Tie as tie
+use Rattle.finite.proofs.Laws.{Finites, finites-start, finites-on, finites-done}
+use Rattle.finite.proofs.all_finite.Statement.{statement}
+use Rattle.finite.proofs.all_finite.Tie as tie
 
 abbrev Inv-loop : tie.InvT-loop
 Inv-loop f n x ok₀ k₀ ok k = Finites f x n k ok
