@@ -24,7 +24,7 @@ use Rattle.coarse.specs.Terminal as terminal
 use Rattle.packed.specs.Triangle.{tri}
 use Rattle.correction.specs.Correction as correction
 use Rattle.measure.specs.Measure as measure
-use Rattle.measure.specs.Normalization as normalization
+use Rattle.normalization.specs.Normalization as normalization
 use Rattle.solver.specs.Solver as solver
 use Rattle.hierarchy.specs.Level.{Hierarchy}
 use Rattle.cycle.specs.Cycle as cycle

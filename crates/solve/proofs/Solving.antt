@@ -31,7 +31,7 @@ use Rattle.matrix.specs.Kernel.{Kernel, kernelAt, applyOf}
 use Rattle.correction.specs.Correction.{subtractOf}
 use Rattle.directions.specs.Contract.{memoryAt}
 use Rattle.measure.specs.Measure.{measureOf}
-use Rattle.measure.specs.Normalization.{normalizationOf, NormalizationOk}
+use Rattle.normalization.specs.Normalization.{normalizationOf, NormalizationOk}
 use Rattle.solver.specs.Solver.{thresholdOf}
 use Rattle.hierarchy.specs.Level.{Hierarchy}
 use Rattle.layout.specs.Layout.{rowsAt, entriesAt, viewOf}

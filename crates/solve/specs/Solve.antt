@@ -15,7 +15,7 @@ use Rattle.refusal.specs.Outcome.{Outcome, accepted, refused, passed, ask, _>>=
 use Rattle.finite.specs.Finite.{allFinite}
 use Rattle.matrix.specs.Kernel.{applyOf}
 use Rattle.solver.specs.Solver.{thresholdOf, relativeOf}
-use Rattle.measure.specs.Normalization.{normalizationOf}
+use Rattle.normalization.specs.Normalization.{normalizationOf}
 use Rattle.stepping.specs.Iteration.{State, System, residualOf, measuredOf, stepOf}
 
 -- ---- questions 20 and 21

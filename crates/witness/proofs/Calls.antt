@@ -34,7 +34,7 @@ use Rattle.triangular.specs.Factor as factor
 use Rattle.coarse.specs.Terminal as terminal
 use Rattle.correction.specs.Correction as correction
 use Rattle.measure.specs.Measure as measure
-use Rattle.measure.specs.Normalization as normalization
+use Rattle.normalization.specs.Normalization as normalization
 use Rattle.solver.specs.Solver as solver
 use Rattle.cycle.specs.Cycle as cycle
 use Rattle.layout.specs.Layout as layout

@@ -1,15 +1,15 @@
--- `measure::sum_spreads` meets its contract. The loop's invariant: what is left to do from here gives the whole sum.
+-- `normalization::sum_spreads` meets its contract. The loop's invariant: what is left to do from here gives the whole sum.
 -- Assumes nothing.
 use Prim.Native.Nat.{_-_}
 use Rattle.store.specs.Region.{part}
 use Rattle.store.proofs.Loop.{Left, left-start, left-on, left-end}
 use Rattle.measure.specs.Measure.{sumTurn, sumOf}
-use Rattle.measure.specs.Normalization.{spreadAt, spreadsOf}
-use Rattle.measure.proofs.Laws.{spread-on}
+use Rattle.normalization.specs.Normalization.{spreadAt, spreadsOf}
+use Rattle.normalization.proofs.Laws.{spread-on}
 use native.Mathlib.Omega.{arith}
 use borrow.Author.Needs.{needs}
-use Rattle.measure.proofs.sum_spreads.Statement.{statement}
-use Rattle.measure.proofs.sum_spreads.Tie as tie
+use Rattle.normalization.proofs.sum_spreads.Statement.{statement}
+use Rattle.normalization.proofs.sum_spreads.Tie as tie
 
 abbrev Inv-loop : tie.InvT-loop
 Inv-loop f n rhs product rowsums mean sum₀ row₀ sum row =

@@ -1,14 +1,14 @@
--- `measure::sum` meets its contract. The loop's invariant: what is left to do from here gives the whole sum.
+-- `normalization::sum` meets its contract. The loop's invariant: what is left to do from here gives the whole sum.
 -- Assumes nothing.
 use Prim.Native.Nat.{_-_}
 use Rattle.store.specs.Region.{at, part}
 use Rattle.store.proofs.Loop.{Left, left-start, left-on, left-end}
 use Rattle.measure.specs.Measure.{sumTurn, sumOf}
-use Rattle.measure.proofs.Laws.{sum-on}
+use Rattle.normalization.proofs.Laws.{sum-on}
 use native.Mathlib.Omega.{arith}
 use borrow.Author.Needs.{needs}
-use Rattle.measure.proofs.sum.Statement.{statement}
-use Rattle.measure.proofs.sum.Tie as tie
+use Rattle.normalization.proofs.sum.Statement.{statement}
+use Rattle.normalization.proofs.sum.Tie as tie
 
 abbrev Inv-loop : tie.InvT-loop
 Inv-loop f n x sum₀ row₀ sum row = Left (sumTurn (at (part x n f))) row n sum (sumOf n (at (part x n f)))

@@ -1,9 +1,9 @@
--- `measure::mean` meets its contract.
+-- `normalization::mean` meets its contract.
 -- Assumes nothing.
-use Rattle.measure.proofs.Laws.{mean-done}
+use Rattle.normalization.proofs.Laws.{mean-done}
 use borrow.Author.Needs.{needs}
-use Rattle.measure.proofs.mean.Statement.{statement}
-use Rattle.measure.proofs.mean.Tie as tie
+use Rattle.normalization.proofs.mean.Statement.{statement}
+use Rattle.normalization.proofs.mean.Tie as tie
 
 returns : tie.Need-returns
 returns c = search (mean-done)

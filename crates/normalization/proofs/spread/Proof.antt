@@ -1,9 +1,9 @@
--- `measure::spread` meets its contract.
+-- `normalization::spread` meets its contract.
 -- Assumes nothing.
-use Rattle.measure.specs.Normalization.{spreadOf}
+use Rattle.normalization.specs.Normalization.{spreadOf}
 use borrow.Author.Needs.{needs}
-use Rattle.measure.proofs.spread.Statement.{statement}
-use Rattle.measure.proofs.spread.Tie as tie
+use Rattle.normalization.proofs.spread.Statement.{statement}
+use Rattle.normalization.proofs.spread.Tie as tie
 
 returns : tie.Need-returns
 unfolding spreadOf

@@ -1,10 +1,10 @@
--- `measure::normalization` meets its contract; the floor of the code is the f64 nearest to 1e-300.
+-- `normalization::normalization` meets its contract; the floor of the code is the f64 nearest to 1e-300.
 -- Assumes nothing.
-use Rattle.measure.specs.Normalization.{normalizationOf}
-use Rattle.measure.proofs.Laws.{normal-done}
+use Rattle.normalization.specs.Normalization.{normalizationOf}
+use Rattle.normalization.proofs.Laws.{normal-done}
 use borrow.Author.Needs.{needs}
-use Rattle.measure.proofs.normalization.Statement.{statement}
-use Rattle.measure.proofs.normalization.Tie as tie
+use Rattle.normalization.proofs.normalization.Statement.{statement}
+use Rattle.normalization.proofs.normalization.Tie as tie
 
 returns : tie.Need-returns
 unfolding normalizationOf
