@@ -19,7 +19,7 @@ use Rattle.refusal.specs.declared.Refusal.{Refusal}
 use Rattle.refusal.specs.Refusal.{unequalMirrors}
 use Rattle.refusal.specs.declared.Verdict.{Verdict}
 use Rattle.refusal.specs.Outcome.{Outcome, accepted, refused, ask, _>>=_}
-use Rattle.values.specs.Mirrors.{mirrorsEqual}
+use Rattle.mirrors.specs.Mirrors.{mirrorsEqual}
 use Rattle.pattern.specs.Pattern.{Pattern, entries, Valid, Rising, Mirrored}
 use Rattle.faces.specs.Faces.{facesOf, uppersOf, lowersOf, mirroredOf}
 use Rattle.faces.proofs.Laws.{mirrored-is}

@@ -15,7 +15,7 @@ use Rattle.store.specs.Region.{at, idx, part, splice, Wrote}
 use Rattle.store.proofs.Loop.{for-map, Left, left-end}
 use Rattle.store.proofs.Region.{length-part, getD-part, getD-splice-clear, set-splice, splice-part, wrote, wrote-at, wrote-off}
 use Rattle.store.proofs.Vector.{length-tab, tab-same, for-each}
-use Rattle.vector.specs.Dot.{allFinite}
+use Rattle.finite.specs.Finite.{allFinite}
 use Rattle.packed.specs.Triangle.{tri}
 use Rattle.cholesky.specs.declared.Terminal.{Terminal}
 use Rattle.cholesky.specs.Contract.{coupledAt, factorAt}

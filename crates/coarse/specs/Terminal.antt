@@ -9,7 +9,7 @@ use Rattle.refusal.specs.Outcome.{Outcome, accepted, ask}
 use Rattle.store.specs.Loop.{for}
 use Rattle.store.specs.Region.{at, idx}
 use Rattle.store.specs.Vector.{tab}
-use Rattle.vector.specs.Dot.{allFinite}
+use Rattle.finite.specs.Finite.{allFinite}
 use Rattle.triangular.specs.Factor.{solveFactorOf}
 
 -- `x[row] = rhs[row] * inverse[row]`: what a row without connections needs

@@ -86,7 +86,7 @@ pub fn solve(
     let n = t.rows;
     diagonal(f, n, inverse, rhs, x);
     solve_coupled(w, f, t, rhs, x, work);
-    if vector::all_finite(f, n, x) {
+    if finite::all_finite(f, n, x) {
         Verdict::Passed
     } else {
         Verdict::Refused(refusal::BAD_COARSE_SOLUTION)

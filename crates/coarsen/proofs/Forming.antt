@@ -9,7 +9,7 @@ use lib.ListN.{length}
 use lib.Ieee.{Float}
 use Rattle.store.specs.Region.{idx, part, Wrote, Kept}
 use Rattle.store.proofs.Region.{wrote-at, kept-wrote, kept-on, kept-less, kept-part}
-use Rattle.vector.specs.Dot.{allFinite}
+use Rattle.finite.specs.Finite.{allFinite}
 use Rattle.pattern.specs.declared.Coarsening.{Coarsening}
 use Rattle.pattern.specs.Pattern.{Pattern, entries, Mirrored, coarse, coarsePositions}
 use Rattle.pattern.specs.Coarsening.{PatternOk, Patterned}

@@ -6,7 +6,7 @@ use Prim.Native.Nat.{ℕ, _+_, _≤_}
 use lib.ListN.{length}
 use lib.Ieee.{Float}
 use Rattle.store.specs.Region.{part, Kept}
-use Rattle.vector.specs.Dot.{allFinite}
+use Rattle.finite.specs.Finite.{allFinite}
 use Rattle.pattern.specs.Pattern.{Pattern, entries, Valid, Rising, Mirrored, coarsePositions, Maps, Onto}
 use Rattle.galerkin.specs.Values.{galerkinOf, restrictWeightsOf, SumsOk, FacesOk, WeightsOk}
 use Rattle.faces.specs.Faces.{facesOf, uppersOf, lowersOf}

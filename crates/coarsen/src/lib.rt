@@ -7,6 +7,7 @@ ghost use Rattle.coarsen.specs.Contract.{SettleOk, Settled, FloatsOk, Fl
 use faces::Faces;
 use faces::face_offsets;
 use faces::fill_faces;
+use finite::all_finite;
 use galerkin::sum_entries;
 use galerkin::symmetrize;
 use mirroring::mirrors;
@@ -14,7 +15,6 @@ use pattern::Coarsening;
 use positions::coarse_pattern;
 use store::copy;
 use store::copy_words;
-use vector::all_finite;
 use weights::restrict_weights;
 
 // A matrix in the stores: its pattern in the words, its values and weights in the floats.

@@ -22,7 +22,7 @@ use Rattle.refusal.specs.Refusal.{badDicPivot, badDicReciprocal}
 use Rattle.refusal.specs.declared.Verdict.{Verdict}
 use Rattle.refusal.specs.Outcome.{Outcome, accepted, refused, passed, ask, askEach, askFrom}
 use Rattle.refusal.proofs.Outcome.{each-step, each-stop, each-done, each-all, each-alike}
-use Rattle.vector.specs.Dot.{allFinite}
+use Rattle.finite.specs.Finite.{allFinite}
 use Rattle.matrix.specs.declared.SymmetricMatrix.{SymmetricMatrix}
 use Rattle.matrix.specs.Kernel.{Kernel, kernelAt}
 use Rattle.matrix.proofs.Kernel.{kernel-kept}

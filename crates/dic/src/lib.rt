@@ -149,7 +149,7 @@ fn dic_reciprocals(f: &mut [f64], rows: usize, d: usize, level: u64) -> Verdict
     ensures { λ r. ⌜ Settled d rows (reciprocalsOf level rows (part d rows (now (f .entry)))) (now (f .entry)) (now (f .exit)) r ⌝ }
 {
     invert(f, rows, d);
-    if vector::all_finite(f, rows, d) {
+    if finite::all_finite(f, rows, d) {
         return Verdict::Passed;
     }
     ask_reciprocals(f, rows, d, level)

@@ -9,8 +9,8 @@ use lib.ListN.{length}
 use lib.Ieee.{Float}
 use Rattle.store.specs.Region.{idx, part, Kept}
 use Rattle.store.proofs.Region.{getD-part, length-part, wrote-off, kept-wrote, kept-on, kept-less}
-use Rattle.values.specs.Mirrors.{mirrorsEqual}
-use Rattle.values.specs.Mirrors as agreeing
+use Rattle.mirrors.specs.Mirrors.{mirrorsEqual}
+use Rattle.mirrors.specs.Mirrors as agreeing
 use Rattle.pattern.specs.Pattern.{Pattern, entries}
 use Rattle.faces.specs.Faces.{facesOf, uppersOf, lowersOf, mirroredOf}
 use Rattle.faces.specs.Contract.{Ordered, OffsetsOk, OffsetsDone, FillOk, Filled, MirrorsOk, MirrorsDone}

@@ -42,7 +42,7 @@ pub fn symmetric(w: &mut [u32], values: &[f64], t: Workspace) -> bool
     let s = faces_of(t, faces);
     faces::fill_faces(w, s);
     if mirroring::mirrors(w, s) {
-        return values::equal_mirrors(w, values, faces, t.uppers, t.lowers);
+        return mirrors::equal_mirrors(w, values, faces, t.uppers, t.lowers);
     }
     false
 }

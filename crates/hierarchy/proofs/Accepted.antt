@@ -13,7 +13,7 @@ use Rattle.refusal.specs.declared.Refusal.{Refusal}
 use Rattle.refusal.specs.Refusal.{invalidControls, notCholesky, noRows, storeTooSmall, unequalMirrors, tooManyCoupled, badCoarseValue}
 use Rattle.options.specs.Options.{validOf, isCholesky, controlsAsked}
 use Rattle.refusal.specs.Outcome.{Outcome, accepted, refused, passed, ask, _>>=_}
-use Rattle.vector.specs.Dot.{allFinite}
+use Rattle.finite.specs.Finite.{allFinite}
 use Rattle.values.specs.Update.{Coefficients}
 use Rattle.aggregation.specs.Pairs.{Pairing}
 use Rattle.pattern.specs.Pattern.{Pattern, entries, composeOf}

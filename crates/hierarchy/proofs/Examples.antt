@@ -17,9 +17,9 @@ use Rattle.options.specs.declared.MultigridCoarseSolver.{MultigridCoarseSolver}
 use Rattle.refusal.specs.Refusal.{badOffsets, badColumns, invalidControls, noRows, storeTooSmall, unequalMirrors, missingDiagonal, badDiagonal, badReciprocal, tooManyCoupled, badPivot}
 use Rattle.options.specs.Options.{validOf}
 use Rattle.refusal.specs.Outcome.{Outcome, accepted, refused, askRows}
-use Rattle.vector.specs.Dot.{allFinite}
+use Rattle.finite.specs.Finite.{allFinite}
 use Rattle.matrix.specs.Kernel.{sumFace, sumRow, rowSumsOf}
-use Rattle.values.specs.Mirrors.{mirrorsAgree, mirrorsEqual}
+use Rattle.mirrors.specs.Mirrors.{mirrorsAgree, mirrorsEqual}
 use Rattle.values.specs.Update.{isPositive, diagonalAsked, updateOf}
 use Rattle.packed.specs.Triangle.{tri, lessOf}
 use Rattle.cholesky.specs.Factor as factor

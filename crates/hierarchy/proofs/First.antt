@@ -11,7 +11,7 @@ use lib.ListN.{length}
 use lib.Ieee.{Float}
 use Rattle.options.specs.declared.MultigridOptions.{MultigridOptions}
 use Rattle.refusal.specs.Outcome.{accepted, _>>=_}
-use Rattle.vector.specs.Dot.{allFinite}
+use Rattle.finite.specs.Finite.{allFinite}
 use Rattle.aggregation.specs.Pairs.{Pairing, strengthsOf}
 use Rattle.pattern.specs.Pattern.{Pattern, entries, coarse, coarsePositions, composeOf}
 use Rattle.pattern.proofs.Place.{length-those}

@@ -18,7 +18,7 @@ use Rattle.refusal.specs.Refusal.{wrongLength, badInput}
 use Rattle.refusal.specs.declared.Verdict.{Verdict}
 use Rattle.refusal.specs.Outcome.{Outcome, accepted, refused, ask, verdictOf}
 use Rattle.refusal.proofs.Outcome.{ask-yes}
-use Rattle.vector.specs.Dot.{allFinite}
+use Rattle.finite.specs.Finite.{allFinite}
 use Rattle.input.specs.Input.{inputOk, askedOf}
 
 -- Two questions before a result: what refuses it refuses the whole,

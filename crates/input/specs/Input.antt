@@ -9,7 +9,7 @@ use Rattle.solver.specs.declared.LinearSolverOptions.{LinearSolverOptions}
 use Rattle.options.specs.Options.{tolerable}
 use Rattle.refusal.specs.Refusal.{wrongLength, badInput}
 use Rattle.refusal.specs.Outcome.{Outcome, accepted, ask}
-use Rattle.vector.specs.Dot.{allFinite}
+use Rattle.finite.specs.Finite.{allFinite}
 
 -- question 20: right-hand side and solution have the row count
 abbrev pub lengthsOk : ℕ → List Float → List Float → Bool

@@ -12,8 +12,8 @@ fn input_fits(s: LinearSolverOptions, rhs: &[f64], x: &[f64]) -> bool
     (1 <= s.max_iterations)
         & (float::is_finite(s.absolute_tolerance) & !(s.absolute_tolerance < 0.0))
         & (float::is_finite(s.relative_tolerance) & !(s.relative_tolerance < 0.0))
-        & vector::all_finite(rhs, rhs.len(), 0)
-        & vector::all_finite(x, x.len(), 0)
+        & finite::all_finite(rhs, rhs.len(), 0)
+        & finite::all_finite(x, x.len(), 0)
 }
 
 // Questions 20 and 21, of a system of so many rows.

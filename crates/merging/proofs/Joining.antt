@@ -8,7 +8,7 @@ use native.Mathlib.Omega.{arith}
 use lib.Ieee.{Float}
 use Rattle.store.specs.Region.{part, Wrote}
 use Rattle.store.proofs.Region.{wrote-at, wrote-off, kept-wrote, kept-on, kept-less, kept-part}
-use Rattle.vector.specs.Dot.{allFinite}
+use Rattle.finite.specs.Finite.{allFinite}
 use Rattle.pattern.specs.Pattern.{entries, composeOf}
 use Rattle.pattern.specs.Coarsening.{ComposeOk}
 use Rattle.hierarchy.specs.Build.{Mesh}

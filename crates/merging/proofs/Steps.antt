@@ -15,7 +15,7 @@ use Rattle.refusal.specs.Refusal.{badCoarseValue}
 use Rattle.refusal.specs.Outcome.{Outcome, accepted, refused}
 use Rattle.store.specs.Region.{part, Kept}
 use Rattle.store.proofs.Region.{kept-on, kept-less, kept-self, kept-part}
-use Rattle.vector.specs.Dot.{allFinite}
+use Rattle.finite.specs.Finite.{allFinite}
 use Rattle.aggregation.specs.Pairs.{Weighted, weighted, strengthsOf, Pairing, InRange}
 use Rattle.aggregation.proofs.Numbers.{count-most}
 use Rattle.pattern.specs.Pattern.{entries, coarse, Maps, Onto, composeOf}

@@ -9,7 +9,7 @@ use Rattle.store.specs.Region.{idx, part, Kept}
 use Rattle.options.specs.declared.MultigridOptions.{MultigridOptions}
 use Rattle.refusal.specs.declared.Verdict.{Verdict}
 use Rattle.refusal.specs.Outcome.{Outcome, accepted, refused, askEach}
-use Rattle.vector.specs.Dot.{allFinite}
+use Rattle.finite.specs.Finite.{allFinite}
 use Rattle.values.specs.Update.{Coefficients, diagonalAsked, diagonalAt, after}
 use Rattle.aggregation.specs.declared.Graph.{Graph}
 use Rattle.aggregation.specs.Pairs.{Pairing}

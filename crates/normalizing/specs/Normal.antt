@@ -8,7 +8,8 @@ use Rattle.refusal.specs.Refusal.{zeroImage, badDirection}
 use Rattle.refusal.specs.Outcome.{Outcome, accepted, ask, _>>=_, _>>_}
 use Rattle.store.specs.Region.{at}
 use Rattle.store.specs.Vector.{tab}
-use Rattle.vector.specs.Dot.{normOf, allFinite}
+use Rattle.vector.specs.Dot.{normOf}
+use Rattle.finite.specs.Finite.{allFinite}
 use Rattle.directions.specs.Directions.{Pair, finiteOf}
 
 -- `y[row] = x[row] / a`

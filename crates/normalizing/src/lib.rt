@@ -4,7 +4,7 @@ ghost use mathlib.Core.Bool.{_&&_};
 ghost use Prim.Native.Nat.{_+_, _≤_};
 ghost use lib.ListN.{length};
 ghost use Rattle.store.specs.Region.{part, Wrote};
-ghost use Rattle.vector.specs.Dot.{allFinite};
+ghost use Rattle.finite.specs.Finite.{allFinite};
 ghost use Rattle.directions.specs.Contract.{pairAt, AxpyOk};
 ghost use Rattle.normalizing.specs.Normal.{overOf, normalOf};
 ghost use Rattle.normalizing.specs.Contract.{NormalOk, Normal};
@@ -60,8 +60,8 @@ fn both_finite(f: &[f64], n: usize, p: usize, q: usize) -> bool
     requires { ⌜ q + n ≤ length (now f) ⌝ }
     ensures { λ r. ⌜ r ≡ allFinite n (part p n (now (f .entry))) && allFinite n (part q n (now (f .entry))) ⌝ }
 {
-    if vector::all_finite(f, n, p) {
-        vector::all_finite(f, n, q)
+    if finite::all_finite(f, n, p) {
+        finite::all_finite(f, n, q)
     } else {
         false
     }

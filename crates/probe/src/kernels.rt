@@ -6,7 +6,7 @@ ghost use Rattle.refusal.specs.Outcome.{verdictOf};
 ghost use Rattle.store.specs.Region.{part, Wrote};
 ghost use Rattle.matrix.specs.Kernel.{kernelAt, applyOf, residualOf, rowSumsOf, KernelOk};
 ghost use Rattle.values.specs.Update.{updateAt, updateWith, UpdateOk, Updated};
-ghost use Rattle.values.specs.Mirrors.{mirrorsEqual, MirrorsOk};
+ghost use Rattle.mirrors.specs.Mirrors.{mirrorsEqual, MirrorsOk};
 ghost use Rattle.probe.specs.Probe.{flag, symmetricOf, entriesOf, Told};
 use matrix::SymmetricMatrix;
 use telling::answer;
@@ -218,5 +218,5 @@ pub extern "C" fn probe_equal_mirrors(
     ensures { λ r. ⌜ r ≡ flag (mirrorsEqual faces (part upper faces (now (w .entry)))
         (part lower faces (now (w .entry))) (now (values .entry))) ⌝ }
 {
-    number(values::equal_mirrors(w, values, faces, upper, lower))
+    number(mirrors::equal_mirrors(w, values, faces, upper, lower))
 }

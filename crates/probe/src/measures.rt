@@ -4,7 +4,7 @@ ghost use Prim.Native.Nat.{_+_, _≤_};
 ghost use lib.ListN.{length};
 ghost use Rattle.store.specs.Region.{part};
 ghost use Rattle.measure.specs.Measure.{measureOf};
-ghost use Rattle.measure.specs.Normalization.{normalizationOf, NormalizationOk};
+ghost use Rattle.normalization.specs.Normalization.{normalizationOf, NormalizationOk};
 ghost use Rattle.solver.specs.Solver.{thresholdOf, relativeOf};
 ghost use Rattle.flat.specs.Flat.{residualNormOf};
 ghost use Rattle.probe.specs.Probe.{flagOf, writtenOf};
@@ -46,7 +46,7 @@ pub extern "C" fn probe_normalization(
     ensures { λ r. ⌜ r ≡ normalizationOf (residualNormOf norm) n (part x n (now (f .entry))) (part rhs n (now (f .entry)))
         (part product n (now (f .entry))) (part rowsums n (now (f .entry))) ⌝ }
 {
-    measure::normalization(f, n, x, rhs, product, rowsums, residual_norm_of(norm))
+    normalization::normalization(f, n, x, rhs, product, rowsums, residual_norm_of(norm))
 }
 
 #[no_mangle]

@@ -3,7 +3,8 @@ ghost use mathlib.Core.Path.{_≡_};
 ghost use Prim.Native.Nat.{_+_, _≤_};
 ghost use lib.ListN.{length};
 ghost use Rattle.store.specs.Region.{part};
-ghost use Rattle.vector.specs.Dot.{dotOf, productOf, normOf, allFinite};
+ghost use Rattle.vector.specs.Dot.{dotOf, productOf, normOf};
+ghost use Rattle.finite.specs.Finite.{allFinite};
 ghost use Rattle.probe.specs.Probe.{flag, flagOf, writtenOf};
 use telling::number;
 use telling::tell;
@@ -34,5 +35,5 @@ pub extern "C" fn probe_all_finite(f: &[f64], n: usize, x: usize) -> u8
     requires { ⌜ x + n ≤ length (now f) ⌝ }
     ensures { λ r. ⌜ r ≡ flag (allFinite n (part x n (now (f .entry)))) ⌝ }
 {
-    number(vector::all_finite(f, n, x))
+    number(finite::all_finite(f, n, x))
 }

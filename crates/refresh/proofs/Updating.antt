@@ -16,7 +16,7 @@ use Rattle.refusal.specs.Refusal.{unequalMirrors, otherPattern}
 use Rattle.refusal.specs.declared.Verdict.{Verdict}
 use Rattle.refusal.specs.Outcome.{Outcome, accepted, refused, passed, ask, verdictOf, isRefused, _>>=_}
 use Rattle.refusal.proofs.Outcome.{then-accepted, then-refused, passes, went-on}
-use Rattle.values.specs.Mirrors.{mirrorsEqual}
+use Rattle.mirrors.specs.Mirrors.{mirrorsEqual}
 use Rattle.hierarchy.specs.Level.{Shape, Hierarchy}
 use Rattle.hierarchy.specs.Refresh.{withSums}
 use Rattle.hierarchy.proofs.Accepted.{ask-split}

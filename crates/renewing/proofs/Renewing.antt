@@ -17,7 +17,7 @@ use Rattle.refusal.specs.Refusal.{badCoarseValue}
 use Rattle.refusal.specs.declared.Verdict.{Verdict}
 use Rattle.refusal.specs.Outcome.{Outcome, accepted, refused, ask, verdictOf, isRefused, _>>=_}
 use Rattle.refusal.proofs.Outcome.{then-accepted, then-refused, went-on}
-use Rattle.vector.specs.Dot.{allFinite}
+use Rattle.finite.specs.Finite.{allFinite}
 use Rattle.pattern.specs.Pattern.{entries}
 use Rattle.packed.specs.Triangle.{tri}
 use Rattle.hierarchy.specs.Level.{Shape, Numbers, Level}

@@ -13,7 +13,7 @@ use Rattle.refusal.specs.Refusal.{badCoarseValue}
 use Rattle.refusal.specs.declared.Verdict.{Verdict}
 use Rattle.refusal.specs.Outcome.{Outcome, accepted, refused, ask, verdictOf, isRefused}
 use Rattle.refusal.proofs.Outcome.{ask-yes, ask-no, then-accepted, then-refused, went-on}
-use Rattle.vector.specs.Dot.{allFinite}
+use Rattle.finite.specs.Finite.{allFinite}
 use Rattle.galerkin.specs.Values.{galerkinOf}
 use Rattle.packed.specs.Triangle.{tri}
 use Rattle.hierarchy.specs.Level.{Numbers}

@@ -9,7 +9,7 @@ use Rattle.options.specs.declared.MultigridOptions.{MultigridOptions}
 use Rattle.refusal.specs.Refusal.{badCoarseValue}
 use Rattle.refusal.specs.declared.Verdict.{Verdict}
 use Rattle.refusal.specs.Outcome.{Outcome, accepted, ask, verdictOf, _>>=_, _>>_}
-use Rattle.vector.specs.Dot.{allFinite}
+use Rattle.finite.specs.Finite.{allFinite}
 use Rattle.hierarchy.specs.Level.{Shape, Numbers, Level}
 use Rattle.layout.specs.declared.Place.{Place}
 use Rattle.layout.specs.Layout.{entriesAt, numbersAt, wordsEnd, levelsAt, imageEnd, locate}

@@ -14,7 +14,7 @@ use Rattle.store.proofs.Region.{wrote-at, wrote-off, kept-wrote, kept-on}
 use Rattle.refusal.specs.declared.Verdict.{Verdict}
 use Rattle.refusal.specs.Outcome.{Outcome, accepted, refused, verdictOf}
 use Rattle.refusal.proofs.Outcome.{then-accepted, then-refused}
-use Rattle.vector.specs.Dot.{allFinite}
+use Rattle.finite.specs.Finite.{allFinite}
 use Rattle.matrix.specs.declared.SymmetricMatrix.{SymmetricMatrix}
 use Rattle.matrix.specs.Kernel.{kernelAt, KernelOk}
 use Rattle.values.specs.declared.entries.Entries.{Entries}

@@ -11,7 +11,7 @@ use Rattle.store.specs.Vector.{filled}
 use Rattle.options.specs.declared.MultigridOptions.{MultigridOptions}
 use Rattle.refusal.specs.declared.Verdict.{Verdict}
 use Rattle.refusal.specs.Outcome.{Outcome, accepted, verdictOf, _>>=_, _>>_}
-use Rattle.vector.specs.Dot.{allFinite}
+use Rattle.finite.specs.Finite.{allFinite}
 use Rattle.matrix.specs.Kernel.{Kernel, kernelAt}
 use Rattle.values.specs.Update.{Coefficients, updateWith, UpdateOk}
 use Rattle.dic.specs.Dic.{dicOf, DicOk}

@@ -94,7 +94,7 @@ pub fn coarse_values(w: &[u32], f: &mut [f64], p: Place, t: Place) -> bool
 {
     galerkin::sum_entries(w, f, p.entries, p.positions, p.values, t.entries, t.values);
     galerkin::symmetrize(w, f, t.faces, t.uppers, t.lowers, t.entries, t.values);
-    vector::all_finite(f, t.entries, t.values)
+    finite::all_finite(f, t.entries, t.values)
 }
 
 // The coefficients of the level from values that are given: 11, 12 and 13.
@@ -143,5 +143,5 @@ pub fn coarse_given(w: &[u32], given: &[f64], f: &mut [f64], p: Place, t: Place)
 {
     galerkin::sum_given(w, given, f, p.entries, p.positions, t.entries, t.values);
     galerkin::symmetrize(w, f, t.faces, t.uppers, t.lowers, t.entries, t.values);
-    vector::all_finite(f, t.entries, t.values)
+    finite::all_finite(f, t.entries, t.values)
 }

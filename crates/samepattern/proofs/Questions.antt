@@ -18,7 +18,7 @@ use Rattle.refusal.specs.Refusal.{unequalMirrors, otherPattern}
 use Rattle.refusal.specs.declared.Verdict.{Verdict}
 use Rattle.refusal.specs.Outcome.{passed, ask, verdictOf}
 use Rattle.refusal.proofs.Outcome.{ask-yes, ask-no}
-use Rattle.values.specs.Mirrors.{mirrorsEqual, MirrorsOk}
+use Rattle.mirrors.specs.Mirrors.{mirrorsEqual, MirrorsOk}
 use Rattle.layout.specs.declared.Place.{Place}
 use Rattle.layout.specs.Layout.{entriesAt, locate}
 use Rattle.sound.specs.Sound.{shapeIn}

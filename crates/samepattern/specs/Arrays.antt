@@ -6,7 +6,7 @@ use lib.Ieee.{Float}
 use Rattle.store.specs.Region.{idx}
 use Rattle.refusal.specs.Refusal.{unequalMirrors, otherPattern}
 use Rattle.refusal.specs.Outcome.{Outcome, passed, ask, _>>=_, _>>_}
-use Rattle.values.specs.Mirrors.{mirrorsEqual}
+use Rattle.mirrors.specs.Mirrors.{mirrorsEqual}
 use Rattle.hierarchy.specs.Level.{Shape}
 use Rattle.layout.specs.declared.Place.{Place}
 use Rattle.layout.specs.Layout.{locate}

@@ -57,7 +57,7 @@ pub fn asked(w: &[u32], offsets: &[u32], columns: &[u32], values: &[f64]) -> Ver
 {
     let p = sound::place_at(w, 0, 0);
     if same_pattern(w, p, offsets, columns, values) {
-        if values::equal_mirrors(w, values, p.faces, p.uppers, p.lowers) {
+        if mirrors::equal_mirrors(w, values, p.faces, p.uppers, p.lowers) {
             return Verdict::Passed;
         }
         return Verdict::Refused(refusal::UNEQUAL_MIRRORS);

@@ -12,7 +12,7 @@ use Rattle.options.specs.declared.MultigridSmoother.{MultigridSmoother}
 use Rattle.refusal.specs.Refusal.{badSmootherOutput}
 use Rattle.refusal.specs.declared.Verdict.{Verdict}
 use Rattle.refusal.specs.Outcome.{Outcome, accepted, ask, verdictOf}
-use Rattle.vector.specs.Dot.{allFinite}
+use Rattle.finite.specs.Finite.{allFinite}
 use Rattle.matrix.specs.Kernel.{Kernel}
 use Rattle.sweeps.specs.Sweep.{gaussSeidelOf, dicSweepOf}
 

@@ -121,7 +121,7 @@ pub fn smooth(
         return Verdict::Passed;
     }
     sweep(w, f, s, dic, kind, rhs, x, work, correction, sweeps);
-    if vector::all_finite(f, s.rows, x) {
+    if finite::all_finite(f, s.rows, x) {
         Verdict::Passed
     } else {
         Verdict::Refused(refusal::BAD_SMOOTHER_OUTPUT)

@@ -17,13 +17,14 @@ use Rattle.solver.specs.declared.LinearSolverOptions.{LinearSolverOptions}
 use Rattle.solver.specs.declared.LinearSolverStatus.{LinearSolverStatus}
 use Rattle.refusal.specs.Outcome.{accepted}
 use Rattle.vector.specs.Dot as dot
+use Rattle.finite.specs.Finite as finite
 use Rattle.matrix.specs.Kernel as matrix
 use Rattle.triangular.specs.Factor as factor
 use Rattle.coarse.specs.Terminal as terminal
 use Rattle.packed.specs.Triangle.{tri}
 use Rattle.correction.specs.Correction as correction
 use Rattle.measure.specs.Measure as measure
-use Rattle.measure.specs.Normalization as normalization
+use Rattle.normalization.specs.Normalization as normalization
 use Rattle.solver.specs.Solver as solver
 use Rattle.hierarchy.specs.Level.{Hierarchy}
 use Rattle.cycle.specs.Cycle as cycle
@@ -114,5 +115,5 @@ small-press : solve.solveOf (iteration.systemOf (controls MultigridResidualNorm.
       x = one64 ∷ one64 ∷ [];
       counts = 2 ∷ 1 ∷ 0 ∷ 0 ∷ [];
     })
-unfolding solve.solveOf input.inputOk solve.runOf iterating.iterateOf iteration.stepOf iteration.movedOf cycle.cycleOf cycle.endOf cycle.countOf terminal.terminalOf terminal.solutionOf terminal.scatterOf terminal.gatherOf terminal.diagonalOf factor.solveFactorOf factor.lowRow factor.highRow factor.lowTerm factor.highTerm tri measure.measureOf measure.valueOf measure.squaresOf measure.squareAt measure.sumOf measure.sumTurn dot.allFinite dot.productOf normalization.normalizationOf solver.relativeOf matrix.applyOf matrix.spreadOf matrix.spreadRow matrix.spreadFace correction.subtractOf correction.addPlainOf isFinite maxNum sqrtOf each tab for iter lt le eq ne ofBits add sub mul div
+unfolding solve.solveOf input.inputOk solve.runOf iterating.iterateOf iteration.stepOf iteration.movedOf cycle.cycleOf cycle.endOf cycle.countOf terminal.terminalOf terminal.solutionOf terminal.scatterOf terminal.gatherOf terminal.diagonalOf factor.solveFactorOf factor.lowRow factor.highRow factor.lowTerm factor.highTerm tri measure.measureOf measure.valueOf measure.squaresOf measure.squareAt measure.sumOf measure.sumTurn finite.allFinite dot.productOf normalization.normalizationOf solver.relativeOf matrix.applyOf matrix.spreadOf matrix.spreadRow matrix.spreadFace correction.subtractOf correction.addPlainOf isFinite maxNum sqrtOf each tab for iter lt le eq ne ofBits add sub mul div
 small-press = refl

@@ -30,7 +30,7 @@ use Rattle.matrix.specs.Kernel.{Kernel, applyOf}
 use Rattle.correction.specs.Correction.{subtractOf}
 use Rattle.directions.specs.Contract.{memoryAt}
 use Rattle.measure.specs.Measure.{measureOf}
-use Rattle.measure.specs.Normalization.{normalizationOf, NormalizationOk}
+use Rattle.normalization.specs.Normalization.{normalizationOf, NormalizationOk}
 use Rattle.solver.specs.Solver.{thresholdOf, reportOf}
 use Rattle.layout.specs.Layout.{rowsAt, entriesAt}
 use Rattle.sound.specs.declared.Walk.{Walk}

@@ -10,7 +10,7 @@ use Rattle.refusal.specs.Refusal.{wrongLength, badInput, badNormalization}
 use Rattle.refusal.specs.Outcome.{Outcome, accepted, ask, _>>=_, _>>_}
 use Rattle.matrix.specs.Kernel.{applyOf}
 use Rattle.solver.specs.Solver.{thresholdOf}
-use Rattle.measure.specs.Normalization.{normalizationOf}
+use Rattle.normalization.specs.Normalization.{normalizationOf}
 use Rattle.stepping.specs.Iteration.{State, System, residualOf, measuredOf}
 use Rattle.input.specs.Input.{lengthsOk, inputOk}
 use Rattle.iterating.specs.Iterate.{Solution, solution, iterateOf}

@@ -1,15 +1,13 @@
 -- Worked examples, over P = 4, −2; −2, 2. Each holds by computing.
 -- Assumes nothing.
 use mathlib.Core.Path.{_≡_, refl}
-use mathlib.Core.Bool.{true, false}
 use mathlib.Core.List.{List, [], _∷_}
-use lib.Ieee.{Float, binary64, ofBits, div, neg, lt, eq}
+use lib.Ieee.{Float, binary64, ofBits, div, lt}
 use Rattle.float.specs.Float.{zero64, isFinite}
-use Rattle.store.specs.Vector.{tab, each}
+use Rattle.store.specs.Vector.{tab}
 use Rattle.refusal.specs.Refusal.{badDiagonal, badReciprocal}
 use Rattle.refusal.specs.Outcome.{accepted, refused, askRows}
 use Rattle.matrix.proofs.Examples.{two, minusTwo, four, P}
-use Rattle.values.specs.Mirrors.{mirrorsAgree, mirrorsEqual}
 use Rattle.values.specs.Update.{isPositive, diagonalAsked, updateOf}
 
 -- The entries of P by rows.
@@ -31,16 +29,3 @@ zeroDiagonal = refl
 tinyDiagonal : updateOf 3 2 (0 ∷ 3 ∷ []) (1 ∷ []) (four ∷ minusTwo ∷ minusTwo ∷ ofBits binary64 1 ∷ []) ≡ refused (badReciprocal 3 1)
 unfolding updateOf diagonalAsked isPositive isFinite askRows tab ofBits div lt
 tinyDiagonal = refl
-
--- The mirrored entries of P agree; +0 and −0 do; 2 and −2 do not.
-mirrored : mirrorsEqual 1 (1 ∷ []) (2 ∷ []) entries ≡ true
-unfolding mirrorsEqual mirrorsAgree each isFinite eq ofBits
-mirrored = refl
-
-zeros : mirrorsAgree zero64 (neg zero64) ≡ true
-unfolding mirrorsAgree isFinite eq ofBits neg
-zeros = refl
-
-signs : mirrorsAgree two minusTwo ≡ false
-unfolding mirrorsAgree isFinite eq ofBits
-signs = refl

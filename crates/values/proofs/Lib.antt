@@ -1,3 +1,2 @@
-pub mod Mirrors
 pub mod UpdateLaws
 mod Examples

@@ -21,7 +21,7 @@ use Rattle.store.specs.Vector.{tab}
 use Rattle.store.proofs.Loop.{Left, left-end}
 use Rattle.store.proofs.Region.{length-part, length-splice, getD-part, getD-splice-below, getD-splice-in, set-splice-end, splice-nil, part-splice-above, wrote, wrote-at, wrote-off, kept-wrote, kept-part}
 use Rattle.store.proofs.Vector.{length-tab, getD-tab, tab-same, for-each}
-use Rattle.store.proofs.Each.{Tested, both-l, both-r, each-at, each-same, tested-start, tested-on, tested-done}
+use Rattle.store.proofs.Each.{Tested, both-l, both-r, each-at, tested-start, tested-on, tested-done}
 use Rattle.matrix.specs.declared.SymmetricMatrix.{SymmetricMatrix}
 use Rattle.values.specs.declared.entries.Entries.{Entries}
 use Rattle.values.specs.Update.{isPositive, diagonalAsked, diagonalGood, entryOf, Coefficients, updateOf, updateWith, updateAt, Within, Holds, UpdateOk, Updated, EntriesOk, GivenOk, pickTurn, Inverted, after, RowsTold, RowsAsked}

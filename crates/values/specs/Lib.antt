@@ -1,2 +1,1 @@
-pub mod Mirrors
 pub mod Update

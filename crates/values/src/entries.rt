@@ -2,7 +2,7 @@
 ghost use mathlib.Core.Path.{_≡_};
 ghost use Prim.Native.Nat.{_+_, _≤_};
 ghost use lib.ListN.{length};
-ghost use Rattle.store.specs.Region.{idx, part, Wrote};
+ghost use Rattle.store.specs.Region.{part, Wrote};
 ghost use Rattle.store.specs.Vector.{tab};
 ghost use Rattle.values.specs.Update.{isPositive, entryOf, updateWith, updateAt, UpdateOk, Updated, EntriesOk, GivenOk, Inverted, RowsTold, RowsAsked};
 use matrix::SymmetricMatrix;

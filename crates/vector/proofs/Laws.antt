@@ -1,7 +1,7 @@
--- The turns of the loops of `dot_block`, `dot_sum` and `all_finite` as the code has them.
+-- The turns of the loops of `dot_block` and `dot_sum` as the code has them.
 -- Assumes nothing.
 use mathlib.Core.Path.{_≡_, refl, sym, ap, _∙_}
-use mathlib.Core.Bool.{Bool, true, false, _&&_}
+use mathlib.Core.Bool.{Bool, true, false}
 use mathlib.Core.List.{List}
 use Prim.Native.Nat.{ℕ, suc, _+_, _*_, _/_, _≤_, _<_, min, zero-le}
 use native.Mathlib.Omega.{arith}
@@ -10,14 +10,12 @@ use Rattle.float.specs.Float.{add64, mul64, negZero, isFinite}
 use Rattle.root.specs.Sqrt.{sqrtOf}
 use Rattle.store.specs.Loop.{for}
 use Rattle.store.specs.Region.{at, part}
-use Rattle.store.specs.Vector.{each}
 use Rattle.store.proofs.Loop.{Left, left-start, left-on, left-end, for-count}
 use Rattle.store.proofs.Region.{getD-part}
-use Rattle.store.proofs.Each.{Tested, each-same, tested-start, tested-on, tested-done}
 use Rattle.vector.specs.declared.Product.{Product}
 use Rattle.vector.specs.declared.Product.the-variants.{Finite, NotFinite}
 use Rattle.vector.specs.declared.Sums.{Sums}
-use Rattle.vector.specs.Dot.{termOf, blockOf, blocksOf, blockTurn, dotOf, productOf, rootOf, normOf, allFinite}
+use Rattle.vector.specs.Dot.{termOf, blockOf, blocksOf, blockTurn, dotOf, productOf, rootOf, normOf}
 
 -- A product of elements of the store is one of the regions' elements.
 pub term-on : (a b n hi : ℕ) (F : List Float) (k : ℕ) (sum : Float) → k < hi → hi ≤ n
@@ -119,21 +117,3 @@ norm-yes n u {d} {p} {squared} {root} e m r t = t ∙ ap productOf r ∙ ap root
 pub norm-no : (n : ℕ) (u : List Float) {d : Product} → d ≡ productOf (dotOf n u u) → d ≡ NotFinite → NotFinite ≡ normOf n u
 unfolding normOf rootOf
 norm-no n u {d} e m = ap rootOf (sym m ∙ e)
-
-finite-part : (F : List Float) (x n : ℕ) → each (λ k. isFinite (at F (x + k))) n ≡ allFinite n (part x n F)
-unfolding allFinite
-finite-part F x n = each-same _ _ n (λ k h. simp getD-part)
-
--- The invariant of `all_finite`: ok tells whether the first k of the n elements at x are finite.
-pub record Finites (F : List Float) (x n k : ℕ) (ok : Bool) : Type 0 where
-  pub tested : Tested (λ i. isFinite (at F (x + i))) n k ok
-
-pub finites-start : (F : List Float) (x n : ℕ) → Finites F x n 0 true
-finites-start F x n = record { tested = tested-start _ n }
-
-pub finites-on : {F : List Float} {x n k : ℕ} {ok r : Bool} → Finites F x n k ok → k < n → r ≡ isFinite (at F (x + k)) → Finites F x n (k + 1) (ok && r)
-finites-on t h e = record { tested = tested-on (t .tested) h e }
-
--- It ends with the definition's answer.
-pub finites-done : {F : List Float} {x n k : ℕ} {ok : Bool} → Finites F x n k ok → n ≤ k → ok ≡ allFinite n (part x n F)
-finites-done {F} {x} {n} t h = tested-done (t .tested) h ∙ finite-part F x n

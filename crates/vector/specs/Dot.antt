@@ -1,5 +1,5 @@
--- `dot`, `norm_l2` and the finiteness tests of vector.rs, over lists. Definitions only.
-use mathlib.Core.Bool.{Bool, cond}
+-- `dot` and `norm_l2` of vector.rs, over lists. Definitions only.
+use mathlib.Core.Bool.{cond}
 use mathlib.Core.List.{List}
 use Prim.Native.Nat.{ℕ, _+_, _*_, _/_, min}
 use lib.Ieee.{Float}
@@ -7,7 +7,6 @@ use Rattle.float.specs.Float.{add64, mul64, negZero, isFinite}
 use Rattle.root.specs.Sqrt.{sqrtOf}
 use Rattle.store.specs.Loop.{for}
 use Rattle.store.specs.Region.{at}
-use Rattle.store.specs.Vector.{each}
 use Rattle.vector.specs.declared.Product.{Product}
 use Rattle.vector.specs.declared.Sums.{Sums}
 use Rattle.vector.specs.declared.Product.the-variants.{Finite, NotFinite}
@@ -44,7 +43,3 @@ rootOf NotFinite = NotFinite
 -- `norm_l2` of n elements
 unfoldable pub normOf : ℕ → List Float → Product
 normOf n u = rootOf (productOf (dotOf n u u))
-
--- `!v.iter().any(|x| !x.is_finite())`, of n elements
-unfoldable pub allFinite : ℕ → List Float → Bool
-allFinite n v = each (λ k. isFinite (at v k)) n

@@ -1,11 +1,11 @@
-// vector.rs: dot product and norm over regions of the store, and its finiteness tests.
+// vector.rs: dot product and norm over regions of the store.
 ghost use mathlib.Core.Path.{_≡_};
 ghost use Prim.Native.Nat.{_+_, _*_, _≤_, min};
 ghost use lib.ListN.{length};
 ghost use Rattle.store.specs.Region.{part};
 ghost use Rattle.float.specs.Float.{negZero};
 ghost use Rattle.store.specs.Loop.{for};
-ghost use Rattle.vector.specs.Dot.{blockOf, blocksOf, blockTurn, dotOf, productOf, normOf, allFinite};
+ghost use Rattle.vector.specs.Dot.{blockOf, blocksOf, blockTurn, dotOf, productOf, normOf};
 
 // What a reduction gives: the source's `Ok(value)`, or its refusal of a value that is not finite.
 pub enum Product {
@@ -130,18 +130,4 @@ pub fn norm_l2(f: &[f64], a: usize, n: usize) -> Product
         Product::Finite(squared) => finite(root::sqrt(squared)),
         Product::NotFinite => Product::NotFinite,
     }
-}
-
-// Whether each of the n elements at x is finite. No branch leaves the loop, so that it takes several elements at once.
-pub fn all_finite(f: &[f64], n: usize, x: usize) -> bool
-    requires { ⌜ x + n ≤ length (now f) ⌝ }
-    ensures { λ r. ⌜ r ≡ allFinite n (part x n (now (f .entry))) ⌝ }
-{
-    let mut ok = true;
-    let mut k = 0;
-    while k < n {
-        ok = ok & float::is_finite(f[x + k]);
-        k += 1;
-    }
-    ok
 }

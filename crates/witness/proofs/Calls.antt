@@ -20,7 +20,7 @@ use Rattle.hierarchy.specs.Level.{Hierarchy}
 use Rattle.hierarchy.specs.Build.{Lent, Input, buildOf}
 use Rattle.hierarchy.specs.Build as building
 use Rattle.hierarchy.specs.Refresh as refreshing
-use Rattle.values.specs.Mirrors.{mirrorsAgree, mirrorsEqual}
+use Rattle.mirrors.specs.Mirrors.{mirrorsAgree, mirrorsEqual}
 use Rattle.values.specs.Update.{isPositive, diagonalAsked, updateOf}
 use Rattle.packed.specs.Triangle.{tri, lessOf}
 use Rattle.cholesky.specs.Factor as cholesky
@@ -28,12 +28,13 @@ use Rattle.pattern.specs.Pattern as pattern
 use Rattle.faces.specs.Faces as faces
 use Rattle.csr.specs.Questions as csr
 use Rattle.vector.specs.Dot as dot
+use Rattle.finite.specs.Finite as finite
 use Rattle.matrix.specs.Kernel as matrix
 use Rattle.triangular.specs.Factor as factor
 use Rattle.coarse.specs.Terminal as terminal
 use Rattle.correction.specs.Correction as correction
 use Rattle.measure.specs.Measure as measure
-use Rattle.measure.specs.Normalization as normalization
+use Rattle.normalization.specs.Normalization as normalization
 use Rattle.solver.specs.Solver as solver
 use Rattle.cycle.specs.Cycle as cycle
 use Rattle.layout.specs.Layout as layout
@@ -110,17 +111,17 @@ visited n = 1 ∷ n ∷ 0 ∷ 0 ∷ []
 
 -- A solve for 1, from zero, gives 1,
 solves-first : SolveCall handle words (floats one64 one64) (floats one64 one64) (visited 0) (visited 1) (one64 ∷ []) (zero64 ∷ []) (one64 ∷ []) asked converged
-unfolding layout.viewOf layout.levelsAt layout.levelAt layout.wordsEnd layout.floatsEnd layout.imageEnd part lay splice tab tri sound.soundOf sound.handleSound sound.walkOf sound.headSound sound.arraysSound sound.allBelow sound.rowSound sound.rowsWalked sound.scratchEnd validOf isFinite lt le eq ofBits each solve.solveOf input.inputOk solve.runOf iterating.iterateOf iteration.stepOf iteration.movedOf cycle.cycleOf cycle.endOf cycle.countOf terminal.terminalOf terminal.solutionOf terminal.scatterOf terminal.gatherOf terminal.diagonalOf factor.solveFactorOf factor.lowRow factor.highRow factor.lowTerm factor.highTerm measure.measureOf measure.valueOf measure.squaresOf measure.squareAt measure.sumOf measure.sumTurn dot.allFinite dot.productOf normalization.normalizationOf solver.relativeOf matrix.applyOf matrix.spreadOf matrix.spreadRow matrix.spreadFace correction.subtractOf correction.addPlainOf maxNum sqrtOf for iter ne add sub mul div
+unfolding layout.viewOf layout.levelsAt layout.levelAt layout.wordsEnd layout.floatsEnd layout.imageEnd part lay splice tab tri sound.soundOf sound.handleSound sound.walkOf sound.headSound sound.arraysSound sound.allBelow sound.rowSound sound.rowsWalked sound.scratchEnd validOf isFinite lt le eq ofBits each solve.solveOf input.inputOk solve.runOf iterating.iterateOf iteration.stepOf iteration.movedOf cycle.cycleOf cycle.endOf cycle.countOf terminal.terminalOf terminal.solutionOf terminal.scatterOf terminal.gatherOf terminal.diagonalOf factor.solveFactorOf factor.lowRow factor.highRow factor.lowTerm factor.highTerm measure.measureOf measure.valueOf measure.squaresOf measure.squareAt measure.sumOf measure.sumTurn finite.allFinite dot.productOf normalization.normalizationOf solver.relativeOf matrix.applyOf matrix.spreadOf matrix.spreadRow matrix.spreadFace correction.subtractOf correction.addPlainOf maxNum sqrtOf for iter ne add sub mul div
 solves-first = record { done = record { answer = refl; solution = refl; statistics = refl; floats = record { below = refl; size = refl } }; view = refl }
 
 -- a second one too,
 solves-second : SolveCall handle words (floats one64 one64) (floats one64 one64) (visited 1) (visited 2) (one64 ∷ []) (zero64 ∷ []) (one64 ∷ []) asked converged
-unfolding layout.viewOf layout.levelsAt layout.levelAt layout.wordsEnd layout.floatsEnd layout.imageEnd part lay splice tab tri sound.soundOf sound.handleSound sound.walkOf sound.headSound sound.arraysSound sound.allBelow sound.rowSound sound.rowsWalked sound.scratchEnd validOf isFinite lt le eq ofBits each solve.solveOf input.inputOk solve.runOf iterating.iterateOf iteration.stepOf iteration.movedOf cycle.cycleOf cycle.endOf cycle.countOf terminal.terminalOf terminal.solutionOf terminal.scatterOf terminal.gatherOf terminal.diagonalOf factor.solveFactorOf factor.lowRow factor.highRow factor.lowTerm factor.highTerm measure.measureOf measure.valueOf measure.squaresOf measure.squareAt measure.sumOf measure.sumTurn dot.allFinite dot.productOf normalization.normalizationOf solver.relativeOf matrix.applyOf matrix.spreadOf matrix.spreadRow matrix.spreadFace correction.subtractOf correction.addPlainOf maxNum sqrtOf for iter ne add sub mul div
+unfolding layout.viewOf layout.levelsAt layout.levelAt layout.wordsEnd layout.floatsEnd layout.imageEnd part lay splice tab tri sound.soundOf sound.handleSound sound.walkOf sound.headSound sound.arraysSound sound.allBelow sound.rowSound sound.rowsWalked sound.scratchEnd validOf isFinite lt le eq ofBits each solve.solveOf input.inputOk solve.runOf iterating.iterateOf iteration.stepOf iteration.movedOf cycle.cycleOf cycle.endOf cycle.countOf terminal.terminalOf terminal.solutionOf terminal.scatterOf terminal.gatherOf terminal.diagonalOf factor.solveFactorOf factor.lowRow factor.highRow factor.lowTerm factor.highTerm measure.measureOf measure.valueOf measure.squaresOf measure.squareAt measure.sumOf measure.sumTurn finite.allFinite dot.productOf normalization.normalizationOf solver.relativeOf matrix.applyOf matrix.spreadOf matrix.spreadRow matrix.spreadFace correction.subtractOf correction.addPlainOf maxNum sqrtOf for iter ne add sub mul div
 solves-second = record { done = record { answer = refl; solution = refl; statistics = refl; floats = record { below = refl; size = refl } }; view = refl }
 
 -- and once the coefficient is 2 it gives a half.
 solves-third : SolveCall handle words (floats two half) (floats two half) (visited 2) (visited 3) (one64 ∷ []) (zero64 ∷ []) (half ∷ []) asked converged
-unfolding layout.viewOf layout.levelsAt layout.levelAt layout.wordsEnd layout.floatsEnd layout.imageEnd part lay splice tab tri sound.soundOf sound.handleSound sound.walkOf sound.headSound sound.arraysSound sound.allBelow sound.rowSound sound.rowsWalked sound.scratchEnd validOf isFinite lt le eq ofBits each solve.solveOf input.inputOk solve.runOf iterating.iterateOf iteration.stepOf iteration.movedOf cycle.cycleOf cycle.endOf cycle.countOf terminal.terminalOf terminal.solutionOf terminal.scatterOf terminal.gatherOf terminal.diagonalOf factor.solveFactorOf factor.lowRow factor.highRow factor.lowTerm factor.highTerm measure.measureOf measure.valueOf measure.squaresOf measure.squareAt measure.sumOf measure.sumTurn dot.allFinite dot.productOf normalization.normalizationOf solver.relativeOf matrix.applyOf matrix.spreadOf matrix.spreadRow matrix.spreadFace correction.subtractOf correction.addPlainOf maxNum sqrtOf for iter ne add sub mul div
+unfolding layout.viewOf layout.levelsAt layout.levelAt layout.wordsEnd layout.floatsEnd layout.imageEnd part lay splice tab tri sound.soundOf sound.handleSound sound.walkOf sound.headSound sound.arraysSound sound.allBelow sound.rowSound sound.rowsWalked sound.scratchEnd validOf isFinite lt le eq ofBits each solve.solveOf input.inputOk solve.runOf iterating.iterateOf iteration.stepOf iteration.movedOf cycle.cycleOf cycle.endOf cycle.countOf terminal.terminalOf terminal.solutionOf terminal.scatterOf terminal.gatherOf terminal.diagonalOf factor.solveFactorOf factor.lowRow factor.highRow factor.lowTerm factor.highTerm measure.measureOf measure.valueOf measure.squaresOf measure.squareAt measure.sumOf measure.sumTurn finite.allFinite dot.productOf normalization.normalizationOf solver.relativeOf matrix.applyOf matrix.spreadOf matrix.spreadRow matrix.spreadFace correction.subtractOf correction.addPlainOf maxNum sqrtOf for iter ne add sub mul div
 solves-third = record { done = record { answer = refl; solution = refl; statistics = refl; floats = record { below = refl; size = refl } }; view = refl }
 
 -- An update to zero is refused by question 12,

@@ -1,0 +1,2 @@
+pub mod Mirrors
+mod Examples

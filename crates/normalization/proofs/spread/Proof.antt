@@ -1,0 +1,13 @@
+-- `normalization::spread` meets its contract.
+-- Assumes nothing.
+use Rattle.normalization.specs.Normalization.{spreadOf}
+use borrow.Author.Needs.{needs}
+use Rattle.normalization.proofs.spread.Statement.{statement}
+use Rattle.normalization.proofs.spread.Tie as tie
+
+returns : tie.Need-returns
+unfolding spreadOf
+returns c = cc
+
+pub spread-spec : {M : Type 1} → statement M
+spread-spec = tie.close (tie.spec (λ c κs. search needs) (λ c κs. search needs) returns)
