@@ -1,39 +1,28 @@
--- The loops of `subtract`, `add_scaled` and `add_plain`: a turn, and what the loop leaves. Assumes nothing.
+-- The loops of `subtract` and `add_plain`: a turn, and what the loop leaves. Assumes nothing.
 use mathlib.Core.Path.{ap, _∙_}
 use mathlib.Core.List.{List}
 use Prim.Native.Nat.{ℕ, _+_, _-_, _≤_, _<_}
 use native.Mathlib.Omega.{arith}
 use lib.ListN.{length, set}
 use lib.Ieee.{Float, nan}
-use Rattle.float.specs.Float.{add64, sub64, mul64}
+use Rattle.float.specs.Float.{add64, sub64}
 use Rattle.store.specs.Loop.{for}
 use Rattle.store.specs.Region.{at, part, splice, Clear, Wrote, CopyOk}
 use Rattle.store.proofs.Loop.{Left, left-end}
 use Rattle.store.proofs.Region.{getD-part, wrote}
 use Rattle.store.proofs.Vector.{length-tab, tab-same, for-each}
-use Rattle.correction.specs.Correction.{subtractOf, addScaledOf, addPlainOf, SubtractOk, ScaledOk}
+use Rattle.correction.specs.Correction.{subtractOf, addPlainOf, SubtractOk}
 
 -- a turn of `subtract`, of the store
 unfoldable pub subtractStep : ℕ → ℕ → ℕ → ℕ → List Float → List Float
 subtractStep rhs product out row F = set F (out + row) (sub64 (at F (rhs + row)) (at F (product + row)))
-
--- what a turn of `add_scaled` writes
-unfoldable pub scaledAt : Float → ℕ → ℕ → ℕ → ℕ → ℕ → ℕ → List Float → Float
-scaledAt factor correction residual product inverse x row F =
-    add64 (at F (x + row)) (add64 (mul64 factor (at F (correction + row)))
-    (mul64 (sub64 (at F (residual + row)) (mul64 factor (at F (product + row)))) (at F (inverse + row))))
-
--- a turn of `add_scaled`, of the store
-unfoldable pub scaledStep : Float → ℕ → ℕ → ℕ → ℕ → ℕ → ℕ → List Float → List Float
-scaledStep factor correction residual product inverse x row F =
-    set F (x + row) (scaledAt factor correction residual product inverse x row F)
 
 -- a turn of `add_plain`, of the store
 unfoldable pub plainStep : ℕ → ℕ → ℕ → List Float → List Float
 plainStep correction x row F = set F (x + row) (add64 (at F (x + row)) (at F (correction + row)))
 
 -- An element of a region that is clear of x is not one that earlier turns have written.
-clear-off : (a x n row : ℕ) → Clear a n x n → row < n → x ≤ a + row → x + row ≤ a + row
+pub clear-off : (a x n row : ℕ) → Clear a n x n → row < n → x ≤ a + row → x + row ≤ a + row
 clear-off a x n row c b p = omega arith
 
 -- A row more is done: a lemma of its own, where `omega` would meet the layout's two `Clear`.
@@ -52,29 +41,6 @@ subtract-done {F} {G} {n} {rhs} {product} {out} ok l h =
     ∙ for-each out n F (λ row H. sub64 (at H (rhs + row)) (at H (product + row)))
     (λ row b H same. rw (same (rhs + row) nan (clear-off rhs out n row freeRhs b), same (product + row) nan (clear-off product out n row freeProduct b)))
     ∙ ap (λ (v : List Float). splice out v F) (tab-same _ _ n (λ row b. simp getD-part))) (length-tab _ n)
-
--- `add_scaled` writes the scaled corrections with their Jacobi steps.
-pub scaled-done : {F G : List Float} {n correction residual product inverse x row : ℕ} (factor : Float)
-    → ScaledOk (length F) n correction residual product inverse x
-    → Left (scaledStep factor correction residual product inverse x) row n G
-    (for (scaledStep factor correction residual product inverse x) 0 n F) → n ≤ row
-    → Wrote x n (addScaledOf n factor (part correction n F) (part residual n F) (part product n F) (part inverse n F) (part x n F)) F G
-unfolding addScaledOf scaledStep scaledAt
-scaled-done {F} {G} {n} {correction} {residual} {product} {inverse} {x} factor ok l h =
-    let i : inverse + n ≤ x = ok .inverses in
-    let j : x + n ≤ correction = ok .xs in
-    let k : correction + n ≤ product = ok .corrections in
-    let free = ok .clear in
-    wrote (left-end l h
-    ∙ for-each x n F (scaledAt factor correction residual product inverse x)
-    (λ row b H same. rw (
-      same (x + row) nan (λ p. omega arith),
-      same (correction + row) nan (λ p. omega arith),
-      same (residual + row) nan (clear-off residual x n row free b),
-      same (product + row) nan (λ p. omega arith),
-      same (inverse + row) nan (λ p. omega arith),
-    ))
-    ∙ ap (λ (v : List Float). splice x v F) (tab-same _ _ n (λ row b. simp getD-part))) (length-tab _ n)
 
 -- `add_plain` writes the corrections, added.
 pub plain-done : {F G : List Float} {n correction x row : ℕ} → CopyOk (length F) n correction x

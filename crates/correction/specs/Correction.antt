@@ -1,20 +1,14 @@
--- The residual, and how a correction is added, scaled or as it is (cycle.rs), over lists. Definitions only.
+-- The residual, and how a correction is added as it is (cycle.rs), over lists. Definitions only.
 use mathlib.Core.List.{List}
 use Prim.Native.Nat.{ℕ, _+_, _≤_}
 use lib.Ieee.{Float}
-use Rattle.float.specs.Float.{add64, sub64, mul64}
+use Rattle.float.specs.Float.{add64, sub64}
 use Rattle.store.specs.Region.{at, Clear}
 use Rattle.store.specs.Vector.{tab}
 
 -- the residual: `rhs[row] - product[row]` of n rows
 unfoldable pub subtractOf : ℕ → List Float → List Float → List Float
 subtractOf n rhs product = tab (λ row. sub64 (at rhs row) (at product row)) n
-
--- `x` of cycle.rs under `scale_correction`: the scaled correction and a Jacobi step, one sum, added to each of n rows
-unfoldable pub addScaledOf : ℕ → Float → List Float → List Float → List Float → List Float → List Float → List Float
-addScaledOf n factor correction residual product inverse x =
-    tab (λ row. add64 (at x row) (add64 (mul64 factor (at correction row))
-    (mul64 (sub64 (at residual row) (mul64 factor (at product row))) (at inverse row)))) n
 
 -- `x` of cycle.rs with no scaling: the correction, added to each of n rows
 unfoldable pub addPlainOf : ℕ → List Float → List Float → List Float
@@ -27,13 +21,3 @@ pub record SubtractOk (size n rhs product out : ℕ) : Type 0 where
   pub outs : out + n ≤ size
   pub clearRhs : Clear rhs n out n
   pub clearProduct : Clear product n out n
-
--- The reciprocals below x, correction and product above it in this order. The residual, which with no sweeps before is
--- the right-hand side, stands on either side of x.
-pub record ScaledOk (size n correction residual product inverse x : ℕ) : Type 0 where
-  pub inverses : inverse + n ≤ x
-  pub xs : x + n ≤ correction
-  pub corrections : correction + n ≤ product
-  pub products : product + n ≤ size
-  pub residuals : residual + n ≤ size
-  pub clear : Clear residual n x n

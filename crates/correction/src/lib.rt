@@ -1,8 +1,8 @@
-// cycle.rs: the float work of a cycle on one level, over regions of the store: the residual, and a correction that is added,
-// scaled or as it is.
+// cycle.rs: the float work of a cycle on one level, over regions of the store: the residual, and a correction that is added
+// as it is.
 ghost use lib.ListN.{length};
 ghost use Rattle.store.specs.Region.{part, Wrote, CopyOk};
-ghost use Rattle.correction.specs.Correction.{SubtractOk, ScaledOk, subtractOf, addScaledOf, addPlainOf};
+ghost use Rattle.correction.specs.Correction.{SubtractOk, subtractOf, addPlainOf};
 
 // The residual: the right-hand side less the product.
 pub fn subtract(f: &mut [f64], n: usize, rhs: usize, product: usize, out: usize)
@@ -14,31 +14,6 @@ pub fn subtract(f: &mut [f64], n: usize, rhs: usize, product: usize, out: usize)
     let mut row = 0;
     while row < n {
         f[out + row] = f[rhs + row] - f[product + row];
-        row += 1;
-    }
-}
-
-// The scaled correction, and a Jacobi step on the residual that it leaves: one sum, added to x.
-pub fn add_scaled(
-    f: &mut [f64],
-    n: usize,
-    factor: f64,
-    correction: usize,
-    residual: usize,
-    product: usize,
-    inverse: usize,
-    x: usize,
-)
-    requires { ⌜ ScaledOk (length (now f)) n correction residual product inverse x ⌝ }
-    ensures { λ _. ⌜ Wrote x n
-        (addScaledOf n factor (part correction n (now (f .entry))) (part residual n (now (f .entry)))
-        (part product n (now (f .entry))) (part inverse n (now (f .entry))) (part x n (now (f .entry))))
-        (now (f .entry)) (now (f .exit)) ⌝ }
-{
-    let mut row = 0;
-    while row < n {
-        let step = (f[residual + row] - factor * f[product + row]) * f[inverse + row];
-        f[x + row] = f[x + row] + (factor * f[correction + row] + step);
         row += 1;
     }
 }

@@ -15,7 +15,8 @@ use Rattle.matrix.specs.Kernel.{Kernel, applyOf}
 use Rattle.smoother.specs.Smooth.{smoothOf}
 use Rattle.coarse.specs.Terminal.{terminalOf}
 use Rattle.transfer.specs.Transfer.{restrictOf, prolongOf}
-use Rattle.correction.specs.Correction.{subtractOf, addScaledOf, addPlainOf}
+use Rattle.correction.specs.Correction.{subtractOf, addPlainOf}
+use Rattle.scaledcorrection.specs.Scaled.{addScaledOf}
 use Rattle.scaling.specs.Scaling.{correctionFactorOf}
 use Rattle.hierarchy.specs.Level.{Level, kernelOf}
 

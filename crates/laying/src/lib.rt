@@ -77,7 +77,7 @@ fn lay_faces(w: &mut [u32], p: Place, level: u64) -> Verdict
     let s = layout::faces_in(p);
     faces::fill_faces(w, s);
     mirroring::mirrors(w, s);
-    mirroring::diagonals(w, s, level)
+    diagonals::diagonals(w, s, level)
 }
 
 // The values out of the temporaries, and the coefficients: questions 12 and 13.

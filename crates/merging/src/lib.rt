@@ -150,7 +150,7 @@ fn pair(
 {
     let s = faces_in(t, count, entries);
     // a merged matrix has every diagonal entry
-    mirroring::diagonals(w, s, level);
+    diagonals::diagonals(w, s, level);
     let asked = check_rows(w, f, count, entries, t.diagonals, t.merged_values, level);
     match asked {
         Verdict::Refused(refusal) => Attempt::Refused(refusal),

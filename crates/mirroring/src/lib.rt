@@ -1,12 +1,10 @@
-// The mirrors and the diagonal entries of `SymmetricMatrix::new` of matrix.rs: each is found in the row that holds it, and a
-// matrix that lacks one is refused.
-ghost use Rattle.faces.specs.Contract.{MirrorsOk, MirrorsDone, DiagonalsOk, DiagonalsDone};
+// The mirrors of `SymmetricMatrix::new` of matrix.rs: each is found in the row that holds it, and a matrix that lacks one is
+// refused.
+ghost use Rattle.faces.specs.Contract.{MirrorsOk, MirrorsDone};
 ghost use Rattle.faces.specs.Steps.{FindOk, Found, EntryOk, Entry, MirrorOk};
 use faces::Faces;
 use faces::push_if;
 use faces::row_from;
-use refusal::Refusal;
-use refusal::Verdict;
 use store::index_at;
 use store::wide;
 
@@ -29,7 +27,7 @@ fn find(w: &[u32], columns: usize, lo: usize, hi: usize, column: usize) -> usize
 }
 
 // The entry of row i in column j; where there is none, the number of entries.
-fn entry_at(w: &[u32], s: Faces, i: usize, j: usize) -> usize
+pub fn entry_at(w: &[u32], s: Faces, i: usize, j: usize) -> usize
     requires { ⌜ EntryOk (now w) s i ⌝ }
     ensures { λ r. ⌜ Entry (now (w .entry)) s i j r ⌝ }
 {
@@ -78,29 +76,4 @@ pub fn mirrors(w: &mut [u32], s: Faces) -> bool
         }
     }
     true
-}
-
-// `diagonal_entries`, row by row: question 11.
-pub fn diagonals(w: &mut [u32], s: Faces, level: u64) -> Verdict
-    requires { ⌜ DiagonalsOk (now w) s ⌝ }
-    ensures { λ r. ⌜ DiagonalsDone (now (w .entry)) (now (w .exit)) s level r ⌝ }
-{
-    let rows = s.rows;
-    let entries = s.entries;
-    let to = s.diagonals;
-    let mut row = 0;
-    while row < rows {
-        let e = entry_at(w, s, row, row);
-        if e < entries {
-            w[to + row] = e as u32;
-            row += 1;
-        } else {
-            return Verdict::Refused(Refusal {
-                number: refusal::MISSING_DIAGONAL,
-                level: level,
-                row: row as u64,
-            });
-        }
-    }
-    Verdict::Passed
 }

@@ -4,7 +4,8 @@ ghost use Prim.Native.Nat.{_≤_};
 ghost use lib.ListN.{length};
 ghost use Rattle.store.specs.Region.{part, Wrote, CopyOk};
 ghost use Rattle.transfer.specs.Transfer.{RestrictOk, ProlongOk, restrictOf, prolongOf};
-ghost use Rattle.correction.specs.Correction.{SubtractOk, ScaledOk, subtractOf, addScaledOf, addPlainOf};
+ghost use Rattle.correction.specs.Correction.{SubtractOk, subtractOf, addPlainOf};
+ghost use Rattle.scaledcorrection.specs.Scaled.{ScaledOk, addScaledOf};
 ghost use Rattle.scaling.specs.Scaling.{ProductsOk, correctionFactorOf, factorOf};
 ghost use Rattle.acceleration.specs.Gcr.{correctOf};
 ghost use Rattle.directions.specs.Contract.{pairAt, memoryAt};
@@ -112,7 +113,7 @@ pub extern "C" fn probe_add_scaled(
         (part product n (now (f .entry))) (part inverse n (now (f .entry))) (part x n (now (f .entry))))
         (now (f .entry)) (now (f .exit)) ⌝ }
 {
-    correction::add_scaled(f, n, factor, correction, residual, product, inverse, x);
+    scaledcorrection::add_scaled(f, n, factor, correction, residual, product, inverse, x);
 }
 
 #[no_mangle]

@@ -152,7 +152,7 @@ pub extern "C" fn probe_diagonals(
         uppers: uppers,
         lowers: lowers,
     };
-    answer(mirroring::diagonals(w, s, level), place)
+    answer(diagonals::diagonals(w, s, level), place)
 }
 
 #[no_mangle]

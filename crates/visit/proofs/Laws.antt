@@ -27,7 +27,8 @@ use Rattle.smoother.specs.Smooth.{Smoothed, SmoothDone, sweptOf, smoothOf}
 use Rattle.transfer.specs.Transfer.{RestrictOk, ProlongOk, restrictOf, prolongOf}
 use Rattle.scaling.specs.declared.Factor.{Factor}
 use Rattle.scaling.specs.Scaling.{ProductsOk, correctionFactorOf, factorOf}
-use Rattle.correction.specs.Correction.{SubtractOk, ScaledOk, subtractOf, addScaledOf, addPlainOf}
+use Rattle.correction.specs.Correction.{SubtractOk, subtractOf, addPlainOf}
+use Rattle.scaledcorrection.specs.Scaled.{ScaledOk, addScaledOf}
 use Rattle.visit.specs.declared.Inner.{Inner}
 use Rattle.visit.specs.Visit.{residualOf, scaledOf, correctedOf, rhsAt, xAt, correctionAt, residualPlace, residualAt, matrixAt, residualIn}
 use Rattle.visit.specs.Visit.{smoothedIn, smoothedAt, scaledAt, correctedIn, correctedAt, broughtAt, raisedAt}

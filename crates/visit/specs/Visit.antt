@@ -16,7 +16,8 @@ use Rattle.refusal.specs.Outcome.{Outcome, accepted, verdictOf, _>>=_}
 use Rattle.matrix.specs.Kernel.{Kernel, KernelOk, kernelAt, applyOf}
 use Rattle.smoother.specs.Smooth.{smoothOf}
 use Rattle.transfer.specs.Transfer.{restrictOf, prolongOf}
-use Rattle.correction.specs.Correction.{subtractOf, addScaledOf, addPlainOf}
+use Rattle.correction.specs.Correction.{subtractOf, addPlainOf}
+use Rattle.scaledcorrection.specs.Scaled.{addScaledOf}
 use Rattle.scaling.specs.Scaling.{correctionFactorOf}
 use Rattle.visit.specs.declared.Inner.{Inner}
 

@@ -106,7 +106,7 @@ fn correct_scaled(w: &[u32], f: &mut [f64], g: Inner, sweeps: u64) -> Verdict
     match scaling::correction_factor(f, n, e, from, product) {
         Factor::Refused(q) => Verdict::Refused(q),
         Factor::Factor(factor) => {
-            correction::add_scaled(f, n, factor, e, from, product, g.matrix.inverse, s + n);
+            scaledcorrection::add_scaled(f, n, factor, e, from, product, g.matrix.inverse, s + n);
             Verdict::Passed
         }
     }

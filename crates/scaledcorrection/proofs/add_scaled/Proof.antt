@@ -1,15 +1,15 @@
--- `correction::add_scaled` meets its contract. The loop's invariant: what is left to do from here gives what the whole gives.
+-- `scaledcorrection::add_scaled` meets its contract. The loop's invariant: what is left to do from here gives what the whole gives.
 -- Assumes nothing.
 use mathlib.Core.Path.{_≡_, refl}
 use Prim.Native.Nat.{_-_}
 use lib.ListN.{length}
 use Rattle.store.specs.Loop.{for}
 use Rattle.store.proofs.Loop.{Left, left-start, left-on}
-use Rattle.correction.proofs.Correction.{scaledStep, scaled-done, scaledAt}
+use Rattle.scaledcorrection.proofs.Scaled.{scaledStep, scaled-done, scaledAt}
 use native.Mathlib.Omega.{arith}
 use borrow.Author.Needs.{needs}
-use Rattle.correction.proofs.add_scaled.Statement.{statement}
-use Rattle.correction.proofs.add_scaled.Tie as tie
+use Rattle.scaledcorrection.proofs.add_scaled.Statement.{statement}
+use Rattle.scaledcorrection.proofs.add_scaled.Tie as tie
 
 abbrev Inv-loop : tie.InvT-loop
 Inv-loop f₀ n factor correction residual product inverse x row₀ f row =

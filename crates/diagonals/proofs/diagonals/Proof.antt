@@ -1,10 +1,10 @@
--- `mirroring::diagonals` meets its contract. The loop's invariant: the questions left give the answer, and the rows passed are written.
+-- `diagonals::diagonals` meets its contract. The loop's invariant: the questions left give the answer, and the rows passed are written.
 -- Assumes nothing.
 use Prim.Native.Nat.{_-_}
 use Rattle.faces.proofs.Asking.{Asking, asking-start, asking-size, asking-entry, asking-yes, asking-no, asking-done}
 use native.Mathlib.Omega.{arith}
-use Rattle.mirroring.proofs.diagonals.Statement.{statement}
-use Rattle.mirroring.proofs.diagonals.Tie as tie
+use Rattle.diagonals.proofs.diagonals.Statement.{statement}
+use Rattle.diagonals.proofs.diagonals.Tie as tie
 
 abbrev Inv-loop : tie.InvT-loop
 Inv-loop w₀ s level rows entries to row₀ w row = Asking level w₀ w s row
