@@ -15,7 +15,8 @@ use Rattle.refusal.specs.Refusal.{noRows, storeTooSmall}
 use Rattle.refusal.specs.declared.Verdict.{Verdict}
 use Rattle.options.specs.Options.{controlsAsked}
 use Rattle.refusal.specs.Outcome.{Outcome, accepted, refused, passed, ask, verdictOf, _>>=_}
-use Rattle.csr.specs.Questions.{matrixAsked, weightsAsked}
+use Rattle.csr.specs.Questions.{matrixAsked}
+use Rattle.checkweights.specs.Weights.{weightsAsked}
 use Rattle.hierarchy.specs.Build.{Lent, Input}
 use Rattle.asking.specs.Asking.{weighedAsked, arraysAsked, roomAsked, askedOf, lending, WeightsAsked, ArraysAsked, RoomAsked, Asked, Vectors, Squared}
 

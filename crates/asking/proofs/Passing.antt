@@ -14,8 +14,10 @@ use Rattle.refusal.specs.Refusal.{invalidControls, notCholesky, noRows, storeTo
 use Rattle.refusal.specs.declared.Verdict.{Verdict}
 use Rattle.options.specs.Options.{within, tolerable, validOf, isCholesky, controlsAsked}
 use Rattle.refusal.specs.Outcome.{passed, ask, verdictOf}
-use Rattle.csr.specs.Questions.{matrixAsked, weightsAsked}
-use Rattle.csr.proofs.Laws.{asked-yes, matrix-valid, matrix-rising, matrix-sizes, weights-length}
+use Rattle.csr.specs.Questions.{matrixAsked}
+use Rattle.checkweights.specs.Weights.{weightsAsked}
+use Rattle.csr.proofs.Laws.{asked-yes, matrix-valid, matrix-rising, matrix-sizes}
+use Rattle.checkweights.proofs.Laws.{weights-length}
 use Rattle.hierarchy.specs.Build.{fixedCharge, holds, Input}
 use Rattle.growing.specs.Contract.{charge}
 use Rattle.asking.specs.Asking.{weighedAsked, arraysAsked, roomAsked, askedOf, lending, ArraysAsked, Asked, ControlsFit, ChargeOk, ArraysFit, Fitting}

@@ -12,7 +12,8 @@ use Rattle.refusal.specs.declared.Verdict.{Verdict}
 use Rattle.options.specs.Options.{controlsAsked}
 use Rattle.refusal.specs.Outcome.{Outcome, passed, ask, verdictOf, _>>=_, _>>_}
 use Rattle.pattern.specs.Pattern.{Valid, Rising}
-use Rattle.csr.specs.Questions.{matrixAsked, weightsAsked, Sizes}
+use Rattle.csr.specs.Questions.{matrixAsked, Sizes}
+use Rattle.checkweights.specs.Weights.{weightsAsked}
 use Rattle.hierarchy.specs.Build.{fixedCharge, holds, Lent, Input, patternIn}
 use Rattle.coarsen.specs.declared.Workspace.{Workspace}
 use Rattle.coarsen.specs.Contract.{WorkOk}

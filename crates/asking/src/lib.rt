@@ -10,7 +10,7 @@ fn weights_asked(entries: usize, given: bool, weights: &[f64], o: MultigridOptio
     ensures { λ r. ⌜ WeightsAsked entries given (now (weights .entry)) o r ⌝ }
 {
     if given {
-        match csr::check_weights(weights, entries) {
+        match checkweights::check_weights(weights, entries) {
             Verdict::Passed => options::check_controls(o),
             Verdict::Refused(q) => Verdict::Refused(q),
         }

@@ -8,7 +8,8 @@ use Rattle.refusal.specs.declared.Refusal.{Refusal}
 use Rattle.refusal.specs.Refusal.{noRows, storeTooSmall}
 use Rattle.options.specs.Options.{controlsAsked}
 use Rattle.refusal.specs.Outcome.{Outcome, accepted, refused, passed, ask, _>>=_}
-use Rattle.csr.specs.Questions.{matrixAsked, weightsAsked}
+use Rattle.csr.specs.Questions.{matrixAsked}
+use Rattle.checkweights.specs.Weights.{weightsAsked}
 use Rattle.hierarchy.specs.Build.{fixedCharge, andLevel, holds, Lent, Input, patternIn, buildOf}
 use Rattle.asking.specs.Asking.{arraysAsked, roomAsked, askedOf}
 use Rattle.build.specs.Steps.{restOf}

@@ -1,4 +1,4 @@
--- What a matrix and its weights have where their questions passed, and that such a matrix passes.
+-- What a matrix has where its questions passed, and that such a matrix passes.
 -- Assumes nothing.
 use mathlib.Core.Path.{_≡_, refl, sym, _∙_}
 use mathlib.Core.Bool.{Bool, true, false}
@@ -7,15 +7,15 @@ use Prim.Native.Nat.{ℕ, _+_, _≤_, _<_}
 use native.Mathlib.Omega.{arith}
 use lib.Ieee.{Float}
 use lib.ListN.{length}
-use borrow.Author.Tests.{eqb-true, le-leb}
+use borrow.Author.Tests.{le-leb}
 use Rattle.store.specs.Region.{idx}
 use Rattle.refusal.specs.declared.Refusal.{Refusal}
-use Rattle.refusal.specs.Refusal.{tooLarge, badOffsets, badColumns, weightCount, badWeight}
+use Rattle.refusal.specs.Refusal.{tooLarge, badOffsets, badColumns}
 use Rattle.refusal.specs.declared.Verdict.{Verdict}
 use Rattle.refusal.specs.Outcome.{Outcome, passed, ask, verdictOf}
 use Rattle.pattern.specs.Pattern.{Pattern, rowOf, Valid, Rising}
 use Rattle.pattern.proofs.Row.{offset-mono, row-is, row-in}
-use Rattle.csr.specs.Questions.{sizeOk, offsetsOk, columnsOk, weightsCounted, weightsOk, matrixAsked, weightsAsked, patternOf, entryOk, Sizes}
+use Rattle.csr.specs.Questions.{sizeOk, offsetsOk, columnsOk, matrixAsked, patternOf, entryOk, Sizes}
 use Rattle.csr.proofs.Walk.{size-told, offsets-fit, fit-offsets, fit-in, entry-told, told-entry, columns-at, at-columns}
 
 -- Where a question and the rest passed, the question holds and the rest passed.
@@ -96,9 +96,3 @@ valid-matrix p values valid rising s =
         let y = valid .last in
         told-entry (p .rows) (p .columns) (idx (p .offsets) (r + 1)) e (valid .inside e (omega arith))
         (λ l. rising .rising e (omega arith) (row-is valid r e h lo hi ∙ sym (row-is valid r (e + 1) h (omega arith) l)))
-
--- Weights that passed are as many as the entries.
-pub weights-length : (entries : ℕ) (weights : List Float) → verdictOf (weightsAsked entries weights) ≡ Verdict.Passed → length weights ≡ entries
-weights-length entries weights v =
-    let a = asked-yes (weightsCounted entries weights) weightCount (ask (weightsOk weights) badWeight passed) v in
-    eqb-true (length weights) entries (a .0)

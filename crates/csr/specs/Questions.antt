@@ -1,4 +1,4 @@
--- Questions 1 to 5 of document 01, of a matrix in compressed rows and its weights as they are lent: arrays of any lengths.
+-- Questions 1 to 3 of document 01, of a matrix in compressed rows as it is lent: arrays of any lengths.
 -- Definitions only.
 use mathlib.Core.Path.{_≡_}
 use mathlib.Core.Bool.{Bool, _&&_, _||_}
@@ -7,12 +7,11 @@ use Prim.Native.Nat.{ℕ, _+_, _-_, _≤_, _<_}
 use lib.Dec.{eqb, leb, ltb}
 use lib.ListN.{length}
 use lib.Ieee.{Float}
-use Rattle.store.specs.Region.{at, idx}
+use Rattle.store.specs.Region.{idx}
 use Rattle.store.specs.Vector.{each}
 use Rattle.pattern.specs.Pattern.{Pattern}
-use Rattle.options.specs.Options.{tolerable}
 use Rattle.refusal.specs.Outcome.{Outcome, passed, ask, _>>_}
-use Rattle.refusal.specs.Refusal.{tooLarge, badOffsets, badColumns, weightCount, badWeight}
+use Rattle.refusal.specs.Refusal.{tooLarge, badOffsets, badColumns}
 
 -- question 1: at most 65,536 rows and 1,048,576 entries
 unfoldable pub sizeOk : ℕ → List ℕ → Bool
@@ -55,31 +54,12 @@ rowAt rows offsets columns r = rowOk rows columns (idx offsets r) (idx offsets (
 unfoldable pub columnsOk : ℕ → List ℕ → List ℕ → Bool
 columnsOk rows offsets columns = each (rowAt rows offsets columns) rows
 
--- question 4: as many weights as entries
-abbrev pub weightsCounted : ℕ → List Float → Bool
-weightsCounted entries weights = eqb (length weights) entries
-
--- the test of weight k: it is finite and not below zero; minus zero passes, a NaN does not
-unfoldable pub weightOk : List Float → ℕ → Bool
-weightOk weights k = tolerable (at weights k)
-
--- question 5: each weight passes it
-unfoldable pub weightsOk : List Float → Bool
-weightsOk weights = each (weightOk weights) (length weights)
-
 -- questions 1 to 3
 abbrev pub matrixAsked : ℕ → List ℕ → List ℕ → List Float → Outcome Unit
 matrixAsked rows offsets columns values = do
   ask (sizeOk rows columns) tooLarge
   ask (offsetsOk rows offsets columns values) badOffsets
   ask (columnsOk rows offsets columns) badColumns
-  passed
-
--- questions 4 and 5
-abbrev pub weightsAsked : ℕ → List Float → Outcome Unit
-weightsAsked entries weights = do
-  ask (weightsCounted entries weights) weightCount
-  ask (weightsOk weights) badWeight
   passed
 
 -- the pattern that is lent

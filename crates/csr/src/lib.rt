@@ -1,10 +1,9 @@
-// Document 01's questions 1 to 5, of the arrays that a caller lends: nothing is asked of them beforehand.
+// Document 01's questions 1 to 3, of the arrays that a caller lends: nothing is asked of them beforehand.
 ghost use mathlib.Core.Path.{_≡_};
 ghost use Prim.Native.Nat.{_+_, _<_, _≤_};
 ghost use lib.ListN.{length};
-ghost use Rattle.options.specs.Options.{tolerable};
 ghost use Rattle.refusal.specs.Outcome.{verdictOf};
-ghost use Rattle.csr.specs.Questions.{sizeOk, neverFall, offsetsOk, entryOk, rowOk, columnsOk, weightsOk, matrixAsked, weightsAsked, Rowed};
+ghost use Rattle.csr.specs.Questions.{sizeOk, neverFall, offsetsOk, entryOk, rowOk, columnsOk, matrixAsked, Rowed};
 use refusal::Verdict;
 
 // Question 1.
@@ -106,41 +105,6 @@ pub fn check_matrix(rows: usize, offsets: &[u32], columns: &[u32], values: &[f64
     }
     if !columns_rise(rows, offsets, columns) {
         return Verdict::Refused(refusal::BAD_COLUMNS);
-    }
-    Verdict::Passed
-}
-
-// Minus zero is not below zero.
-fn weight_fits(weight: f64) -> bool
-    ensures { λ r. ⌜ r ≡ tolerable weight ⌝ }
-{
-    float::is_finite(weight) & !(weight < 0.0)
-}
-
-// Question 5.
-fn weights_fit(weights: &[f64]) -> bool
-    ensures { λ r. ⌜ r ≡ weightsOk (now (weights .entry)) ⌝ }
-{
-    let mut k = 0;
-    while k < weights.len() {
-        if weight_fits(weights[k]) {
-            k += 1;
-        } else {
-            return false;
-        }
-    }
-    true
-}
-
-// Questions 4 and 5, of the weights of a matrix with that many entries.
-pub fn check_weights(weights: &[f64], entries: usize) -> Verdict
-    ensures { λ r. ⌜ r ≡ verdictOf (weightsAsked entries (now (weights .entry))) ⌝ }
-{
-    if weights.len() != entries {
-        return Verdict::Refused(refusal::WEIGHT_COUNT);
-    }
-    if !weights_fit(weights) {
-        return Verdict::Refused(refusal::BAD_WEIGHT);
     }
     Verdict::Passed
 }

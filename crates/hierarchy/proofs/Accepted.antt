@@ -19,7 +19,8 @@ use Rattle.aggregation.specs.Pairs.{Pairing}
 use Rattle.pattern.specs.Pattern.{Pattern, entries, composeOf}
 use Rattle.pattern.proofs.Number.{not-both}
 use Rattle.faces.specs.Faces.{facesOf, diagonalsAsked}
-use Rattle.csr.specs.Questions.{matrixAsked, weightsAsked}
+use Rattle.csr.specs.Questions.{matrixAsked}
+use Rattle.checkweights.specs.Weights.{weightsAsked}
 use Rattle.hierarchy.specs.Level.{Numbers, Level, Hierarchy}
 use Rattle.hierarchy.specs.Refresh.{innerNumbers, lastNumbers, withSums}
 use Rattle.hierarchy.specs.Build.{Charge, fixedCharge, andLevel, holds, lastShape, innerShape, Mesh, Merged, merged, kernelAsked, paired, coarsened, coarsenedAsked, fewCoupled, endsAt, lastLevel, mergeOf, innerLevel, levelStep, growOf, Lent, Input, patternIn, meshIn, symmetricOf, buildOf}

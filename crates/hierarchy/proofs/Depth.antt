@@ -16,7 +16,8 @@ use Rattle.options.specs.Options.{within, validOf, controlsAsked, tolerable}
 use Rattle.refusal.specs.Outcome.{Outcome, accepted, passed, ask, _>>=_}
 use Rattle.pattern.specs.Pattern.{entries}
 use Rattle.faces.specs.Faces.{diagonalsAsked}
-use Rattle.csr.specs.Questions.{matrixAsked, weightsAsked}
+use Rattle.csr.specs.Questions.{matrixAsked}
+use Rattle.checkweights.specs.Weights.{weightsAsked}
 use Rattle.hierarchy.specs.Level.{Level, Hierarchy}
 use Rattle.hierarchy.specs.Refresh.{innerNumbers, withSums}
 use Rattle.hierarchy.specs.Build.{Charge, andLevel, holds, innerShape, Mesh, merged, kernelAsked, paired, coarsenedAsked, endsAt, lastLevel, mergeOf, levelStep, growOf, Lent, Input, patternIn, meshIn, symmetricOf, buildOf}

@@ -16,7 +16,8 @@ use Rattle.aggregation.specs.Pairs.{Pairing, weighted, strengthsOf, pairsOf}
 use Rattle.pattern.specs.Pattern.{Pattern, entries, coarse, coarsePositions, composeOf}
 use Rattle.galerkin.specs.Values.{galerkinOf, restrictWeightsOf}
 use Rattle.faces.specs.Faces.{facesOf, faceOffsetsOf, neighborsOf, uppersOf, lowersOf, mirroredOf, diagonalsOf, diagonalsAsked, coupledCountOf, coupledRowsOf}
-use Rattle.csr.specs.Questions.{matrixAsked, weightsAsked}
+use Rattle.csr.specs.Questions.{matrixAsked}
+use Rattle.checkweights.specs.Weights.{weightsAsked}
 use Rattle.hierarchy.specs.Level.{Shape, Level, Hierarchy}
 use Rattle.hierarchy.specs.Refresh.{innerNumbers, lastNumbers, withSums}
 

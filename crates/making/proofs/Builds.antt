@@ -20,7 +20,8 @@ use Rattle.refusal.specs.Refusal.{noRows, storeTooSmall}
 use Rattle.options.specs.Options.{controlsAsked}
 use Rattle.refusal.specs.Outcome.{Outcome, accepted, refused, passed}
 use Rattle.pattern.specs.Pattern.{entries}
-use Rattle.csr.specs.Questions.{matrixAsked, weightsAsked}
+use Rattle.csr.specs.Questions.{matrixAsked}
+use Rattle.checkweights.specs.Weights.{weightsAsked}
 use Rattle.hierarchy.specs.Level.{Hierarchy}
 use Rattle.hierarchy.specs.Build.{holds, Lent, Input, patternIn, buildOf}
 use Rattle.hierarchy.proofs.Accepted.{ask-split, then-split, fixedIn}

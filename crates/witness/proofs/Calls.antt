@@ -27,6 +27,7 @@ use Rattle.cholesky.specs.Factor as cholesky
 use Rattle.pattern.specs.Pattern as pattern
 use Rattle.faces.specs.Faces as faces
 use Rattle.csr.specs.Questions as csr
+use Rattle.checkweights.specs.Weights as checkweights
 use Rattle.vector.specs.Dot as dot
 use Rattle.finite.specs.Finite as finite
 use Rattle.matrix.specs.Kernel as matrix
@@ -86,7 +87,7 @@ floats d i = d ∷ d ∷ i ∷ zero64 ∷ zero64 ∷ filled 40 zero64
 
 -- The build of the cell.
 pub built : buildOf (lentOf words (floats one64 one64) 1) cell ≡ accepted (oneCell one64 one64)
-unfolding buildOf building.symmetricOf building.growOf refreshing.withSums csr.sizeOk csr.neverFall csr.offsetsOk csr.entryOk csr.rowOk csr.stepOk csr.rowAt csr.entryFrom csr.columnsOk csr.weightsOk csr.weightOk validOf isFinite lt le eq ofBits add sub mul div sqrtOf each tab for iter askRows mirrorsAgree mirrorsEqual pattern.some pattern.howMany pattern.those pattern.rowOf faces.above faces.facesOf faces.uppersOf faces.faceOffsetsOf faces.neighborsOf faces.hasEntry faces.standsAt faces.mirroredOf faces.lowersOf faces.diagonalsAsked faces.diagonalsOf faces.coupledOf faces.coupledCountOf faces.coupledRowsOf updateOf diagonalAsked isPositive tri cholesky.seekOf cholesky.getOf lessOf cholesky.restOf cholesky.columnOf cholesky.columnsOf cholesky.goodPivot cholesky.rowOf cholesky.rowsOf cholesky.choleskyOf
+unfolding buildOf building.symmetricOf building.growOf refreshing.withSums csr.sizeOk csr.neverFall csr.offsetsOk csr.entryOk csr.rowOk csr.stepOk csr.rowAt csr.entryFrom csr.columnsOk checkweights.weightsOk checkweights.weightOk validOf isFinite lt le eq ofBits add sub mul div sqrtOf each tab for iter askRows mirrorsAgree mirrorsEqual pattern.some pattern.howMany pattern.those pattern.rowOf faces.above faces.facesOf faces.uppersOf faces.faceOffsetsOf faces.neighborsOf faces.hasEntry faces.standsAt faces.mirroredOf faces.lowersOf faces.diagonalsAsked faces.diagonalsOf faces.coupledOf faces.coupledCountOf faces.coupledRowsOf updateOf diagonalAsked isPositive tri cholesky.seekOf cholesky.getOf lessOf cholesky.restOf cholesky.columnOf cholesky.columnsOf cholesky.goodPivot cholesky.rowOf cholesky.rowsOf cholesky.choleskyOf
 built = refl
 
 -- The build leaves these stores, whatever they held, and one record of statistics.
@@ -147,7 +148,7 @@ calls-made = Trace.solve solves-first (Trace.update refused-update (Trace.solve 
 
 -- The book's build after the accepted update is accepted too,
 pub built-anew : buildOf (lentOf words (floats one64 one64) 1) (withValues cell (two ∷ [])) ≡ accepted (oneCell two half)
-unfolding buildOf building.symmetricOf building.growOf refreshing.withSums csr.sizeOk csr.neverFall csr.offsetsOk csr.entryOk csr.rowOk csr.stepOk csr.rowAt csr.entryFrom csr.columnsOk csr.weightsOk csr.weightOk validOf isFinite lt le eq ofBits add sub mul div sqrtOf each tab for iter askRows mirrorsAgree mirrorsEqual pattern.some pattern.howMany pattern.those pattern.rowOf faces.above faces.facesOf faces.uppersOf faces.faceOffsetsOf faces.neighborsOf faces.hasEntry faces.standsAt faces.mirroredOf faces.lowersOf faces.diagonalsAsked faces.diagonalsOf faces.coupledOf faces.coupledCountOf faces.coupledRowsOf updateOf diagonalAsked isPositive tri cholesky.seekOf cholesky.getOf lessOf cholesky.restOf cholesky.columnOf cholesky.columnsOf cholesky.goodPivot cholesky.rowOf cholesky.rowsOf cholesky.choleskyOf
+unfolding buildOf building.symmetricOf building.growOf refreshing.withSums csr.sizeOk csr.neverFall csr.offsetsOk csr.entryOk csr.rowOk csr.stepOk csr.rowAt csr.entryFrom csr.columnsOk checkweights.weightsOk checkweights.weightOk validOf isFinite lt le eq ofBits add sub mul div sqrtOf each tab for iter askRows mirrorsAgree mirrorsEqual pattern.some pattern.howMany pattern.those pattern.rowOf faces.above faces.facesOf faces.uppersOf faces.faceOffsetsOf faces.neighborsOf faces.hasEntry faces.standsAt faces.mirroredOf faces.lowersOf faces.diagonalsAsked faces.diagonalsOf faces.coupledOf faces.coupledCountOf faces.coupledRowsOf updateOf diagonalAsked isPositive tri cholesky.seekOf cholesky.getOf lessOf cholesky.restOf cholesky.columnOf cholesky.columnsOf cholesky.goodPivot cholesky.rowOf cholesky.rowsOf cholesky.choleskyOf
 built-anew = refl
 
 -- so that each solve agrees with a build that there is.

@@ -1,13 +1,13 @@
--- `csr::weights_fit` meets its contract. The loop's invariant: each weight passed is finite and not below zero.
+-- `checkweights::weights_fit` meets its contract. The loop's invariant: each weight passed is finite and not below zero.
 -- Assumes nothing.
 use Prim.Native.Nat.{_-_}
 use native.Mathlib.Omega.{arith}
 use borrow.Author.Needs.{needs}
 use lib.ListN.{length}
 use Rattle.store.proofs.Each.{Passed, passed-start, passed-on, passed-no, passed-yes}
-use Rattle.csr.specs.Questions.{weightOk, weightsOk}
-use Rattle.csr.proofs.weights_fit.Statement.{statement}
-use Rattle.csr.proofs.weights_fit.Tie as tie
+use Rattle.checkweights.specs.Weights.{weightOk, weightsOk}
+use Rattle.checkweights.proofs.weights_fit.Statement.{statement}
+use Rattle.checkweights.proofs.weights_fit.Tie as tie
 
 abbrev Inv-loop : tie.InvT-loop
 Inv-loop weights k₀ k = Passed (weightOk weights) (length weights) k

@@ -1,10 +1,10 @@
--- `csr::check_weights` asks question 4 and then question 5.
+-- `checkweights::check_weights` asks question 4 and then question 5.
 -- Assumes nothing.
 use mathlib.Core.Path.{sym, _∙_}
 use borrow.Author.Needs.{needs}
 use borrow.Author.Tests.{eq-eqb, ne-eqb, not-true, not-false}
-use Rattle.csr.proofs.check_weights.Statement.{statement}
-use Rattle.csr.proofs.check_weights.Tie as tie
+use Rattle.checkweights.proofs.check_weights.Statement.{statement}
+use Rattle.checkweights.proofs.check_weights.Tie as tie
 
 returns : tie.Need-returns
 returns c = rw (ne-eqb _ _ (c .if1 .taken))

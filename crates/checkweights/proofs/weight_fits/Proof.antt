@@ -1,8 +1,8 @@
--- `csr::weight_fits` meets its contract.
+-- `checkweights::weight_fits` meets its contract.
 -- Assumes nothing.
 use borrow.Author.Needs.{needs}
-use Rattle.csr.proofs.weight_fits.Statement.{statement}
-use Rattle.csr.proofs.weight_fits.Tie as tie
+use Rattle.checkweights.proofs.weight_fits.Statement.{statement}
+use Rattle.checkweights.proofs.weight_fits.Tie as tie
 
 returns : tie.Need-returns
 returns c = rw (c .is-finite .ensures)
