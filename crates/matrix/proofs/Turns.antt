@@ -1,6 +1,6 @@
 -- The inner functions' turns as the code has them, and what one requires of the next.
 -- Assumes nothing.
-use mathlib.Core.Path.{_≡_, ap, _∙_}
+use mathlib.Core.Path.{_≡_, sym, ap, _∙_}
 use mathlib.Core.List.{List}
 use Prim.Native.Nat.{ℕ, _+_, _≤_, _<_}
 use native.Mathlib.Nat.{add-assoc}
@@ -10,7 +10,7 @@ use lib.Ieee.{Float}
 use Rattle.float.specs.Float.{add64, mul64}
 use Rattle.store.specs.Loop.{for}
 use Rattle.store.specs.Region.{at, idx}
-use Rattle.store.proofs.Loop.{Left, left-end}
+use Rattle.store.proofs.Loop.{for-step, for-done, Left, left-end}
 use Rattle.matrix.specs.Kernel.{Owned}
 use Rattle.matrix.specs.Turns.{faceTurn, rowTurn, sumTurn, sumRowTurn, Faced, Rowed, RowedTo, Spread, SumFaced, SumRowed, Summed, FacesOk, RowsOk}
 
@@ -26,7 +26,12 @@ faces-ok {w} {size} {n} {offsets} {neighbors} {coefficients} {x} {out} {row} {hi
     let below : idx w (offsets + row + 1) ≤ idx w (offsets + n) = ok .falls row h in
     record { columns = omega arith; faces = omega arith; xs = omega arith; outs = omega arith; near = λ k l. ok .near k (omega arith) }
 
--- The layout holds in a store of the same size.
+-- The faces lie in a store of the same size,
+pub faces-resize : {w : List ℕ} {size size' n hi neighbors coefficients x out : ℕ} → FacesOk w size n hi neighbors coefficients x out
+    → size' ≡ size → FacesOk w size' n hi neighbors coefficients x out
+faces-resize ok e = rw e ok
+
+-- and the layout holds there.
 pub rows-resize : {w : List ℕ} {size size' n offsets neighbors coefficients x out : ℕ} → RowsOk w size n offsets neighbors coefficients x out
     → size' ≡ size → RowsOk w size' n offsets neighbors coefficients x out
 rows-resize ok e = rw e ok
@@ -38,6 +43,39 @@ module _ (op : Float → Float → Float) (w : List ℕ) where
       ≡ faceTurn op w neighbors coefficients x out own e (record { vector = F; owner = t })
   unfolding faceTurn
   face-on neighbors coefficients x out own e j F t h = rw h
+
+-- One turn.
+for-one : {S : Type 0} (f : ℕ → S → S) (k : ℕ) (s : S) → for f k (k + 1) s ≡ f k s
+for-one f k s = for-step f k (k + 1) s (omega arith) ∙ for-done f (k + 1) (k + 1) (f k s) (omega arith)
+
+-- One face, as the code has it.
+pub faced-one : {op : Float → Float → Float} {w : List ℕ} {neighbors coefficients x out e j : ℕ} {own t : Float} {F : List Float}
+    → j ≡ idx w (neighbors + e)
+    → Faced op w neighbors coefficients x out e (e + 1) own F t (set F (out + j) (op (at F (out + j)) (mul64 (at F (coefficients + e)) own)))
+    (op t (mul64 (at F (coefficients + e)) (at F (x + j))))
+faced-one {op} {w} {neighbors} {coefficients} {x} {out} {e} {j} {own} {t} {F} h = record {
+  is = face-on op w neighbors coefficients x out own e j F t h ∙ sym (for-one (faceTurn op w neighbors coefficients x out own) e (record { vector = F; owner = t }));
+}
+
+-- What it leaves is a turn of the loop.
+pub faced-turn : {op : Float → Float → Float} {w : List ℕ} {neighbors coefficients x out e : ℕ} {own t r : Float} {F G : List Float}
+    → Faced op w neighbors coefficients x out e (e + 1) own F t G r
+    → record { vector = G; owner = r } ≡ faceTurn op w neighbors coefficients x out own e (record { vector = F; owner = t })
+faced-turn {op} {w} {neighbors} {coefficients} {x} {out} {e} {own} {t} {r} {F} {G} d =
+    d .is ∙ for-one (faceTurn op w neighbors coefficients x out own) e (record { vector = F; owner = t })
+
+-- Two faces, one after the other.
+pub faced-two : {op : Float → Float → Float} {w : List ℕ} {neighbors coefficients x out lo hi : ℕ} {own t m r : Float} {F G H : List Float}
+    → hi ≡ lo + 2 → Faced op w neighbors coefficients x out lo (lo + 1) own F t G m
+    → Faced op w neighbors coefficients x out (lo + 1) (lo + 1 + 1) own G m H r
+    → Faced op w neighbors coefficients x out lo hi own F t H r
+faced-two {op} {w} {neighbors} {coefficients} {x} {out} {lo} {hi} {own} {t} {m} {r} {F} {G} {H} e a b =
+    let turn = faceTurn op w neighbors coefficients x out own in
+    let s : Owned = record { vector = F; owner = t } in
+    let first : for turn lo hi s ≡ for turn (lo + 1) hi (turn lo s) = for-step turn lo hi s (omega arith) in
+    let second : for turn (lo + 1) hi (turn lo s) ≡ for turn (lo + 1 + 1) hi (turn (lo + 1) (turn lo s)) = for-step turn (lo + 1) hi (turn lo s) (omega arith) in
+    let none : for turn (lo + 1 + 1) hi (turn (lo + 1) (turn lo s)) ≡ turn (lo + 1) (turn lo s) = for-done turn (lo + 1 + 1) hi (turn (lo + 1) (turn lo s)) (omega arith) in
+    record { is = faced-turn b ∙ ap (turn (lo + 1)) (faced-turn a) ∙ sym (first ∙ second ∙ none) }
 
 -- The end of the loop over a row's faces.
 pub faced : {op : Float → Float → Float} {w : List ℕ} {neighbors coefficients x out lo hi k : ℕ} {own t r : Float} {F G : List Float}

@@ -32,7 +32,78 @@ fn diagonal_product(f: &mut [f64], rows: usize, diagonal: usize, x: usize, out: 
     }
 }
 
-// The faces from lo to hi of a row whose own x is `own`: each neighbour's value in place, the owner's returned.
+// One face of a row whose own x is `own`: its neighbour's value in place, the owner's returned.
+fn add_face(
+    w: &[u32],
+    f: &mut [f64],
+    rows: usize,
+    face: usize,
+    hi: usize,
+    neighbors: usize,
+    coefficients: usize,
+    x: usize,
+    out: usize,
+    own: f64,
+    owner: f64,
+) -> f64
+    requires { ⌜ FacesOk (now w) (length (now f)) rows hi neighbors coefficients x out ⌝ }
+    requires { ⌜ face < hi ⌝ }
+    ensures { λ r. ⌜ Faced add64 (now (w .entry)) neighbors coefficients x out face (face + 1) own (now (f .entry)) owner (now (f .exit)) r ⌝ }
+{
+    let neighbor = store::index_at(w, neighbors, face, rows);
+    let a = f[coefficients + face];
+    let sum = owner + a * f[x + neighbor];
+    f[out + neighbor] = f[out + neighbor] + a * own;
+    sum
+}
+
+// The two faces of a row that has two.
+fn add_two(
+    w: &[u32],
+    f: &mut [f64],
+    rows: usize,
+    lo: usize,
+    hi: usize,
+    neighbors: usize,
+    coefficients: usize,
+    x: usize,
+    out: usize,
+    own: f64,
+    start: f64,
+) -> f64
+    requires { ⌜ FacesOk (now w) (length (now f)) rows hi neighbors coefficients x out ⌝ }
+    requires { ⌜ hi ≡ lo + 2 ⌝ }
+    ensures { λ r. ⌜ Faced add64 (now (w .entry)) neighbors coefficients x out lo hi own (now (f .entry)) start (now (f .exit)) r ⌝ }
+{
+    let owner = add_face(
+        w,
+        f,
+        rows,
+        lo,
+        hi,
+        neighbors,
+        coefficients,
+        x,
+        out,
+        own,
+        start,
+    );
+    add_face(
+        w,
+        f,
+        rows,
+        lo + 1,
+        hi,
+        neighbors,
+        coefficients,
+        x,
+        out,
+        own,
+        owner,
+    )
+}
+
+// The faces from lo to hi of a row. Most rows of a grid in the plane have two: they are taken without a loop.
 fn add_faces(
     w: &[u32],
     f: &mut [f64],
@@ -49,13 +120,39 @@ fn add_faces(
     requires { ⌜ FacesOk (now w) (length (now f)) rows hi neighbors coefficients x out ⌝ }
     ensures { λ r. ⌜ Faced add64 (now (w .entry)) neighbors coefficients x out lo hi own (now (f .entry)) start (now (f .exit)) r ⌝ }
 {
+    if lo < hi {
+        if hi - lo == 2 {
+            return add_two(
+                w,
+                f,
+                rows,
+                lo,
+                hi,
+                neighbors,
+                coefficients,
+                x,
+                out,
+                own,
+                start,
+            );
+        }
+    }
     let mut owner = start;
     let mut face = lo;
     while face < hi {
-        let neighbor = store::index_at(w, neighbors, face, rows);
-        let a = f[coefficients + face];
-        owner = owner + a * f[x + neighbor];
-        f[out + neighbor] = f[out + neighbor] + a * own;
+        owner = add_face(
+            w,
+            f,
+            rows,
+            face,
+            hi,
+            neighbors,
+            coefficients,
+            x,
+            out,
+            own,
+            owner,
+        );
         face += 1;
     }
     owner

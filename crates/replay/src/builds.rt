@@ -1,10 +1,10 @@
 // A list of builds beside the Rust's answers.
 use answers::Built;
-use lists::kinds::Answer;
 use lists::kinds;
+use lists::kinds::Answer;
 use lists::reading;
-use lists::stores::Extent;
 use lists::stores;
+use lists::stores::Extent;
 use rebuild::Problem;
 
 // The answer of a build in numbers.

@@ -1,7 +1,7 @@
 // A list of sequences beside the Rust's answers.
-use answers::Built;
 use crate::outcomes;
 use crate::recall;
+use answers::Built;
 use lists::least;
 use lists::reading;
 use options::Handle;

@@ -33,7 +33,15 @@ fn attempt(
     let options = h.options;
     let norm = options.residual_norm;
     iteration::renew(w, f, g);
-    let factor = normalization::normalization(f, g.rows, g.solution, g.rhs, g.product, g.sums, norm);
+    let factor = normalization::normalization(
+        f,
+        g.rows,
+        g.solution,
+        g.rhs,
+        g.product,
+        g.sums,
+        norm,
+    );
     if !float::is_finite(factor) {
         return Solved::Refused(refusal::BAD_NORMALIZATION);
     }

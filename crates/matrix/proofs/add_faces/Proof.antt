@@ -7,7 +7,7 @@ use Rattle.float.specs.Float.{add64}
 use Rattle.store.specs.Loop.{for}
 use Rattle.store.proofs.Loop.{Left, left-start, left-on}
 use Rattle.matrix.specs.Turns.{faceTurn}
-use Rattle.matrix.proofs.Turns.{face-on, near-of, faced}
+use Rattle.matrix.proofs.Turns.{faces-resize, faced-turn, faced}
 use native.Mathlib.Omega.{arith}
 use borrow.Author.Needs.{needs}
 use Rattle.matrix.proofs.add_faces.Statement.{statement}
@@ -22,16 +22,22 @@ Inv-loop w f₀ rows lo hi neighbors coefficients x out own start owner₀ face�
 abbrev μ-loop : tie.MeasureT-loop
 μ-loop w f₀ rows lo hi neighbors coefficients x out own start owner₀ face₀ f owner face = hi - face
 
+two-requires : tie.Need-add-two-requires Inv-loop μ-loop
+two-requires c κs = (search needs, omega arith)
+
+two : tie.Need-returns Inv-loop μ-loop
+two c = search needs
+
 loop-holds : tie.Need-loop-holds Inv-loop μ-loop
 loop-holds c = (refl, left-start)
 
-index-at-requires : tie.Need-index-at-requires Inv-loop μ-loop
-index-at-requires c κs = search (near-of, needs)
+face-requires : tie.Need-add-face-requires Inv-loop μ-loop
+face-requires c κs = (search (faces-resize, needs), omega arith)
 
 loop-again : tie.Need-loop-again Inv-loop μ-loop
-loop-again c = search (left-on, face-on add64, needs)
+loop-again c = search (left-on, faced-turn, needs)
 
-returns : tie.Need-returns Inv-loop μ-loop
+returns : tie.Need-returns-2 Inv-loop μ-loop
 returns c = search (faced)
 
 pub add-faces-spec : {M : Type 1} → statement M
@@ -40,22 +46,14 @@ add-faces-spec =
     (tie.spec
     Inv-loop
     μ-loop
+    (λ c. omega arith)
+    two-requires
+    (λ c. search needs)
+    two
     loop-holds
-    index-at-requires
-    (λ c. omega arith)
-    (λ c. omega arith)
-    (λ c. omega arith)
-    (λ c. omega arith)
-    (λ c. omega arith)
-    (λ c. omega arith)
-    (λ c. omega arith)
-    (λ c. omega arith)
-    (λ c. omega arith)
-    (λ c. omega arith)
-    (λ c. omega arith)
-    (λ c. omega arith)
+    face-requires
     (λ c. omega arith)
     (λ c. omega arith)
     loop-again
-    (λ c. omega arith)
+    (λ c. search needs)
     returns)

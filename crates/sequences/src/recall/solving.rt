@@ -1,6 +1,6 @@
 // A solve of a list: its arguments, the call, and its answer with what it leaves beside those that are due.
-use answers::Solved;
 use crate::recall::Agreed;
+use answers::Solved;
 use lists::least;
 use lists::reading;
 use lists::stores;

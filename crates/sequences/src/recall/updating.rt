@@ -1,6 +1,6 @@
 // An update of a list: its arguments, the call, and its answer beside the one that is due.
-use answers::Updated;
 use crate::recall::Agreed;
+use answers::Updated;
 use lists::least;
 use lists::reading;
 use options::Handle;
