@@ -2,12 +2,11 @@
 -- Assumes nothing.
 use mathlib.Core.Path.{_≡_, refl}
 use Prim.Native.Nat.{_-_}
-use lib.ListN.{length}
+use lib.ListN.{length, length-set}
 use Rattle.store.specs.Loop.{for}
 use Rattle.store.proofs.Loop.{Left, left-start, left-on}
 use Rattle.correction.proofs.Correction.{subtractStep, subtract-done, rows-fall}
 use native.Mathlib.Omega.{arith}
-use borrow.Author.Needs.{needs}
 use Rattle.correction.proofs.subtract.Statement.{statement}
 use Rattle.correction.proofs.subtract.Tie as tie
 
@@ -23,7 +22,7 @@ loop-holds c = (refl, left-start)
 
 loop-again : tie.Need-loop-again Inv-loop μ-loop
 unfolding subtractStep
-loop-again c = search (left-on, needs)
+loop-again c = (simp length-set (omega arith), left-on (c .before .before .before .loop .inv .1) (omega arith) refl)
 
 returns : tie.Need-returns Inv-loop μ-loop
 returns c = search (subtract-done)

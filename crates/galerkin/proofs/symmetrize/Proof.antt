@@ -30,7 +30,12 @@ slice-write-f-2 : tie.Need-slice-write-f-2 Inv-loop μ-loop
 slice-write-f-2 c = simp length-set (omega arith)
 
 loop-again : tie.Need-loop-again Inv-loop μ-loop
-loop-again c = search (face-on, needs)
+loop-again c =
+    let at-lower = c .before .before in
+    let at-upper = at-lower .before in
+    let at-loop = at-upper .before .before in
+    let start = at-loop .before .before .before in
+    face-on (start .pre) (at-loop .loop .inv) (at-upper .before .loop-test .taken) (at-upper .index-at .ensures .0) (at-lower .index-at2 .ensures .0)
 
 returns : tie.Need-returns Inv-loop μ-loop
 returns c = search (going-end, needs)

@@ -23,7 +23,11 @@ index-at-requires-2 : tie.Need-index-at-requires-2 Inv-loop μ-loop
 index-at-requires-2 c κs = search (low-of, needs)
 
 loop-again : tie.Need-loop-again Inv-loop μ-loop
-loop-again c = search (agreed-on)
+loop-again c =
+    let at-lower = c .before .before .before in
+    let at-upper = at-lower .before in
+    let at-loop = at-upper .before .before in
+    agreed-on (at-loop .loop .inv) (at-upper .before .loop-test .taken) (at-upper .index-at .ensures .0) (at-lower .index-at2 .ensures .0) (c .mirrors-agree .ensures)
 
 returns : tie.Need-returns Inv-loop μ-loop
 returns c = search (agreed-done)

@@ -7,7 +7,7 @@ use Rattle.normalization.proofs.spread.Tie as tie
 
 returns : tie.Need-returns
 unfolding spreadOf
-returns c = cc
+returns c = rw (c .before .abs .ensures, c .abs2 .ensures)
 
 pub spread-spec : {M : Type 1} → statement M
 spread-spec = tie.close (tie.spec (λ c κs. search needs) (λ c κs. search needs) returns)

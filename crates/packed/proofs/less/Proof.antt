@@ -1,6 +1,6 @@
 -- `packed::less` meets its contract. The loop's invariant: what is left to do from here gives what the whole gives.
 -- Assumes nothing.
-use borrow.Author.Needs.{needs}
+use mathlib.Core.Path.{refl}
 use native.Mathlib.Omega.{arith}
 use Prim.Native.Nat.{_-_}
 use Rattle.store.specs.Loop.{for}
@@ -21,7 +21,7 @@ loop-holds c = left-start
 
 loop-again : tie.Need-loop-again Inv-loop μ-loop
 unfolding lessOf
-loop-again c = search (left-on, needs)
+loop-again c = left-on (c .before .before .before .loop .inv) (omega arith) refl
 
 returns : tie.Need-returns Inv-loop μ-loop
 returns c = search (less-done)

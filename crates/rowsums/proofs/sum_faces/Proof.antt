@@ -34,7 +34,12 @@ slice-write-f-2 : tie.Need-slice-write-f-2 Inv-loop μ-loop
 slice-write-f-2 c = simp length-set (omega arith)
 
 loop-again : tie.Need-loop-again Inv-loop μ-loop
-loop-again c = search (left-on, sum-on, needs)
+loop-again c =
+    let at-index = c .before .before .before in
+    let at-loop = at-index .before .before in (
+      simp length-set (omega arith),
+      left-on (at-loop .loop .inv .1) (omega arith) (sum-on _ _ _ _ _ _ _ _ (at-index .index-at .ensures .0)),
+    )
 
 returns : tie.Need-returns Inv-loop μ-loop
 returns c = search (sum-faced)

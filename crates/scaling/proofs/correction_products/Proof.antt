@@ -6,7 +6,6 @@ use Rattle.store.proofs.Loop.{Left, left-start, left-on, left-end}
 use Rattle.scaling.specs.Scaling.{both, productsTurn, productsOf}
 use Rattle.scaling.proofs.Scaling.{products-on}
 use native.Mathlib.Omega.{arith}
-use borrow.Author.Needs.{needs}
 use Rattle.scaling.proofs.correction_products.Statement.{statement}
 use Rattle.scaling.proofs.correction_products.Tie as tie
 
@@ -23,7 +22,9 @@ unfolding productsOf
 loop-holds c = left-start
 
 loop-again : tie.Need-loop-again Inv-loop μ-loop
-loop-again c = search (left-on, products-on, needs)
+loop-again c =
+    let at-loop = c .before .before .before .before .before in
+    left-on (at-loop .loop .inv) (omega arith) (products-on _ _ _ _ _ _ _ _ (omega arith))
 
 returns : tie.Need-returns Inv-loop μ-loop
 returns c = search (left-end)

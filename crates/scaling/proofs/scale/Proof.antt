@@ -6,13 +6,24 @@ use Rattle.scaling.proofs.scale.Statement.{statement}
 use Rattle.scaling.proofs.scale.Tie as tie
 
 returns : tie.Need-returns
-returns c = search (scale-bad)
+returns c =
+    let at-second = c .before in
+    let at-first = at-second .before in
+    scale-bad _ _ _ _ (at-first .is-finite .ensures) (at-second .is-finite2 .ensures) (c .if1 .taken)
 
 returns-2 : tie.Need-returns-2
-returns-2 c = search (scale-good)
+returns-2 c =
+    let at-quotient = c .before .before in
+    let at-second = at-quotient .before .before in
+    let at-first = at-second .before in
+    scale-good _ _ _ _ (at-first .is-finite .ensures) (at-second .is-finite2 .ensures) _ _ (at-quotient .before .if1 .left) (at-quotient .quotient .ensures) (c .before .is-finite3 .ensures) (c .if2 .taken)
 
 returns-3 : tie.Need-returns-3
-returns-3 c = search (scale-wide)
+returns-3 c =
+    let at-quotient = c .before .before in
+    let at-second = at-quotient .before .before in
+    let at-first = at-second .before in
+    scale-wide _ _ _ _ (at-first .is-finite .ensures) (at-second .is-finite2 .ensures) _ _ (at-quotient .before .if1 .left) (at-quotient .quotient .ensures) (c .before .is-finite3 .ensures) (c .if2 .left)
 
 pub scale-spec : {M : Type 1} → statement M
 scale-spec =

@@ -6,7 +6,11 @@ use Rattle.transfer.proofs.restrict.Statement.{statement}
 use Rattle.transfer.proofs.restrict.Tie as tie
 
 returns : tie.Need-returns
-returns c = search (restrict-done)
+returns c =
+    let at-gather = c .before .before in
+    let at-fill = at-gather .before .before .before .before in
+    let start = at-fill .before .before .before .before in
+    restrict-done (start .pre) (at-fill .fill .ensures) (at-gather .gather .ensures)
 
 pub restrict-spec : {M : Type 1} → statement M
 restrict-spec = tie.close (tie.spec (λ c κs. search needs) (λ c κs. search needs) (λ c. search needs) returns)

@@ -2,7 +2,6 @@
 -- Assumes nothing.
 use Prim.Native.Nat.{_-_, _*_}
 use native.Mathlib.Omega.{arith}
-use borrow.Author.Needs.{needs}
 use Rattle.float.specs.Float.{negZero}
 use Rattle.store.proofs.Loop.{Left, left-start}
 use Rattle.store.specs.Loop.{for}
@@ -25,7 +24,10 @@ loop-holds : tie.Need-loop-holds Inv-loop μ-loop
 loop-holds c = left-start
 
 loop-again : tie.Need-loop-again Inv-loop μ-loop
-loop-again c = search (pair-on, needs)
+loop-again c =
+    let at-blocks = c .before .before in
+    let at-loop = at-blocks .before .before in
+    pair-on _ _ _ _ _ _ (omega arith) (at-blocks .before .loop-test .taken) (at-blocks .dot-blocks .ensures) (at-loop .loop .inv)
 
 returns : tie.Need-returns Inv-loop μ-loop
 returns c = search (pairs-end)

@@ -2,7 +2,6 @@
 -- Assumes nothing.
 use Prim.Native.Nat.{_-_}
 use native.Mathlib.Omega.{arith}
-use borrow.Author.Needs.{needs}
 use Rattle.store.proofs.Loop.{Left, left-on, left-end}
 use Rattle.store.specs.Region.{part}
 use Rattle.vector.specs.Dot.{blockTurn, dotOf}
@@ -25,7 +24,10 @@ loop-holds : tie.Need-loop-holds Inv-loop μ-loop
 loop-holds c = pairs-left _ _ _ _ (omega arith) (c .dot-pairs .ensures)
 
 loop-again : tie.Need-loop-again Inv-loop μ-loop
-loop-again c = search (left-on, block-on, needs)
+loop-again c =
+    let at-least = c .before in
+    let at-loop = at-least .before .before in
+    left-on (at-loop .loop .inv) (at-least .before .loop-test .taken) (block-on _ _ _ _ _ _ _ (at-least .least .ensures .0) (c .dot-block .ensures))
 
 returns : tie.Need-returns Inv-loop μ-loop
 returns c = search (left-end)

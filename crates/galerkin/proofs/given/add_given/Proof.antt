@@ -21,7 +21,11 @@ index-at-requires : tie.Need-index-at-requires Inv-loop μ-loop
 index-at-requires c κs = search (given-near, needs)
 
 loop-again : tie.Need-loop-again Inv-loop μ-loop
-loop-again c = search (given-on, needs)
+loop-again c =
+    let at-index = c .before .before in
+    let at-loop = at-index .before .before in
+    let start = at-loop .before .before .before .before in
+    given-on _ (start .pre) (at-loop .loop .inv) (at-index .before .loop-test .taken) (at-index .index-at .ensures .0)
 
 returns : tie.Need-returns Inv-loop μ-loop
 returns c = search (going-end, needs)

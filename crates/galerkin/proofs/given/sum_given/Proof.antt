@@ -9,7 +9,11 @@ add-given-requires : tie.Need-add-given-requires
 add-given-requires c κs = search (given-after, needs)
 
 returns : tie.Need-returns
-returns c = search (given-done, needs)
+returns c =
+    let at-add = c .before .before in
+    let at-fill = at-add .before .before .before .before in
+    let start = at-fill .before .before .before .before .before in
+    given-done _ (start .pre) (at-fill .fill .ensures) (at-add .add-given .ensures)
 
 pub sum-given-spec : {M : Type 1} → statement M
 sum-given-spec = tie.close (tie.spec (λ c κs. search needs) add-given-requires (λ c. search needs) returns)
