@@ -6,10 +6,17 @@ use Rattle.acceleration.proofs.orthogonalize.Statement.{statement}
 use Rattle.acceleration.proofs.orthogonalize.Tie as tie
 
 returns : tie.Need-returns
-returns c = search (twice-yes)
+returns c =
+    let at-second = c .before .before in
+    let at-first = at-second .before .before .before .before .before in
+    let start = at-first .before .before .before in
+    twice-yes (start .pre) (at-first .pass .ensures) (at-second .before .before .if1 .taken) (at-second .pass2 .ensures)
 
 returns-2 : tie.Need-returns-2
-returns-2 c = search (twice-no)
+returns-2 c =
+    let at-first = c .before .before .before in
+    let start = at-first .before .before .before in
+    twice-no (start .pre) (at-first .pass .ensures) (c .if1 .left)
 
 pub orthogonalize-spec : {M : Type 1} → statement M
 orthogonalize-spec =

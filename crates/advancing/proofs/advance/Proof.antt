@@ -9,10 +9,18 @@ more-requires : tie.Need-more-requires
 more-requires c κs = search (more-ok)
 
 returns : tie.Need-returns
-returns c = search (advance-yes)
+returns c =
+    let at-more = c .before .before in
+    let at-alpha = at-more .before .before .before in
+    let at-dot = at-alpha .before .before in
+    let start = at-dot .before .before .before in
+    advance-yes (start .pre) (at-dot .dot .ensures) (at-alpha .alpha .given .1) (at-more .more .ensures)
 
 returns-2 : tie.Need-returns-2
-returns-2 c = search (advance-no)
+returns-2 c =
+    let at-dot = c .before .before in
+    let start = at-dot .before .before .before in
+    advance-no (start .pre) (at-dot .dot .ensures) (c .enum-told .given .1)
 
 pub advance-spec : {M : Type 1} → statement M
 advance-spec =

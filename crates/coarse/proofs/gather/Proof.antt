@@ -4,7 +4,7 @@ use borrow.Author.Needs.{needs}
 use native.Mathlib.Omega.{arith}
 use mathlib.Core.Path.{_≡_, refl}
 use Prim.Native.Nat.{_-_}
-use lib.ListN.{length}
+use lib.ListN.{length, length-set}
 use Rattle.store.specs.Loop.{for}
 use Rattle.store.proofs.Loop.{Left, left-start, left-on}
 use Rattle.coarse.proofs.Terminals.{gatherTurn, gather-on, near-at, gather-done}
@@ -24,7 +24,12 @@ index-at-requires : tie.Need-index-at-requires Inv-loop μ-loop
 index-at-requires c κs = search (near-at, needs)
 
 loop-again : tie.Need-loop-again Inv-loop μ-loop
-loop-again c = search (left-on, gather-on, needs)
+loop-again c =
+    let at-index = c .before in
+    let at-loop = at-index .before .before in (
+      simp length-set (at-loop .loop .inv .0),
+      left-on (at-loop .loop .inv .1) (at-index .before .loop-test .taken) (gather-on _ _ _ _ _ _ _ (at-index .index-at .ensures .0)),
+    )
 
 returns : tie.Need-returns Inv-loop μ-loop
 returns c = search (gather-done)

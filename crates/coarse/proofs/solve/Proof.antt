@@ -12,10 +12,18 @@ solve-coupled-requires : tie.Need-solve-coupled-requires
 solve-coupled-requires c κs = search (coupled-ok)
 
 returns : tie.Need-returns
-returns c = search (solve-yes)
+returns c =
+    let at-coupled = c .before .before .before .before .before in
+    let at-diagonal = at-coupled .before .before .before .before in
+    let start = at-diagonal .before .before .before .before in
+    solve-yes (start .pre) (at-diagonal .diagonal .ensures) (at-coupled .solve-coupled .ensures) (c .before .all-finite .ensures) (c .if1 .taken)
 
 returns-2 : tie.Need-returns-2
-returns-2 c = search (solve-no)
+returns-2 c =
+    let at-coupled = c .before .before .before .before .before in
+    let at-diagonal = at-coupled .before .before .before .before in
+    let start = at-diagonal .before .before .before .before in
+    solve-no (start .pre) (at-diagonal .diagonal .ensures) (at-coupled .solve-coupled .ensures) (c .before .all-finite .ensures) (c .if1 .left)
 
 pub solve-spec : {M : Type 1} → statement M
 solve-spec =

@@ -25,7 +25,12 @@ index-at-requires : tie.Need-index-at-requires Inv-loop μ-loop
 index-at-requires c κs = search (near-of, needs)
 
 loop-again : tie.Need-loop-again Inv-loop μ-loop
-loop-again c = search (left-on, gather-near add64, needs)
+loop-again c =
+    let at-near = c .before in
+    let at-index = at-near .before in
+    let at-loop = at-index .before .before in
+    left-on (at-loop .loop .inv) (at-index .before .loop-test .taken)
+    (gather-near add64 _ _ _ _ _ _ _ _ _ (at-index .index-at .ensures .0) (at-near .float-near .ensures))
 
 returns : tie.Need-returns Inv-loop μ-loop
 returns c = search (gathered)

@@ -17,7 +17,13 @@ held-at-requires : tie.Need-held-at-requires
 held-at-requires c κs = c .before .before .before .cast-faces .ensures .held
 
 returns : tie.Need-returns
-returns c = search (lowered)
+returns c =
+    let at-cast = c .before .before .before .before in
+    let at-scale = at-cast .before .before .before .before .before .before in
+    let at-hi = at-scale .before .before in
+    let start = at-hi .before .before .before .before .before .before in
+    lowered _ _ _ _ _ (start .args .correction) _ _ _ _ _ _ _ (at-hi .before .before .wide .ensures) (at-hi .wide2 .ensures) (at-scale .scale .ensures) (at-cast .cast-faces .ensures)
+    (c .held-at .ensures)
 
 pub lower-row-spec : {M : Type 1} → statement M
 lower-row-spec =

@@ -9,7 +9,10 @@ add-faces-requires : tie.Need-add-faces-requires
 add-faces-requires c κs = (search (faces-beside, needs), search needs)
 
 returns : tie.Need-returns
-returns c = search (uppered)
+returns c =
+    let at-faces = c .before .before in
+    let at-hi = at-faces .before in
+    uppered (at-hi .before .before .wide .ensures) (at-hi .wide2 .ensures) (at-faces .add-faces .ensures)
 
 pub upper-value-spec : {M : Type 1} → statement M
 upper-value-spec =

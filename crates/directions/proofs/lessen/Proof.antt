@@ -4,7 +4,7 @@ use borrow.Author.Needs.{needs}
 use native.Mathlib.Omega.{arith}
 use mathlib.Core.Path.{_≡_, refl}
 use Prim.Native.Nat.{_-_}
-use lib.ListN.{length}
+use lib.ListN.{length, length-set}
 use Rattle.store.specs.Loop.{for}
 use Rattle.store.proofs.Loop.{Left, left-start, left-on}
 use Rattle.directions.proofs.Vectors.{lessTurn, less-done}
@@ -22,7 +22,10 @@ loop-holds c = (refl, left-start)
 
 loop-again : tie.Need-loop-again Inv-loop μ-loop
 unfolding lessTurn
-loop-again c = search (left-on, needs)
+loop-again c =
+    let at-test = c .before .before in
+    let at-loop = at-test .before in
+    (simp length-set (at-loop .loop .inv .0), left-on (at-loop .loop .inv .1) (at-test .loop-test .taken) refl)
 
 returns : tie.Need-returns Inv-loop μ-loop
 returns c = search (less-done)

@@ -14,19 +14,25 @@ abbrev μ-loop : tie.MeasureT-loop
 μ-loop f₀ n used directions images direction image p₀ q₀ index₀ f p q index = used - index
 
 loop-holds : tie.Need-loop-holds Inv-loop μ-loop
-loop-holds c = search (passing-start)
+loop-holds c = passing-start (c .before .pre)
 
 step-requires : tie.Need-step-requires Inv-loop μ-loop
-step-requires c κs = search (passing-ok)
+step-requires c κs = passing-ok (c .before .before .loop .inv) (c .before .loop-test .taken)
 
 loop-again : tie.Need-loop-again Inv-loop μ-loop
-loop-again c = search (passing-on)
+loop-again c =
+    let at-step = c .before .before .before in
+    let at-test = at-step .before .before in
+    passing-on (at-test .before .loop .inv) (at-test .loop-test .taken) (at-step .step .ensures) (c .if1 .taken)
 
 returns : tie.Need-returns Inv-loop μ-loop
-returns c = search (passing-no)
+returns c =
+    let at-step = c .before .before .before in
+    let at-test = at-step .before .before in
+    passing-no (at-test .before .loop .inv) (at-test .loop-test .taken) (at-step .step .ensures) (c .if1 .left)
 
 returns-2 : tie.Need-returns-2 Inv-loop μ-loop
-returns-2 c = search (passing-end)
+returns-2 c = passing-end (c .before .loop .inv) (c .loop-test .left)
 
 pub pass-spec : {M : Type 1} → statement M
 pass-spec =

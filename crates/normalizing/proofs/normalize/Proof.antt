@@ -22,7 +22,11 @@ returns-2 c =
     (c .before .both-finite .ensures) (c .if2 .left)
 
 returns-3 : tie.Need-returns-3
-returns-3 c = search (normal-zero)
+returns-3 c =
+    let at-norm = c .before .before in
+    let at-norm-l2 = at-norm .before .before in
+    let start = at-norm-l2 .before .before .before in
+    normal-zero (start .pre) (at-norm-l2 .norm-l2 .ensures) (at-norm .norm .given .1) (c .if1 .left)
 
 returns-4 : tie.Need-returns-4
 returns-4 c = search (normal-no)

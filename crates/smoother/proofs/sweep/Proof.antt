@@ -6,13 +6,27 @@ use Rattle.smoother.proofs.sweep.Statement.{statement}
 use Rattle.smoother.proofs.sweep.Tie as tie
 
 gauss-seidels-requires : tie.Need-gauss-seidels-requires
-gauss-seidels-requires c κs = search (smooth-resize, needs)
+gauss-seidels-requires c κs =
+    let at-dic = c .before .before .before in
+    let start = at-dic .before .before .before .before .before .before .before in
+    smooth-resize (start .pre) (at-dic .dic-sweeps .ensures .size)
 
 returns : tie.Need-returns
-returns c = search (swept-dic)
+returns c =
+    let at-seidel = c .before .before in
+    let at-dic = at-seidel .before .before .before .before in
+    let at-kind = at-dic .before .before .before in
+    let start = at-kind .before .before .before .before in
+    swept-dic _ _ _ _ (start .pre) (at-kind .before .is-symmetric .ensures) (at-kind .is-dic .ensures) (at-dic .before .before .if1 .taken)
+    (at-dic .dic-sweeps .ensures) (at-seidel .gauss-seidels .ensures)
 
 returns-2 : tie.Need-returns-2
-returns-2 c = search (swept-plain)
+returns-2 c =
+    let at-seidel = c .before .before in
+    let at-kind = at-seidel .before .before .before in
+    let start = at-kind .before .before .before .before in
+    swept-plain _ _ _ _ (start .pre) (at-kind .before .is-symmetric .ensures) (at-kind .is-dic .ensures) (at-seidel .before .before .if1 .left)
+    (at-seidel .gauss-seidels2 .ensures)
 
 pub sweep-spec : {M : Type 1} → statement M
 sweep-spec =

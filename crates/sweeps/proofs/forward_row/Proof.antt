@@ -1,5 +1,6 @@
 -- `sweeps::forward_row` meets its contract.
 -- Assumes nothing.
+use mathlib.Core.Path.{refl}
 use Rattle.held.proofs.Single.{held-read}
 use Rattle.sweeps.proofs.Turns.{faces-beside, forwarded}
 use borrow.Author.Needs.{needs}
@@ -8,7 +9,10 @@ use Rattle.sweeps.proofs.forward_row.Statement.{statement}
 use Rattle.sweeps.proofs.forward_row.Tie as tie
 
 cast-faces-requires : tie.Need-cast-faces-requires
-cast-faces-requires c κs = (search (faces-beside, needs), search (held-read))
+cast-faces-requires c κs =
+    let at-hi = c .before .before .before in
+    let start = at-hi .before .before .before .before .before .before .before .before in
+    (faces-beside (start .pre .0) refl (start .pre .1 .0) (at-hi .wide2 .ensures), held-read _ _ _ _ (c .before .float-at .ensures))
 
 put-requires : tie.Need-put-requires
 put-requires c κs = (omega arith, c .before .before .before .cast-faces .ensures .held)
@@ -17,7 +21,12 @@ held-at-requires : tie.Need-held-at-requires
 held-at-requires c κs = c .before .before .before .put .ensures .held
 
 returns : tie.Need-returns
-returns c = search (forwarded)
+returns c =
+    let at-put = c .before .before .before .before in
+    let at-cast = at-put .before .before .before .before in
+    let at-hi = at-cast .before .before .before .before in
+    let at-lo = at-hi .before .before in
+    forwarded _ _ _ _ _ _ _ _ _ _ _ _ _ (at-lo .wide .ensures) (at-hi .wide2 .ensures) (at-lo .before .before .fresh .ensures) (at-cast .cast-faces .ensures) (at-put .put .ensures) (c .held-at .ensures)
 
 pub forward-row-spec : {M : Type 1} → statement M
 forward-row-spec =

@@ -5,11 +5,9 @@ use Prim.Native.Nat.{_-_}
 use Rattle.float.specs.Float.{sub64}
 use Rattle.store.specs.Loop.{for}
 use Rattle.store.proofs.Loop.{Left, left-start, left-on}
-use Rattle.matrix.proofs.Turns.{near-of}
 use Rattle.sweeps.specs.Turns.{gatherTurn}
 use Rattle.sweeps.proofs.Turns.{gather-on, gathered}
 use native.Mathlib.Omega.{arith}
-use borrow.Author.Needs.{needs}
 use Rattle.sweeps.proofs.take_faces.Statement.{statement}
 use Rattle.sweeps.proofs.take_faces.Tie as tie
 
@@ -23,16 +21,21 @@ loop-holds : tie.Need-loop-holds Inv-loop μ-loop
 loop-holds c = left-start
 
 index-at-requires : tie.Need-index-at-requires Inv-loop μ-loop
-index-at-requires c κs = search (near-of, needs)
+index-at-requires c κs =
+    let start = c .before .before .before .before in
+    (omega (arith, start .pre .columns, c .loop-test .taken), start .pre .near _ (c .loop-test .taken))
 
 never : tie.Need-returns Inv-loop μ-loop
 never c = absurd (omega arith)
 
 loop-again : tie.Need-loop-again Inv-loop μ-loop
-loop-again c = search (left-on, gather-on sub64, needs)
+loop-again c =
+    let at-index = c .before .before .before in
+    let at-loop = at-index .before .before in
+    left-on (at-loop .loop .inv) (at-index .before .loop-test .taken) (gather-on sub64 _ _ _ _ _ _ _ _ (at-index .index-at .ensures .0))
 
 returns : tie.Need-returns-2 Inv-loop μ-loop
-returns c = search (gathered)
+returns c = gathered (c .before .loop .inv) (c .loop-test .left)
 
 pub take-faces-spec : {M : Type 1} → statement M
 take-faces-spec =

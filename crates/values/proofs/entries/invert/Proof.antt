@@ -2,7 +2,7 @@
 -- Assumes nothing.
 use mathlib.Core.Path.{_≡_, refl}
 use Prim.Native.Nat.{_-_}
-use lib.ListN.{length}
+use lib.ListN.{length, length-set}
 use Rattle.values.proofs.UpdateLaws.{Inverting, inverting-start, invert-on, inverted}
 use native.Mathlib.Omega.{arith}
 use borrow.Author.Needs.{needs}
@@ -19,7 +19,14 @@ loop-holds : tie.Need-loop-holds Inv-loop μ-loop
 loop-holds c = (refl, inverting-start _ _ _ _)
 
 loop-again : tie.Need-loop-again Inv-loop μ-loop
-loop-again c = search (invert-on, needs)
+loop-again c =
+    let at-positive = c .before in
+    let at-test = at-positive .before .before in
+    let at-loop = at-test .before in
+    let start = at-loop .before .before in (
+      simp length-set (at-loop .loop .inv .0),
+      invert-on _ _ _ _ (start .pre .0) (at-loop .loop .inv .1) (at-test .loop-test .taken) (at-positive .is-positive .ensures) (c .is-finite .ensures),
+    )
 
 same-length : tie.Need-same-length Inv-loop μ-loop
 same-length c = omega arith

@@ -9,13 +9,19 @@ invert-requires : tie.Need-invert-requires
 invert-requires c κs = search needs
 
 returns : tie.Need-returns
-returns c = search (rows-good, needs)
+returns c =
+    let at-invert = c .before .before .before in
+    let start = at-invert .before .before .before in
+    rows-good (start .pre .0) (at-invert .invert .ensures) _ (c .if1 .taken)
 
 ask-rows-requires : tie.Need-ask-rows-requires
 ask-rows-requires c κs = search needs
 
 returns-2 : tie.Need-returns-2
-returns-2 c = search (rows-asked, needs)
+returns-2 c =
+    let at-invert = c .before .before .before .before .before in
+    let start = at-invert .before .before .before in
+    rows-asked (start .pre .0) (at-invert .invert .ensures) (c .ask-rows .ensures)
 
 pub settle-spec : {M : Type 1} → statement M
 settle-spec = tie.close (tie.spec invert-requires (λ c. search needs) returns ask-rows-requires (λ c. search needs) returns-2)

@@ -15,10 +15,23 @@ pick-given-requires-2 c κs =
     (c .before .before .before .before .before .before .before .before .before .pick-given .ensures) (c .before .before .before .before .before .settle .ensures)
 
 returns : tie.Need-returns
-returns c = search (accepts, needs)
+returns c =
+    let at-faces = c .before .before in
+    let at-passed = at-faces .before .before in
+    let at-settle = at-passed .before .before .before .before in
+    let at-own = at-settle .before .before .before .before in
+    let at-wide = at-own .before .before in
+    let start = at-wide .before .before .before .before .before .before in
+    accepts _ (start .pre .0) (at-own .pick-given .ensures) (at-settle .settle .ensures) (at-passed .enum-told .given .1) (at-wide .wide .ensures)
+    (at-faces .pick-given2 .ensures)
 
 returns-2 : tie.Need-returns-2
-returns-2 c = search (refuses, needs)
+returns-2 c =
+    let at-asked = c .before in
+    let at-settle = at-asked .before .before .before .before in
+    let at-own = at-settle .before .before .before .before in
+    let start = at-own .before .before .before .before .before .before .before .before in
+    refuses _ (start .pre .0) (at-own .pick-given .ensures) (at-settle .settle .ensures) (at-asked .asked .given .1)
 
 pub update-given-spec : {M : Type 1} → statement M
 update-given-spec =
