@@ -1,4 +1,4 @@
-//! Links the archive of proved exports.
+//! Links the archives of proved exports.
 
 use std::env;
 use std::path::PathBuf;
@@ -6,13 +6,15 @@ use std::path::PathBuf;
 fn main() {
     let here = PathBuf::from(env::var_os("CARGO_MANIFEST_DIR").unwrap_or_default());
     let folder = here.join("../target/staticlib");
-    let archive = folder.join("libprobe.a");
-    println!("cargo::rerun-if-changed={}", archive.display());
     println!("cargo::rustc-link-search=native={}", folder.display());
-    if !archive.is_file() {
-        println!(
-            "cargo::error=there is no {}: run compare/run, or `rt staticlib probe` in the repository",
-            archive.display()
-        );
+    for name in ["probe", "meshprobe"] {
+        let archive = folder.join(format!("lib{name}.a"));
+        println!("cargo::rerun-if-changed={}", archive.display());
+        if !archive.is_file() {
+            println!(
+                "cargo::error=there is no {}: run compare/run, or `rt staticlib {name}` in the repository",
+                archive.display()
+            );
+        }
     }
 }

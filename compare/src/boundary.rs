@@ -15,6 +15,7 @@ pub mod topology;
 use oracle::{MultigridCoarseSolver, MultigridOptions, MultigridResidualNorm, MultigridSmoother};
 
 #[link(name = "probe", kind = "static")]
+#[link(name = "meshprobe", kind = "static")]
 unsafe extern "C" {
     safe fn probe_is_finite(x: f64) -> u8;
     safe fn probe_abs(x: f64) -> f64;

@@ -4,61 +4,12 @@ use mathlib.Core.Path.{_≡_}
 use Prim.Native.Nat.{ℕ}
 use lib.Ieee.{Float}
 use lib.ListN.{set}
-use Rattle.flat.specs.Flat.{isSet}
-use Rattle.aggregation.specs.declared.Graph.{Graph}
-use Rattle.pattern.specs.declared.Coarsening.{Coarsening}
-use Rattle.faces.specs.declared.Faces.{Faces}
 use Rattle.matrix.specs.declared.SymmetricMatrix.{SymmetricMatrix}
 use Rattle.values.specs.declared.entries.Entries.{Entries}
 use Rattle.cholesky.specs.declared.Terminal.{Terminal}
 use Rattle.scaling.specs.declared.Factor.{Factor}
 use Rattle.acceleration.specs.declared.Corrected.{Corrected}
 pub use Rattle.telling.specs.Telling.{flag, flagOf, writtenOf, answerOf, Told}
-
--- the places of a matrix and its map, as numbers
-abbrev pub graphOf : ℕ → ℕ → ℕ → ℕ → ℕ → ℕ → ℕ → Graph
-graphOf rows entries offsets columns map weights absolute =
-    record {
-      rows = rows;
-      entries = entries;
-      offsets = offsets;
-      columns = columns;
-      map = map;
-      weights = weights;
-      absolute = isSet absolute;
-    }
-
--- the places of a fine pattern, its map and its coarse pattern, as numbers
-abbrev pub coarseningOf : ℕ → ℕ → ℕ → ℕ → ℕ → ℕ → ℕ → ℕ → ℕ → ℕ → Coarsening
-coarseningOf rows entries count offsets columns map positions starts targets scratch =
-    record {
-      rows = rows;
-      entries = entries;
-      count = count;
-      offsets = offsets;
-      columns = columns;
-      map = map;
-      positions = positions;
-      «coarse_offsets» = starts;
-      «coarse_columns» = targets;
-      scratch = scratch;
-    }
-
--- the places of a pattern and of its faces, as numbers
-abbrev pub topologyOf : ℕ → ℕ → ℕ → ℕ → ℕ → ℕ → ℕ → ℕ → ℕ → ℕ → Faces
-topologyOf rows entries faces offsets columns starts diagonals neighbors uppers lowers =
-    record {
-      rows = rows;
-      entries = entries;
-      faces = faces;
-      offsets = offsets;
-      columns = columns;
-      starts = starts;
-      diagonals = diagonals;
-      neighbors = neighbors;
-      uppers = uppers;
-      lowers = lowers;
-    }
 
 -- the places of a kernel, as numbers
 abbrev pub symmetricOf : ℕ → ℕ → ℕ → ℕ → ℕ → ℕ → SymmetricMatrix
