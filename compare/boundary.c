@@ -44,11 +44,15 @@ static void path(void) {
     double f[28] = {2, -1, -1, 2, -1, -1, 2, -1, -1, 2, 1, 1, 1, 1, 1, 1, 1, 1, 1, 1};
     const uint32_t map[4] = {0, 0, 1, 1}, starts[3] = {0, 2, 4}, columns[4] = {0, 1, 0, 1};
     const uint32_t positions[10] = {0, 0, 0, 0, 1, 2, 3, 3, 3, 3}, one[4] = {0, 0, 0, 0};
+    double given[10];
 
     expect(probe_pairs(w, 55, f, 28, 4, 10, 0, 5, 15, 10, 0, 1) == 2 && equal(w + 15, map, 4), "probe_pairs");
     expect(probe_coarse_pattern(w, 55, 4, 10, 2, 0, 5, 15, 19, 29, 32, 42) == 4 &&
                equal(w + 19, positions, 10) && equal(w + 29, starts, 3) && equal(w + 32, columns, 4),
            "probe_coarse_pattern");
+    memcpy(given, f, sizeof given);
+    probe_sum_given(w, 55, given, 10, f, 28, 10, 19, 4, 20);
+    expect(f[20] == 2 && f[21] == -1 && f[22] == -1 && f[23] == 2, "probe_sum_given");
     probe_sum_entries(w, 55, f, 28, 10, 19, 0, 4, 20);
     expect(f[20] == 2 && f[21] == -1 && f[22] == -1 && f[23] == 2, "probe_sum_entries");
     f[21] = -4;
@@ -95,10 +99,14 @@ static void faces(void) {
  * then the compressed rows 0 2 4 with columns 0 1 0 1, and both rows coupled. */
 static void kernel(void) {
     const uint32_t w[17] = {0, 1, 1, 1, 0, 3, 1, 2, 0, 2, 4, 0, 1, 0, 1, 0, 1};
+    const double given[4] = {8, -4, -4, 8};
     double f[30] = {2, -1, -1, 2};
     uint64_t place[2] = {7, 7};
 
     expect(probe_equal_mirrors(w, 17, f, 4, 1, 6, 7) == 1, "probe_equal_mirrors");
+    expect(probe_update_given(w, 17, given, 4, f, 30, 2, 5, 7, 0, 3, 4, 4, 4, 6, 0, 0, place, 2) == 0 && f[4] == -4 &&
+               f[5] == 8 && f[8] == 0.125 && place[0] == 7,
+           "probe_update_given");
     expect(probe_update(w, 17, f, 30, 2, 5, 7, 0, 3, 4, 4, 4, 6, 0, 0, place, 2) == 0 && f[4] == -1 && f[5] == 2 &&
                f[8] == 0.5 && place[0] == 7,
            "probe_update");
