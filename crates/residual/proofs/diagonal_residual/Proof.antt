@@ -2,12 +2,11 @@
 -- Assumes nothing.
 use mathlib.Core.Path.{_≡_, refl}
 use Prim.Native.Nat.{_-_}
-use lib.ListN.{length}
+use lib.ListN.{length, length-set}
 use Rattle.store.specs.Loop.{for}
 use Rattle.store.proofs.Loop.{Left, left-start, left-on, left-end}
 use Rattle.matrix.specs.Turns.{lessTurn}
 use native.Mathlib.Omega.{arith}
-use borrow.Author.Needs.{needs}
 use Rattle.residual.proofs.diagonal_residual.Statement.{statement}
 use Rattle.residual.proofs.diagonal_residual.Tie as tie
 
@@ -24,7 +23,9 @@ loop-holds c = (refl, left-start)
 
 loop-again : tie.Need-loop-again Inv-loop μ-loop
 unfolding lessTurn
-loop-again c = search (left-on, needs)
+loop-again c =
+    let at-loop = c .before .before .before .before in
+    (simp length-set (omega arith), left-on (at-loop .loop .inv .1) (omega arith) refl)
 
 returns : tie.Need-returns Inv-loop μ-loop
 returns c = search (left-end)

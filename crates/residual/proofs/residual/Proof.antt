@@ -6,7 +6,11 @@ use Rattle.residual.proofs.residual.Statement.{statement}
 use Rattle.residual.proofs.residual.Tie as tie
 
 returns : tie.Need-returns
-returns c = search (residual-done)
+returns c =
+    let at-rows = c .before .before in
+    let at-diagonal = at-rows .before .before .before .before in
+    let start = at-diagonal .before .before .before .before in
+    residual-done (start .pre .0) (start .pre .1 .0) (start .pre .1 .1 .0) (start .pre .1 .1 .1) (at-diagonal .diagonal-residual .ensures) (at-rows .subtract-rows .ensures)
 
 pub residual-spec : {M : Type 1} → statement M
 residual-spec =

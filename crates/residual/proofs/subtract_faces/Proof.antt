@@ -2,7 +2,7 @@
 -- Assumes nothing.
 use mathlib.Core.Path.{_≡_, refl}
 use Prim.Native.Nat.{_-_}
-use lib.ListN.{length}
+use lib.ListN.{length, length-set}
 use Rattle.float.specs.Float.{sub64}
 use Rattle.store.specs.Loop.{for}
 use Rattle.store.proofs.Loop.{Left, left-start, left-on}
@@ -29,7 +29,12 @@ index-at-requires : tie.Need-index-at-requires Inv-loop μ-loop
 index-at-requires c κs = search (near-of, needs)
 
 loop-again : tie.Need-loop-again Inv-loop μ-loop
-loop-again c = search (left-on, face-on sub64, needs)
+loop-again c =
+    let at-index = c .before .before .before in
+    let at-loop = at-index .before .before in (
+      simp length-set (omega arith),
+      left-on (at-loop .loop .inv .1) (omega arith) (face-on sub64 _ _ _ _ _ _ _ _ _ _ (at-index .index-at .ensures .0)),
+    )
 
 returns : tie.Need-returns Inv-loop μ-loop
 returns c = search (faced)

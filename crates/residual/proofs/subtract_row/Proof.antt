@@ -6,10 +6,17 @@ use Rattle.residual.proofs.subtract_row.Statement.{statement}
 use Rattle.residual.proofs.subtract_row.Tie as tie
 
 subtract-faces-requires : tie.Need-subtract-faces-requires
-subtract-faces-requires c κs = search (faces-ok)
+subtract-faces-requires c κs =
+    let at-wide = c .before .before .before in
+    let start = at-wide .before .before .before .before in
+    faces-ok (start .pre .0) (start .pre .1 .0) (at-wide .wide .ensures)
 
 returns : tie.Need-returns
-returns c = search (rowed-to)
+returns c =
+    let at-faces = c .before .before in
+    let at-wide = at-faces .before .before .before .before in
+    let start = at-wide .before .before .before .before in
+    rowed-to (start .pre .1 .1) (at-wide .wide .ensures) (at-faces .subtract-faces .ensures)
 
 pub subtract-row-spec : {M : Type 1} → statement M
 subtract-row-spec =

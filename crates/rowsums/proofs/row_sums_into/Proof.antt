@@ -6,7 +6,11 @@ use Rattle.rowsums.proofs.row_sums_into.Statement.{statement}
 use Rattle.rowsums.proofs.row_sums_into.Tie as tie
 
 returns : tie.Need-returns
-returns c = search (sums-done)
+returns c =
+    let at-rows = c .before .before in
+    let at-copy = at-rows .before .before .before .before in
+    let start = at-copy .before .before .before .before in
+    sums-done (start .pre .0) (start .pre .1) (at-copy .copy .ensures) (at-rows .sum-rows .ensures)
 
 pub row-sums-into-spec : {M : Type 1} → statement M
 row-sums-into-spec = tie.close (tie.spec (λ c κs. search needs) (λ c κs. search needs) (λ c. search needs) returns)

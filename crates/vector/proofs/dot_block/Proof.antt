@@ -2,7 +2,6 @@
 -- Assumes nothing.
 use Prim.Native.Nat.{_-_}
 use native.Mathlib.Omega.{arith}
-use borrow.Author.Needs.{needs}
 use Rattle.store.proofs.Loop.{Left, left-start, left-on, left-end}
 use Rattle.store.specs.Region.{part}
 use Rattle.vector.specs.Dot.{termOf, blockOf}
@@ -21,7 +20,9 @@ unfolding blockOf
 loop-holds c = left-start
 
 loop-again : tie.Need-loop-again Inv-loop μ-loop
-loop-again c = search (left-on, term-on, needs)
+loop-again c =
+    let at-loop = c .before .before .before in
+    left-on (at-loop .loop .inv) (omega arith) (term-on _ _ _ _ _ _ _ (c .before .before .loop-test .taken) (omega arith))
 
 returns : tie.Need-returns Inv-loop μ-loop
 returns c = search (left-end)

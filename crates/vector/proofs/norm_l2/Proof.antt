@@ -9,7 +9,9 @@ returns : tie.Need-returns
 returns c = search (norm-yes)
 
 returns-2 : tie.Need-returns-2
-returns-2 c = search (norm-no)
+returns-2 c =
+    let at-dot = c .before .before in
+    norm-no _ _ (at-dot .dot .ensures) (c .enum-told .given .1)
 
 pub norm-l2-spec : {M : Type 1} → statement M
 norm-l2-spec =
