@@ -1,7 +1,7 @@
 -- The loop that copies the levels of the shadow over those of the image.
 -- Assumes nothing.
 use mathlib.Core.Path.{_≡_, refl, sym, ap, _∙_, subst}
-use mathlib.Core.List.{List, [], _∷_}
+use mathlib.Core.List.{List, _∷_}
 use Prim.Native.Nat.{ℕ, _+_, _-_, _*_, _≤_, _<_}
 use native.Mathlib.Nat.{sub-zero}
 use native.Mathlib.Omega.{arith}
@@ -11,24 +11,25 @@ use Rattle.store.specs.Region.{part, Wrote, Kept, CopyOk}
 use Rattle.store.proofs.Region.{wrote-off, kept-wrote, kept-on, kept-less}
 use Rattle.hierarchy.specs.Level.{Level}
 use Rattle.layout.specs.declared.Place.{Place}
-use Rattle.layout.specs.Layout.{rowsAt, locate, levelAt, wordsEnd, floatsEnd, levelsAt, imageEnd, viewOf}
+use Rattle.layout.specs.Layout.{rowsAt, locate, levelAt, wordsEnd, floatsEnd, levelsAt, imageEnd}
 use Rattle.layout.proofs.Views.{floats-to}
 use Rattle.sound.specs.Contract.{PlaceOk}
 use Rattle.renewing.specs.Steps.{RenewOk}
 use Rattle.renewing.proofs.Chains.{opened}
 use Rattle.renewing.proofs.Renewing.{renew-place, inner-words, next-place, next-ready, ends-at, levels-some}
 use Rattle.shadow.specs.Shadow.{imageOf}
-use Rattle.shadow.proofs.Moving.{floats-shift, floats-own, image-shift, Moved, kept-moved, copied-moved, level-moved}
+use Rattle.shadow.proofs.Moving.{floats-shift, floats-own, Moved, kept-moved, copied-moved, level-moved}
 use Rattle.refresh.specs.Steps.{CommitOk, Committed}
 
 -- The loop stands at `level`, whose words start at a and which stands at p: from its floats on nothing is written yet, and once the levels
 -- from there on are those of the shadow, all are.
-pub record Copying (levels image level a : ℕ) (p : Place) (w : List ℕ) (F G : List Float) : Type 0 where
+pub record Copying (levels image end level a : ℕ) (p : Place) (w : List ℕ) (F G : List Float) : Type 0 where
   pub b : ℕ
   pub is : p ≡ locate w a b
   pub ok : RenewOk w (length G) (levels - level) level a b
   pub size : length G ≡ length F
   pub ended : image ≡ imageOf levels w
+  pub stop : end ≡ image - rowsAt w 0
   pub room : 2 * image ≤ length F
   pub ends : imageEnd (levels - level) w a b ≡ imageEnd levels w 0 0
   pub above : (i m : ℕ) → b ≤ i → part i m G ≡ part i m F
@@ -39,22 +40,27 @@ pub record Copying (levels image level a : ℕ) (p : Place) (w : List ℕ) (F G 
 pub commit-place : {levels : ℕ} {w : List ℕ} {size image : ℕ} → CommitOk levels w size image → PlaceOk w 0 0
 commit-place ok = renew-place (record { chain = ok .chain; some = ok .some })
 
+-- The row sums are a part of the image.
+pub commit-sums : {levels : ℕ} {w : List ℕ} {size image : ℕ} {p : Place} → CommitOk levels w size image → p ≡ locate w 0 0 → p .rows ≤ image
+commit-sums ok is = let im = ok .is in rw is (omega arith)
+
 -- Before the first level all are left.
-pub copying-start : {levels image : ℕ} {w : List ℕ} (F : List Float) {p : Place} → CommitOk levels w (length F) image → p ≡ locate w 0 0
-    → Copying levels image 0 0 p w F F
-copying-start {levels} {image} {w} F ok is = record {
+pub copying-start : {levels image end : ℕ} {w : List ℕ} (F : List Float) {p : Place} → CommitOk levels w (length F) image → p ≡ locate w 0 0
+    → end ≡ image - p .rows → Copying levels image end 0 0 p w F F
+copying-start {levels} {image} {end} {w} F ok is at = record {
   b = 0;
   is = is;
   ok = rw (sub-zero levels) (record { chain = ok .chain; some = ok .some });
   size = refl;
   ended = ok .is;
+  stop = rw is at at;
   room = ok .room;
   ends = rw (sub-zero levels);
   above = λ i m _. refl;
   whole = λ E _ e. let z : image + 0 ≡ image = omega arith in rw (sub-zero levels, z) at e;
 }
 
-module _ {levels image level a : ℕ} {p : Place} {w : List ℕ} {F G : List Float} (u : Copying levels image level a p w F G) where
+module _ {levels image end level a : ℕ} {p : Place} {w : List ℕ} {F G : List Float} (u : Copying levels image end level a p w F G) where
   -- The level is one of them.
   pub copying-few : level + 1 ≤ 128
   copying-few = let f = u .ok .chain .few in let s = u .ok .some in omega arith
@@ -107,7 +113,7 @@ module _ {levels image level a : ℕ} {p : Place} {w : List ℕ} {F G : List Flo
       -- One level fewer is left.
       pub copying-on : {t : Place} → t ≡ locate w next (p .factor) → {H : List Float}
           → Wrote (p .coefficients) (p .factor - p .coefficients) (part (image + p .coefficients) (p .factor - p .coefficients) G) G H
-          → Copying levels image (level + 1) next t w F H
+          → Copying levels image end (level + 1) next t w F H
       copying-on {t} there {H} c =
           let i = inside in
           let left = levels - level in
@@ -130,6 +136,7 @@ module _ {levels image level a : ℕ} {p : Place} {w : List ℕ} {F G : List Flo
                 (subst (λ (n : ℕ). RenewOk w n (levels - level - 1) (level + 1) next (p .factor)) (sym (c .size)) (next-ready (u .ok) (u .is) two-left at));
             size = c .size ∙ size;
             ended = u .ended;
+            stop = u .stop;
             room = room;
             ends = rw (← one, at, ← here) (sym opens ∙ u .ends);
             above = λ j m l. wrote-off c j m (omega arith) ∙ u .above j m (omega arith);
@@ -151,31 +158,31 @@ module _ {levels image level a : ℕ} {p : Place} {w : List ℕ} {F G : List Flo
     none-after = omega arith
 
     -- Its numbers end before the row sums.
-    last-inside : (u .b ≤ p .coefficients) × (p .coefficients ≤ floatsEnd w a (u .b)) × (floatsEnd w a (u .b) ≤ imageEnd levels w 0 0)
+    last-inside : (u .b ≤ p .coefficients) × (p .coefficients ≤ floatsEnd w a (u .b)) × (floatsEnd w a (u .b) ≤ end) × (end ≤ image)
     last-inside =
         let own = floats-own w a (u .b) in
         let opens = opened (u .ok .chain) (u .ok .some) .is in
         let up = floats-to (levels - level - 1) w (wordsEnd w a) (floatsEnd w a (u .b)) in
         let ends = u .ends in
-        rw (u .is) (omega arith, omega arith, omega arith)
+        let im = u .ended in
+        let stop = u .stop in
+        rw (u .is) (omega arith, omega arith, omega arith, omega arith)
 
     -- So the start of the last copy is an index.
-    pub last-fits : (p .coefficients ≤ image) × (image + p .coefficients ≤ 18446744073709551615)
+    pub last-fits : (p .coefficients ≤ end) × (image + p .coefficients ≤ 18446744073709551615)
     last-fits =
         let i = last-inside in
         let room = u .room in
         let size = u .size in
-        let im = u .ended in
         let fits = u .ok .chain .fits in
         (omega arith, omega arith)
 
     -- What the last copy requires.
-    pub last-copy : CopyOk (length G) (image - p .coefficients) (image + p .coefficients) (p .coefficients)
+    pub last-copy : CopyOk (length G) (end - p .coefficients) (image + p .coefficients) (p .coefficients)
     last-copy =
         let i = last-inside in
         let size = u .size in
         let room = u .room in
-        let im = u .ended in
         record { source = omega arith; target = omega arith; clear = omega arith }
 
     -- No levels are alike.
@@ -183,31 +190,27 @@ module _ {levels image level a : ℕ} {p : Place} {w : List ℕ} {F G : List Flo
     unfolding levelsAt
     no-levels k E x y z e = rw e
 
-    -- With it all are there, and the row sums too.
+    -- With it all are there.
     pub committed : {H : List Float}
-        → Wrote (p .coefficients) (image - p .coefficients) (part (image + p .coefficients) (image - p .coefficients) G) G H
+        → Wrote (p .coefficients) (end - p .coefficients) (part (image + p .coefficients) (end - p .coefficients) G) G H
         → Committed levels w F H image
-    unfolding viewOf
     committed {H} c =
         let i = last-inside in
         let left = levels - level in
         let some = u .ok .some in
         let size = u .size in
         let room = u .room in
-        let im = u .ended in
         let own : p .coefficients ≡ locate w a (u .b) .coefficients = ap (λ (q : Place). q .coefficients) (u .is) in
-        let far : p .coefficients + (image - p .coefficients) ≡ image = omega arith in
-        let moved : Moved (p .coefficients) image image F H =
+        let far : p .coefficients + (end - p .coefficients) ≡ end = omega arith in
+        let moved : Moved (p .coefficients) end image F H =
         from-start (i .0) (subst (λ (n : ℕ). Moved (p .coefficients) n image G H) far (copied-moved c (omega arith) (omega arith))) in
         let level-is : levelAt w H a (u .b) ≡ levelAt w F a (image + u .b) = level-moved moved w a (u .b) (omega arith) (omega arith) in
-        let levels-are : levelsAt levels w H 0 0 ≡ levelsAt levels w F 0 image =
-        u .whole H (kept-wrote c (i .0))
-        (levels-some left w H a (u .b) some
-        ∙ ap (λ (l : Level). l ∷ levelsAt (left - 1) w H (wordsEnd w a) (floatsEnd w a (u .b))) level-is
-        ∙ ap (λ (ls : List Level). levelAt w F a (image + u .b) ∷ ls)
-        (no-levels (left - 1) H (wordsEnd w a) (floatsEnd w a (u .b)) (floatsEnd w a (image + u .b)) none-after)
-        ∙ sym (levels-some left w F a (image + u .b) some)) in
-        let end : imageEnd levels w 0 image ≡ image + imageEnd levels w 0 0 = ap (imageEnd levels w 0) (omega arith) ∙ image-shift levels w 0 0 image in
-        let sums : part (imageEnd levels w 0 0) (rowsAt w 0) H ≡ part (imageEnd levels w 0 image) (rowsAt w 0) F =
-        moved .same (imageEnd levels w 0 0) (rowsAt w 0) (omega arith) (omega arith) ∙ ap (λ (j : ℕ). part j (rowsAt w 0) F) (sym end) in
-        record { view = cc; size = c .size ∙ size }
+        record {
+          same = u .whole H (kept-wrote c (i .0))
+              (levels-some left w H a (u .b) some
+              ∙ ap (λ (l : Level). l ∷ levelsAt (left - 1) w H (wordsEnd w a) (floatsEnd w a (u .b))) level-is
+              ∙ ap (λ (ls : List Level). levelAt w F a (image + u .b) ∷ ls)
+              (no-levels (left - 1) H (wordsEnd w a) (floatsEnd w a (u .b)) (floatsEnd w a (image + u .b)) none-after)
+              ∙ sym (levels-some left w F a (image + u .b) some));
+          size = c .size ∙ size;
+        }

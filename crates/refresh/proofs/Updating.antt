@@ -11,28 +11,29 @@ use Rattle.store.specs.Region.{Kept}
 use Rattle.store.proofs.Region.{kept-self}
 use Rattle.options.specs.declared.Handle.{Handle}
 use Rattle.options.specs.declared.MultigridOptions.{MultigridOptions}
+use Rattle.options.specs.declared.MultigridResidualNorm.{MultigridResidualNorm}
 use Rattle.refusal.specs.declared.Refusal.{Refusal}
 use Rattle.refusal.specs.Refusal.{unequalMirrors, otherPattern}
 use Rattle.refusal.specs.declared.Verdict.{Verdict}
 use Rattle.refusal.specs.Outcome.{Outcome, accepted, refused, passed, ask, verdictOf, isRefused, _>>=_}
 use Rattle.refusal.proofs.Outcome.{then-accepted, then-refused, passes, went-on}
 use Rattle.mirrors.specs.Mirrors.{mirrorsEqual}
-use Rattle.hierarchy.specs.Level.{Shape, Hierarchy}
+use Rattle.hierarchy.specs.Level.{Shape, Level, Hierarchy}
 use Rattle.hierarchy.specs.Refresh.{withSums}
 use Rattle.hierarchy.proofs.Accepted.{ask-split}
-use Rattle.layout.specs.Layout.{entriesAt, wordsEnd, viewOf}
+use Rattle.layout.specs.Layout.{entriesAt, wordsEnd, levelsAt, viewOf}
 use Rattle.sound.specs.Sound.{shapeIn, scratchStart}
 use Rattle.sound.specs.Contract.{LevelsOk}
 use Rattle.renewing.specs.Update.{samePattern, renewOf, updateOf}
-use Rattle.renewing.specs.Steps.{shapesAt}
+use Rattle.renewing.specs.Steps.{shapesAt, Renewed}
 use Rattle.renewing.proofs.Chains.{Opened, opened}
 use Rattle.standing.proofs.Outcomes.{never, told-accepted, told-refused}
 use Rattle.renewing.proofs.Renewing.{shapes-some}
 use Rattle.samepattern.specs.Arrays.{askedOf, AskOk}
 use Rattle.samepattern.proofs.Questions.{many-values}
-use Rattle.shadow.specs.Shadow.{imageOf, With, ShadowOk, shadowOf, ShadowDone}
+use Rattle.shadow.specs.Shadow.{imageOf, SumOk, Summed, With, ShadowOk}
 use Rattle.shadow.proofs.Moving.{shapes-are, view-stays}
-use Rattle.shadow.proofs.Shadowing.{shadow-end}
+use Rattle.shadow.proofs.Shadowing.{shadow-end, sums-ready, with-sums}
 use Rattle.answers.specs.declared.Updated.{Updated}
 use Rattle.refresh.specs.Contract.{updatedAt, answerOf, hierarchyOf, UpdateDone}
 use Rattle.refresh.specs.Steps.{CommitOk, Committed, AttemptOk, attemptOf, Attempted, toldOf, UpdateOk}
@@ -88,6 +89,10 @@ module _ {levels : ℕ} {w : List ℕ} {size : ℕ} (ok : AttemptOk levels w siz
           room = omega arith;
         })
 
+    -- What the row sums require.
+    pub sums-ready-at : {now : ℕ} → now ≡ size → SumOk w now (start / 2)
+    sums-ready-at e = let c = commit-ready e in let room = c .room in sums-ready (c .some) (c .is) (c .chain) (omega arith)
+
     module _ (offsets columns : List ℕ) (values : List Float) {v : Verdict} (told : v ≡ verdictOf (askedOf (shapeIn w 0) offsets columns values))
         (pass : isRefused v ≡ false) where
       -- There are as many values as entries.
@@ -124,8 +129,16 @@ module _ {levels : ℕ} {w : List ℕ} (F : List Float) (ok : AttemptOk levels w
   abbrev asked : Outcome Unit
   asked = askedOf (shapeIn w 0) offsets columns values
 
+  -- the levels' outcome
+  abbrev renewed : Outcome (List Level)
+  renewed = renewOf o 0 (shapesAt levels w 0) values
+
+  -- that of the hierarchy
+  abbrev summed : Outcome Hierarchy
+  summed = _>>=_ renewed (λ ls. accepted (withSums o ls))
+
   -- The update asks, and then renews the levels.
-  out-is : out ≡ _>>=_ asked (λ _. shadowOf o levels w values)
+  out-is : out ≡ _>>=_ asked (λ _. summed)
   unfolding viewOf updateOf
   out-is =
       let s = shapeIn w 0 in
@@ -152,31 +165,36 @@ module _ {levels : ℕ} {w : List ℕ} (F : List Float) (ok : AttemptOk levels w
     pub attempt-asked-no : isRefused v ≡ true → Attempted levels w F F out v
     attempt-asked-no stop =
         let no = told-refused asked told stop in
-        refused-done (out-is ∙ then-refused asked (λ _. shadowOf o levels w values) (no .1)) (no .2) kept-self
+        refused-done (out-is ∙ then-refused asked (λ _. summed) (no .1)) (no .2) kept-self
 
     module _ (pass : isRefused v ≡ false) {start : ℕ} (at : start ≡ scratchStart levels w) {G : List Float} {r : Verdict}
-        (done : ShadowDone o levels w F G values (start / 2) r) where
+        (done : Renewed o levels 0 w values F G 0 (start / 2) r) where
       -- Once 31 and 10 have passed, the levels are renewed.
-      through : out ≡ shadowOf o levels w values
-      through = out-is ∙ then-accepted asked (λ _. shadowOf o levels w values) (passes asked told (went-on v pass))
+      through : out ≡ summed
+      through = out-is ∙ then-accepted asked (λ _. summed) (passes asked told (went-on v pass))
 
       -- A level refuses: nothing below the shadow was written.
       pub attempt-no : isRefused r ≡ true → Attempted levels w F G out r
       attempt-no stop =
-          let no = told-refused (shadowOf o levels w values) (done .answer) stop in
-          refused-done (through ∙ no .1) (no .2) (subst (λ (n : ℕ). Kept n F G) (image-is ok at) (done .kept))
+          let no = told-refused renewed (done .answer) stop in
+          refused-done (through ∙ then-refused renewed (λ ls. accepted (withSums o ls)) (no .1)) (no .2) (subst (λ (n : ℕ). Kept n F G) (image-is ok at) (done .kept))
 
-      -- The shadow is the image.
+      -- The levels of the shadow are those of the image, and the row sums are made.
       pub attempt-yes : isRefused r ≡ false → {H : List Float} → Committed levels w G H (start / 2)
-          → Attempted levels w F H out r
-      attempt-yes go {H} copied =
-          let a = told-accepted (shadowOf o levels w values) (done .answer) go in
-          let is-out : out ≡ accepted (a .0) = through ∙ a .1 in
+          → {norm : MultigridResidualNorm} → o .«residual_norm» ≡ norm → {K : List Float} → Summed w H K norm (start / 2)
+          → Attempted levels w F K out r
+      attempt-yes go {H} copied under {K} sums =
+          let a = told-accepted renewed (done .answer) go in
+          let is-out : out ≡ accepted (withSums o (a .0)) = through ∙ then-accepted renewed (λ ls. accepted (withSums o ls)) (a .1) in
+          let room = ok .room in
+          let im = image-is ok at in
+          let size : length H ≡ length F = copied .size ∙ done .kept .size in
+          let view : viewOf levels w K 0 ≡ withSums o (levelsAt levels w H 0 0) = with-sums (ok .some) im o under (omega arith) sums in
           record {
             answer = went-on r go ∙ sym (ap verdictOf is-out);
-            view = copied .view ∙ done .view (a .0) (a .1) ∙ sym (ap (hierarchyOf (viewOf levels w F 0)) is-out);
+            view = view ∙ ap (withSums o) (copied .same ∙ done .levels (a .0) (a .1)) ∙ sym (ap (hierarchyOf (viewOf levels w F 0)) is-out);
             kept = λ q f. never f is-out;
-            size = copied .size ∙ done .kept .size;
+            size = sums .wrote .size ∙ size;
           }
 
 -- ---- the answer of an update

@@ -12,7 +12,7 @@ use Rattle.refusal.specs.declared.Verdict.{Verdict}
 use Rattle.refusal.specs.Outcome.{Outcome, refused, verdictOf}
 use Rattle.hierarchy.specs.Level.{Hierarchy}
 use Rattle.hierarchy.specs.First.{shapesIn}
-use Rattle.layout.specs.Layout.{viewOf}
+use Rattle.layout.specs.Layout.{levelsAt, viewOf}
 use Rattle.sound.specs.declared.Walk.{Walk}
 use Rattle.sound.specs.Sound.{walkOf}
 use Rattle.renewing.specs.Update.{updateOf}
@@ -30,9 +30,9 @@ pub record CommitOk (levels : ℕ) (w : List ℕ) (size image : ℕ) : Type 0 wh
   pub is : image ≡ imageOf levels w
   pub room : 2 * image ≤ size
 
--- The hierarchy in the shadow is the hierarchy.
+-- The levels in the shadow are the levels.
 pub record Committed (levels : ℕ) (w : List ℕ) (F G : List Float) (image : ℕ) : Type 0 where
-  pub view : viewOf levels w G 0 ≡ viewOf levels w F image
+  pub same : levelsAt levels w G 0 0 ≡ levelsAt levels w F 0 image
   pub size : length G ≡ length F
 
 -- ---- the update

@@ -11,8 +11,8 @@ use options::MultigridResidualNorm;
 use options::MultigridSmoother;
 use refusal::Verdict;
 
-// The numbers of all levels and the row sums, copied from the shadow, which starts at `image`, over the old ones. The values before a
-// level's numbers are left out: no call reads them again.
+// The numbers of all levels, copied from the shadow, which starts at `image`, over the old ones. The values before a level's numbers
+// are left out: no call reads them again.
 fn commit(w: &[u32], f: &mut [f64], levels: u64, image: usize)
     requires { ⌜ CommitOk levels (now w) (length (now f)) image ⌝ }
     ensures { λ _. ⌜ Committed levels (now (w .entry)) (now (f .entry)) (now (f .exit)) image ⌝ }
@@ -20,6 +20,8 @@ fn commit(w: &[u32], f: &mut [f64], levels: u64, image: usize)
     let mut level = 0;
     let mut a = 0;
     let mut p = sound::place_at(w, 0, 0);
+    // The row sums end the image. They are not copied: no question is asked of them, so they are made in their place.
+    let end = image - p.rows;
     while level + 1 < levels {
         let from = p.coefficients;
         store::copy(f, p.factor - from, image + from, from);
@@ -27,12 +29,11 @@ fn commit(w: &[u32], f: &mut [f64], levels: u64, image: usize)
         p = sound::place_at(w, a, p.factor);
         level += 1;
     }
-    // The row sums follow the last level's factor.
     let first = p.coefficients;
-    store::copy(f, image - first, image + first, first);
+    store::copy(f, end - first, image + first, first);
 }
 
-// Questions 31 and 10, the new image in the shadow, and the copy over the old one.
+// Questions 31 and 10, the new levels in the shadow, the copy over the old ones, and the row sums.
 fn attempt(
     w: &[u32],
     f: &mut [f64],
@@ -52,11 +53,12 @@ fn attempt(
     }
     // The image and its shadow end where the scratch of a solve starts.
     let image = sound::scratch_start(w, levels) / 2;
-    let answer = shadow::shadow(w, f, kind, norm, levels, values, image);
+    let answer = shadow::shadow(w, f, kind, levels, values, image);
     if answer.refused() {
         return answer;
     }
     commit(w, f, levels, image);
+    shadow::sums(w, f, norm, image);
     answer
 }
 

@@ -5,22 +5,18 @@ use mathlib.Core.List.{List}
 use Prim.Native.Nat.{ℕ, _+_, _-_, _*_, _≤_}
 use lib.Ieee.{Float}
 use Rattle.float.specs.Float.{zero64}
-use Rattle.store.specs.Region.{Wrote, Kept}
+use Rattle.store.specs.Region.{Wrote}
 use Rattle.store.specs.Vector.{filled}
 use Rattle.options.specs.declared.MultigridOptions.{MultigridOptions}
 use Rattle.options.specs.declared.MultigridResidualNorm.{MultigridResidualNorm}
 use Rattle.options.specs.declared.MultigridSmoother.{MultigridSmoother}
-use Rattle.refusal.specs.declared.Verdict.{Verdict}
-use Rattle.refusal.specs.Outcome.{Outcome, accepted, verdictOf, _>>=_, _>>_}
 use Rattle.matrix.specs.Kernel.{kernelAt, rowSumsOf, KernelOk}
-use Rattle.hierarchy.specs.Level.{Hierarchy}
-use Rattle.hierarchy.specs.Refresh.{needsSums, withSums}
+use Rattle.hierarchy.specs.Refresh.{needsSums}
 use Rattle.layout.specs.declared.Place.{Place}
-use Rattle.layout.specs.Layout.{rowsAt, entriesAt, locate, imageEnd, viewOf}
+use Rattle.layout.specs.Layout.{rowsAt, entriesAt, locate, imageEnd}
 use Rattle.layout.specs.Parts.{kernelIn}
 use Rattle.sound.specs.Contract.{PlaceOk}
-use Rattle.renewing.specs.Update.{renewOf}
-use Rattle.renewing.specs.Steps.{Chain, shapesAt}
+use Rattle.renewing.specs.Steps.{Chain}
 
 -- where the image ends
 abbrev pub imageOf : ℕ → List ℕ → ℕ
@@ -28,17 +24,16 @@ imageOf levels w = imageEnd levels w 0 0 + rowsAt w 0
 
 -- ---- the row sums
 
--- where the row sums of the finest level start in a shadow that starts at `image`: they end it
+-- where the row sums of the finest level start: they end the image
 abbrev pub sumsStart : List ℕ → ℕ → ℕ
-sumsStart w image = 2 * image - rowsAt w 0
+sumsStart w image = image - rowsAt w 0
 
 -- What they require.
 pub record SumOk (w : List ℕ) (size image : ℕ) : Type 0 where
-  pub place : PlaceOk w 0 image
-  pub kernel : KernelOk w (sumsStart w image) (kernelIn (locate w 0 image))
-  pub within : rowsAt w 0 ≤ 2 * image
-  pub room : 2 * image ≤ size
-  pub fits : size ≤ 18446744073709551615
+  pub place : PlaceOk w 0 0
+  pub kernel : KernelOk w (sumsStart w image) (kernelIn (locate w 0 0))
+  pub within : rowsAt w 0 ≤ image
+  pub room : image ≤ size
 
 -- the row sums of the level at p, if the norm needs them
 abbrev pub sumsAt : MultigridResidualNorm → List ℕ → List Float → Place → List Float
@@ -46,9 +41,13 @@ sumsAt norm w F p = cond (needsSums norm) (rowSumsOf (kernelAt (kernelIn p) w F)
 
 -- What they ensure.
 pub record Summed (w : List ℕ) (F G : List Float) (norm : MultigridResidualNorm) (image : ℕ) : Type 0 where
-  pub wrote : Wrote (sumsStart w image) (rowsAt w 0) (sumsAt norm w F (locate w 0 image)) F G
+  pub wrote : Wrote (sumsStart w image) (rowsAt w 0) (sumsAt norm w F (locate w 0 0)) F G
 
 -- ---- the shadow
+
+-- What holds under all options with that smoother: of the options the levels need no more.
+abbrev pub Smoothed : MultigridSmoother → (MultigridOptions → Type 0) → Type 0
+Smoothed kind holds = (o : MultigridOptions) → o .smoother ≡ kind → holds o
 
 -- What holds under all options with that smoother and that norm: of the options an update reads no more.
 abbrev pub With : MultigridSmoother → MultigridResidualNorm → (MultigridOptions → Type 0) → Type 0
@@ -61,15 +60,3 @@ pub record ShadowOk (levels : ℕ) (w : List ℕ) (size count image : ℕ) : Typ
   pub is : image ≡ imageOf levels w
   pub room : 2 * image ≤ size
   pub many : count ≡ entriesAt w 0
-
--- the hierarchy of so many levels from the finest values
-abbrev pub shadowOf : MultigridOptions → ℕ → List ℕ → List Float → Outcome Hierarchy
-shadowOf o levels w values = do
-  ls ← renewOf o 0 (shapesAt levels w 0) values
-  accepted (withSums o ls)
-
--- The answer, and where it accepts, the hierarchy in the shadow. Below the shadow nothing changed.
-pub record ShadowDone (o : MultigridOptions) (levels : ℕ) (w : List ℕ) (F G values : List Float) (image : ℕ) (r : Verdict) : Type 0 where
-  pub answer : r ≡ verdictOf (shadowOf o levels w values)
-  pub view : (h : Hierarchy) → shadowOf o levels w values ≡ accepted h → viewOf levels w G image ≡ h
-  pub kept : Kept image F G

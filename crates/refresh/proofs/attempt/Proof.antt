@@ -1,7 +1,7 @@
 -- `refresh::attempt` meets its contract: questions 31 and 10, the shadow, and the copy.
 -- Assumes nothing.
 use mathlib.Core.Path.{sym, _∙_}
-use Rattle.refresh.proofs.Updating.{ask-ready, start-ready, commit-ready, shadow-ready, attempt-asked-no, attempt-no, attempt-yes}
+use Rattle.refresh.proofs.Updating.{ask-ready, start-ready, commit-ready, sums-ready-at, shadow-ready, attempt-asked-no, attempt-no, attempt-yes}
 use native.Mathlib.Omega.{arith}
 use borrow.Author.Needs.{needs}
 use Rattle.refresh.proofs.attempt.Statement.{statement}
@@ -27,20 +27,40 @@ shadow-requires c κs =
 
 returns-2 : tie.Need-returns-2
 returns-2 c o by under =
-    let start = c .before .before .before .before .before .before .before .before .before .before .before .before .before .before .before in
+    let at-shadow = c .before .before .before .before in
+    let at-start = at-shadow .before .before in
+    let at-pass = at-start .before in
+    let at-asked = at-pass .before .before in
+    let start = at-asked .before .before .before .before .before .before in
     attempt-no (start .args .f .now) (start .pre) o (start .args .offsets .now) (start .args .columns .now) (start .args .values .now)
-    (c .before .before .before .before .before .before .before .before .before .asked .ensures) (sym (c .before .before .before .before .before .before .before .before .refused .ensures) ∙ c .before .before .before .before .before .before .before .if1 .left) (c .before .before .before .before .before .before .scratch-start .ensures)
-    (c .before .before .before .before .shadow .ensures o by under) (sym (c .before .refused2 .ensures) ∙ c .if2 .taken)
+    (at-asked .asked .ensures) (sym (at-pass .before .refused .ensures) ∙ at-pass .if1 .left) (at-start .scratch-start .ensures)
+    (at-shadow .shadow .ensures o by) (sym (c .before .refused2 .ensures) ∙ c .if2 .taken)
 
 commit-requires : tie.Need-commit-requires
 commit-requires c κs = search (commit-ready, needs)
 
+sums-requires : tie.Need-sums-requires
+sums-requires c κs =
+    let at-commit = c .before .before .before in
+    let at-shadow = at-commit .before .before .before .before .before .before in
+    let at-start = at-shadow .before .before in
+    let start = at-start .before .before .before .before .before .before .before .before .before in
+    sums-ready-at (start .pre) (at-start .scratch-start .ensures) (at-commit .commit .ensures .size ∙ at-shadow .shadow .kept .1 .0)
+
 returns-3 : tie.Need-returns-3
 returns-3 c o by under =
-    let start = c .before .before .before .before .before .before .before .before .before .before .before .before .before .before .before .before .before .before .before in
+    let at-sums = c .before .before in
+    let at-commit = at-sums .before .before .before .before in
+    let at-made = at-commit .before .before in
+    let at-shadow = at-made .before .before .before .before in
+    let at-start = at-shadow .before .before in
+    let at-pass = at-start .before in
+    let at-asked = at-pass .before .before in
+    let start = at-asked .before .before .before .before .before .before in
     attempt-yes (start .args .f .now) (start .pre) o (start .args .offsets .now) (start .args .columns .now) (start .args .values .now)
-    (c .before .before .before .before .before .before .before .before .before .before .before .before .before .asked .ensures) (sym (c .before .before .before .before .before .before .before .before .before .before .before .before .refused .ensures) ∙ c .before .before .before .before .before .before .before .before .before .before .before .if1 .left) (c .before .before .before .before .before .before .before .before .before .before .scratch-start .ensures)
-    (c .before .before .before .before .before .before .before .before .shadow .ensures o by under) (sym (c .before .before .before .before .before .refused2 .ensures) ∙ c .before .before .before .before .if2 .left) (c .before .before .commit .ensures)
+    (at-asked .asked .ensures) (sym (at-pass .before .refused .ensures) ∙ at-pass .if1 .left) (at-start .scratch-start .ensures)
+    (at-shadow .shadow .ensures o by) (sym (at-made .before .refused2 .ensures) ∙ at-made .if2 .left) (at-commit .commit .ensures)
+    under (at-sums .sums .ensures)
 
 pub attempt-spec : {M : Type 1} → statement M
 attempt-spec =
@@ -55,5 +75,6 @@ attempt-spec =
     (λ c. search needs)
     returns-2
     commit-requires
+    sums-requires
     (λ c. search needs)
     returns-3)

@@ -2,20 +2,23 @@
 -- of levels left.
 -- Assumes nothing.
 use Prim.Native.Nat.{_-_}
-use Rattle.refresh.proofs.Copying.{commit-place, Copying, copying-start, copying-few, copying-fits, copying-copy, copying-words, copying-next, copying-on, last-fits, last-copy, committed}
+use Rattle.refresh.proofs.Copying.{commit-place, commit-sums, Copying, copying-start, copying-few, copying-fits, copying-copy, copying-words, copying-next, copying-on, last-fits, last-copy, committed}
 use native.Mathlib.Omega.{arith}
 use borrow.Author.Needs.{needs}
 use Rattle.refresh.proofs.commit.Statement.{statement}
 use Rattle.refresh.proofs.commit.Tie as tie
 
 abbrev Inv-loop : tie.InvT-loop
-Inv-loop w f₀ levels image level₀ a₀ p₀ f level a p = Copying levels image level a p w f₀ f
+Inv-loop w f₀ levels image level₀ a₀ p₀ end f level a p = Copying levels image end level a p w f₀ f
 
 abbrev μ-loop : tie.MeasureT-loop
-μ-loop w f₀ levels image level₀ a₀ p₀ f level a p = levels - level
+μ-loop w f₀ levels image level₀ a₀ p₀ end f level a p = levels - level
 
 place-at-requires : tie.Need-place-at-requires Inv-loop μ-loop
 place-at-requires c κs = search (commit-place, needs)
+
+sub-end : tie.Need-sub-end Inv-loop μ-loop
+sub-end c = search (commit-sums, needs)
 
 loop-holds : tie.Need-loop-holds Inv-loop μ-loop
 loop-holds c = search (copying-start, needs)
@@ -66,6 +69,7 @@ commit-spec =
     Inv-loop
     μ-loop
     place-at-requires
+    sub-end
     loop-holds
     add-loop
     sub-copy

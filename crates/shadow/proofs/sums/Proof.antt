@@ -1,7 +1,6 @@
 -- `shadow::sums` meets its contract: zeros, or the row sums of the finest level's kernel.
 -- Assumes nothing.
 use Rattle.shadow.proofs.Summing.{sums-part, sums-room, sum-ready, summed-none, summed-all}
-use native.Mathlib.Omega.{arith}
 use borrow.Author.Needs.{needs}
 use Rattle.shadow.proofs.sums.Statement.{statement}
 use Rattle.shadow.proofs.sums.Tie as tie
@@ -9,11 +8,8 @@ use Rattle.shadow.proofs.sums.Tie as tie
 place-at-requires : tie.Need-place-at-requires
 place-at-requires c κs = c .before .before .pre .place
 
-mul-end : tie.Need-mul-end
-mul-end c = let room = c .before .before .before .pre .room in let fits = c .before .before .before .pre .fits in omega arith
-
-sub-end : tie.Need-sub-end
-sub-end c = sums-part (c .before .before .before .before .pre) (c .before .place-at .ensures)
+sub-start : tie.Need-sub-start
+sub-start c = sums-part (c .before .before .before .before .pre) (c .before .place-at .ensures)
 
 fill-requires : tie.Need-fill-requires
 fill-requires c κs = sums-room (c .before .before .before .before .before .before .before .pre) (c .before .before .before .before .place-at .ensures)
@@ -34,8 +30,7 @@ sums-spec =
     tie.close
     (tie.spec
     place-at-requires
-    mul-end
-    sub-end
+    sub-start
     (λ c. search needs)
     fill-requires
     (λ c. search needs)
