@@ -1,12 +1,13 @@
 -- Question 10's values: those of mirrored entries agree (`is_symmetric` of matrix.rs, with no tolerance). Definitions only.
 use mathlib.Core.Bool.{Bool, _&&_}
 use mathlib.Core.List.{List}
+use mathlib.Core.Path.{_≡_}
 use Prim.Native.Nat.{ℕ, _+_, _≤_, _<_}
 use lib.ListN.{length}
 use lib.Ieee.{Float, eq}
 use Rattle.float.specs.Float.{isFinite}
-use Rattle.store.specs.Region.{at, idx}
-use Rattle.store.specs.Vector.{each}
+use Rattle.store.specs.Region.{at, idx, part, Wrote}
+use Rattle.store.specs.Vector.{tab, each}
 
 -- the test of a pair: both are finite, and they are equal as numbers
 unfoldable pub mirrorsAgree : Float → Float → Bool
@@ -22,3 +23,13 @@ pub record MirrorsOk (w : List ℕ) (size faces upper lower : ℕ) : Type 0 wher
   pub lowers : lower + faces ≤ length w
   pub up : (k : ℕ) → k < faces → idx w (upper + k) < size
   pub low : (k : ℕ) → k < faces → idx w (lower + k) < size
+
+-- what taking the faces' values at `to` leaves: the upper value of each face, and the answer whether all mirrors agree
+pub record Taken (w : List ℕ) (values F G : List Float) (faces upper lower to : ℕ) (r : Bool) : Type 0 where
+  pub agree : r ≡ mirrorsEqual faces (part upper faces w) (part lower faces w) values
+  pub wrote : Wrote to faces (tab (λ k. at values (idx (part upper faces w) k)) faces) F G
+
+-- the same before finiteness is asked: whether the two values of each face are equal as numbers
+pub record Copied (w : List ℕ) (values F G : List Float) (faces upper lower to : ℕ) (r : Bool) : Type 0 where
+  pub equal : r ≡ each (λ k. eq (at values (idx w (upper + k))) (at values (idx w (lower + k)))) faces
+  pub wrote : Wrote to faces (tab (λ k. at values (idx (part upper faces w) k)) faces) F G
