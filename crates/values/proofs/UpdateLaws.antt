@@ -24,7 +24,7 @@ use Rattle.store.proofs.Vector.{length-tab, getD-tab, tab-same, for-each}
 use Rattle.store.proofs.Each.{Tested, both-l, both-r, each-at, tested-start, tested-on, tested-done}
 use Rattle.matrix.specs.declared.SymmetricMatrix.{SymmetricMatrix}
 use Rattle.values.specs.declared.entries.Entries.{Entries}
-use Rattle.values.specs.Update.{isPositive, diagonalAsked, diagonalGood, entryOf, Coefficients, updateOf, updateWith, updateAt, Within, Holds, UpdateOk, Updated, EntriesOk, GivenOk, pickTurn, Inverted, after, RowsTold, RowsAsked}
+use Rattle.values.specs.Update.{isPositive, diagonalAsked, diagonalGood, entryOf, Coefficients, updateOf, updateWith, updateAt, FacesTaken, Within, Holds, UpdateOk, Updated, EntriesOk, GivenOk, pickTurn, Inverted, after, RowsTold, RowsAsked}
 
 -- ---- the frame
 
@@ -257,16 +257,13 @@ faces-entries {w} {F} {D} {G} {v} {s} ok i d h =
     rw i (record { words = ok .sides; near = ok .side; image = ok .image; target = omega arith })
 
 -- The same where the image is given.
-pub rows-given : {w : List ℕ} {size count : ℕ} {s : SymmetricMatrix} {e : Entries} → UpdateOk w size s e → e .entries ≤ count
-    → GivenOk w size (s .rows) count (e .diagonals) (s .diagonal)
-rows-given ok h = record { words = ok .owns; near = λ k q. let b = ok .own k q in omega arith; target = omega arith }
+pub rows-given : {w : List ℕ} {size count to : ℕ} {s : SymmetricMatrix} {e : Entries} → UpdateOk w size s e → e .entries ≤ count → to + s .rows ≤ size
+    → GivenOk w size (s .rows) count (e .diagonals) to
+rows-given ok h room = record { words = ok .owns; near = λ k q. let b = ok .own k q in omega arith; target = room }
 
-pub faces-given : {w : List ℕ} {F D G v : List Float} {s : SymmetricMatrix} {e : Entries} {level faces count b n : ℕ} {r : Verdict} → UpdateOk w (length F) s e
-    → e .entries ≤ count → faces ≡ idx w (s .offsets + s .rows) → Wrote b n v F D → RowsTold level (s .rows) (s .diagonal) (s .inverse) D G r
-    → GivenOk w (length G) faces count (e .faces) (s .coefficients)
-faces-given {w} {F} {D} {G} {v} {s} ok h i d t =
-    let long = told-size d t in
-    rw i (record { words = ok .sides; near = λ k q. let b = ok .side k q in omega arith; target = omega arith })
+pub faces-given : {w : List ℕ} {size count faces : ℕ} {s : SymmetricMatrix} {e : Entries} → UpdateOk w size s e → e .entries ≤ count
+    → faces ≡ idx w (s .offsets + s .rows) → GivenOk w size faces count (e .faces) (s .coefficients)
+faces-given ok h i = rw i (record { words = ok .sides; near = λ k q. let b = ok .side k q in omega arith; target = omega arith })
 
 -- The diagonals taken from U, and their reciprocals.
 module _ {level : ℕ} {w : List ℕ} (U : List Float) {F D G : List Float} {s : SymmetricMatrix} {e : Entries} {v : Verdict} (ok : UpdateOk w (length F) s e)
@@ -300,38 +297,65 @@ module _ {level : ℕ} {w : List ℕ} (U : List Float) {F D G : List Float} {s :
       let no : updateWith level s e w U ≡ refused q = asked _ ∙ rw t in
       record { verdict = rw no; holds = λ k y. let z : _≡_ {A = ℕ} 0 1 = cc in absurd (omega arith); within = wide }
 
-  -- Every row passed, and the faces' values were copied.
-  module _ {H : List Float} {faces : ℕ} (t : v ≡ Verdict.Passed) (i : faces ≡ idx w (s .offsets + s .rows))
-      (c : Wrote (s .coefficients) faces (tab (entryOf (part (e .faces) faces w) U) faces) G H) where
+  -- Every row passed.
+  module _ (t : v ≡ Verdict.Passed) where
+    abbrev count : ℕ
+    count = idx w (s .offsets + s .rows)
+
     abbrev made : Coefficients
     made = record {
       diagonal = tab own (s .rows);
       inverse = tab (λ row. div64 one64 (own row)) (s .rows);
-      coefficients = tab (entryOf (part (e .faces) (idx w (s .offsets + s .rows)) w) U) (length (part (e .faces) (idx w (s .offsets + s .rows)) w));
+      coefficients = tab (entryOf (part (e .faces) count w) U) (length (part (e .faces) count w));
     }
 
     told : updateWith level s e w U ≡ accepted made
     unfolding updateOf after
     told = asked _ ∙ rw t
 
-    made-holds : Holds w s made H
-    made-holds =
+    -- Since then the rows were left alone, and the faces' values stand.
+    settled : {H : List Float} → Within (s .coefficients) (s .inverse + s .rows) F H → part (s .diagonal) (s .rows) H ≡ part (s .diagonal) (s .rows) G
+        → part (s .inverse) (s .rows) H ≡ part (s .inverse) (s .rows) G → FacesTaken w U H s e → Updated w s (updateWith level s e w U) F H Verdict.Passed
+    settled {H} within diags recips faces =
+        let size₁ = d .size in
+        let n : length (part (e .faces) count w) ≡ count = length-part _ _ w (ok .sides) in
+        let holds : Holds w s made H = record {
+          diagonal = diags ∙ wrote-off second (s .diagonal) (s .rows) (omega arith) ∙ wrote-at d (omega arith);
+          inverse = recips ∙ wrote-at second (omega arith);
+          coefficients = rw n faces;
+        } in
+        record { verdict = rw told; holds = λ k y. let same : k ≡ made = cc (told) in rw same holds; within = within }
+
+    -- The faces' values were copied.
+    pub accepts : {H : List Float} {faces : ℕ} → faces ≡ count → Wrote (s .coefficients) faces (tab (entryOf (part (e .faces) faces w) U) faces) G H
+        → Updated w s (updateWith level s e w U) F H Verdict.Passed
+    accepts {H} {faces} i c =
         let size₁ = d .size in
         let size₂ = second .size in
-        let n : length (part (e .faces) (idx w (s .offsets + s .rows)) w) ≡ idx w (s .offsets + s .rows) = length-part _ _ w (ok .sides) in
-        record {
-          diagonal = wrote-off c (s .diagonal) (s .rows) (omega arith) ∙ wrote-off second (s .diagonal) (s .rows) (omega arith) ∙ wrote-at d (omega arith);
-          inverse = wrote-off c (s .inverse) (s .rows) (omega arith) ∙ wrote-at second (omega arith);
-          coefficients = rw n (rw i at (wrote-at c (omega arith)));
-        }
+        settled (within-on wide (within-wrote c (omega arith) (omega arith))) (wrote-off c (s .diagonal) (s .rows) (omega arith))
+        (wrote-off c (s .inverse) (s .rows) (omega arith)) (rw i at (wrote-at c (omega arith)))
 
-    pub accepts : Updated w s (updateWith level s e w U) F H Verdict.Passed
-    accepts =
-        record {
-          verdict = rw told;
-          holds = λ k y. let same : k ≡ made = cc (told) in rw same made-holds;
-          within = within-on wide (within-wrote c (omega arith) (omega arith));
-        }
+    -- They stood there before.
+    pub stands : FacesTaken w U F s e → Updated w s (updateWith level s e w U) F G Verdict.Passed
+    stands h = settled wide refl refl (wrote-off second (s .coefficients) count (omega arith) ∙ wrote-off d (s .coefficients) count (omega arith) ∙ h)
+
+-- The verdict on the rows is that of the whole, where the faces' values stood before.
+pub given-told : {level : ℕ} {w : List ℕ} (U : List Float) {F D G : List Float} {s : SymmetricMatrix} {e : Entries} (v : Verdict) → UpdateOk w (length F) s e
+    → FacesTaken w U F s e → Wrote (s .diagonal) (s .rows) (tab (entryOf (part (e .diagonals) (s .rows) w) U) (s .rows)) F D
+    → RowsTold level (s .rows) (s .diagonal) (s .inverse) D G v → Updated w s (updateWith level s e w U) F G v
+given-told U Verdict.Passed ok h d a = stands U ok d a refl h
+given-told U (Verdict.Refused q) ok h d a = refuses U ok d a refl
+
+-- A copy of the faces' values makes them stand.
+pub faces-stand : {w : List ℕ} (U : List Float) {F G : List Float} {faces : ℕ} {s : SymmetricMatrix} {e : Entries} → UpdateOk w (length F) s e
+    → faces ≡ idx w (s .offsets + s .rows) → Wrote (s .coefficients) faces (tab (entryOf (part (e .faces) faces w) U) faces) F G → FacesTaken w U G s e
+faces-stand U ok i c = rw i at (wrote-at c (omega arith))
+
+-- An update after it is one from where it began.
+pub stand-updated : {w : List ℕ} {v F D G : List Float} {faces : ℕ} {s : SymmetricMatrix} {e : Entries} {o : Outcome Coefficients} {r : Verdict}
+    → UpdateOk w (length F) s e → faces ≡ idx w (s .offsets + s .rows) → Wrote (s .coefficients) faces v F D → Updated w s o D G r → Updated w s o F G r
+stand-updated ok i c u =
+    record { verdict = u .verdict; holds = u .holds; within = within-on (within-wrote c (omega arith) (omega arith)) (u .within) }
 
 -- The image stands below what is written, and so it is the same for the faces.
 module _ {level : ℕ} {w : List ℕ} {F D G : List Float} {s : SymmetricMatrix} {e : Entries} {v : Verdict} (ok : UpdateOk w (length F) s e)

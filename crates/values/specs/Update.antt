@@ -59,6 +59,12 @@ updateWith level s e w values =
 abbrev pub updateAt : ℕ → SymmetricMatrix → Entries → List ℕ → List Float → Outcome Coefficients
 updateAt level s e w F = updateWith level s e w (part (e .values) (e .entries) F)
 
+-- the faces' values among `values` already stand where the coefficients of s are
+abbrev pub FacesTaken : List ℕ → List Float → List Float → SymmetricMatrix → Entries → Type 0
+FacesTaken w values F s e =
+    let faces = idx w (s .offsets + s .rows) in
+    part (s .coefficients) faces F ≡ tab (entryOf (part (e .faces) faces w) values) faces
+
 -- The frame of a function that writes only from lo up to hi: elsewhere, G is F.
 pub record Within {A : Type 0} (lo hi : ℕ) (F G : List A) : Type 0 where
   pub below : take lo G ≡ take lo F

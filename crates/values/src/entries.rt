@@ -4,7 +4,7 @@ ghost use Prim.Native.Nat.{_+_, _≤_};
 ghost use lib.ListN.{length};
 ghost use Rattle.store.specs.Region.{part, Wrote};
 ghost use Rattle.store.specs.Vector.{tab};
-ghost use Rattle.values.specs.Update.{isPositive, entryOf, updateWith, updateAt, UpdateOk, Updated, EntriesOk, GivenOk, Inverted, RowsTold, RowsAsked};
+ghost use Rattle.values.specs.Update.{isPositive, entryOf, updateWith, updateAt, FacesTaken, UpdateOk, Updated, EntriesOk, GivenOk, Inverted, RowsTold, RowsAsked};
 use matrix::SymmetricMatrix;
 use refusal::Refusal;
 use refusal::Verdict;
@@ -114,7 +114,7 @@ pub fn update(w: &[u32], f: &mut [f64], s: SymmetricMatrix, e: Entries, level: u
 }
 
 // The values of n entries of `given`, copied to `to` without a test.
-fn pick_given(w: &[u32], given: &[f64], f: &mut [f64], n: usize, places: usize, to: usize)
+pub fn pick_given(w: &[u32], given: &[f64], f: &mut [f64], n: usize, places: usize, to: usize)
     requires { ⌜ GivenOk (now w) (length (now f)) n (length (now given)) places to ⌝ }
     ensures { λ _. ⌜ Wrote to n (tab (entryOf (part places n (now (w .entry))) (now (given .entry))) n) (now (f .entry)) (now (f .exit)) ⌝ }
 {
@@ -127,7 +127,8 @@ fn pick_given(w: &[u32], given: &[f64], f: &mut [f64], n: usize, places: usize, 
     }
 }
 
-// The same as `update`, of an image that is given in a slice of its own.
+// The same as `update`, of an image that is given in a slice of its own. The faces' values stand already where the coefficients are,
+// taken when their mirrors were compared.
 pub fn update_given(
     w: &[u32],
     given: &[f64],
@@ -138,16 +139,9 @@ pub fn update_given(
 ) -> Verdict
     requires { ⌜ UpdateOk (now w) (length (now f)) s e ⌝ }
     requires { ⌜ e .entries ≤ length (now given) ⌝ }
+    requires { ⌜ FacesTaken (now w) (now given) (now f) s e ⌝ }
     ensures { λ r. ⌜ Updated (now (w .entry)) s (updateWith level s e (now (w .entry)) (now (given .entry))) (now (f .entry)) (now (f .exit)) r ⌝ }
 {
-    let faces = store::wide(w[s.offsets + s.rows]);
     pick_given(w, given, f, s.rows, e.diagonals, s.diagonal);
-    let asked = settle(f, s.rows, s.diagonal, s.inverse, level);
-    match asked {
-        Verdict::Passed => {
-            pick_given(w, given, f, faces, e.faces, s.coefficients);
-            Verdict::Passed
-        }
-        Verdict::Refused(refusal) => Verdict::Refused(refusal),
-    }
+    settle(f, s.rows, s.diagonal, s.inverse, level)
 }

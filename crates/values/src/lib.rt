@@ -2,5 +2,6 @@
 mod entries;
 
 pub use entries::Entries;
+pub use entries::pick_given;
 pub use entries::update;
 pub use entries::update_given;
