@@ -8,7 +8,7 @@ use native.Mathlib.Omega.{arith}
 use lib.ListN.{length}
 use lib.Ieee.{Float}
 use Rattle.store.specs.Region.{Kept}
-use Rattle.store.proofs.Region.{kept-self}
+use Rattle.store.proofs.Region.{kept-on}
 use Rattle.options.specs.declared.Handle.{Handle}
 use Rattle.options.specs.declared.MultigridOptions.{MultigridOptions}
 use Rattle.options.specs.declared.MultigridResidualNorm.{MultigridResidualNorm}
@@ -21,15 +21,17 @@ use Rattle.mirrors.specs.Mirrors.{mirrorsEqual}
 use Rattle.hierarchy.specs.Level.{Shape, Level, Hierarchy}
 use Rattle.hierarchy.specs.Refresh.{withSums}
 use Rattle.hierarchy.proofs.Accepted.{ask-split}
-use Rattle.layout.specs.Layout.{entriesAt, wordsEnd, levelsAt, viewOf}
+use Rattle.layout.specs.Layout.{entriesAt, locate, wordsEnd, floatsEnd, levelsAt, viewOf}
+use Rattle.layout.proofs.Views.{floats-to}
 use Rattle.sound.specs.Sound.{shapeIn, scratchStart}
 use Rattle.sound.specs.Contract.{LevelsOk}
 use Rattle.renewing.specs.Update.{samePattern, renewOf, updateOf}
 use Rattle.renewing.specs.Steps.{shapesAt, Renewed}
 use Rattle.renewing.proofs.Chains.{Opened, opened}
 use Rattle.standing.proofs.Outcomes.{never, told-accepted, told-refused}
-use Rattle.renewing.proofs.Renewing.{shapes-some}
-use Rattle.samepattern.specs.Arrays.{askedOf, AskOk}
+use Rattle.renewing.proofs.Renewing.{shapes-some, floats-end}
+use Rattle.renewlevel.specs.Level.{FacesReady}
+use Rattle.samepattern.specs.Arrays.{askedOf, AskOk, Asked}
 use Rattle.samepattern.proofs.Questions.{many-values}
 use Rattle.shadow.specs.Shadow.{imageOf, SumOk, Summed, With, ShadowOk}
 use Rattle.shadow.proofs.Moving.{shapes-are, view-stays}
@@ -54,19 +56,6 @@ module _ {levels : ℕ} {w : List ℕ} {size : ℕ} (ok : AttemptOk levels w siz
       let room = ok .room in
       opened (record { walk = ok .walk; room = omega arith; few = omega arith; fits = ok .fits }) (ok .some)
 
-  -- What the questions require.
-  pub ask-ready : AskOk w
-  ask-ready =
-      let o = finest in
-      let heads = o .here .heads in
-      record {
-        place = o .place;
-        inside = heads;
-        pattern = record { offsets = omega arith; columns = omega arith };
-        uppers = o .here .uppers;
-        lowers = o .here .lowers;
-      }
-
   -- What the start of the scratch requires.
   pub start-ready : LevelsOk w levels
   start-ready = record { sound = ok .walk; some = ok .some; few = ok .few }
@@ -75,6 +64,26 @@ module _ {levels : ℕ} {w : List ℕ} {size : ℕ} (ok : AttemptOk levels w siz
     -- Half of what lies below it is the image.
     image-is : start / 2 ≡ imageOf levels w
     image-is = omega arith
+
+    -- What the questions require.
+    pub ask-ready : AskOk w size (start / 2)
+    ask-ready =
+        let o = finest in
+        let heads = o .here .heads in
+        let is = image-is in
+        let room = ok .room in
+        let fits = ok .fits in
+        let opens = o .is in
+        let up = floats-to (levels - 1) w (wordsEnd w 0) (floatsEnd w 0 0) in
+        let e = floats-end w 0 0 in
+        record {
+          place = record { head = o .place .head; floats = omega arith };
+          inside = heads;
+          pattern = record { offsets = omega arith; columns = omega arith };
+          uppers = o .here .uppers;
+          lowers = o .here .lowers;
+          room = omega arith;
+        }
 
     -- What the copy requires.
     pub commit-ready : {now : ℕ} → now ≡ size → CommitOk levels w now (start / 2)
@@ -93,7 +102,7 @@ module _ {levels : ℕ} {w : List ℕ} {size : ℕ} (ok : AttemptOk levels w siz
     pub sums-ready-at : {now : ℕ} → now ≡ size → SumOk w now (start / 2)
     sums-ready-at e = let c = commit-ready e in let room = c .room in sums-ready (c .some) (c .is) (c .chain) (omega arith)
 
-    module _ (offsets columns : List ℕ) (values : List Float) {v : Verdict} (told : v ≡ verdictOf (askedOf (shapeIn w 0) offsets columns values))
+    module _ {A B : List Float} (offsets columns : List ℕ) (values : List Float) {v : Verdict} (told : Asked w A B offsets columns values (start / 2) v)
         (pass : isRefused v ≡ false) where
       -- There are as many values as entries.
       many : length values ≡ entriesAt w 0
@@ -102,17 +111,22 @@ module _ {levels : ℕ} {w : List ℕ} {size : ℕ} (ok : AttemptOk levels w siz
           many-values offsets columns values ask-ready
           (ask-split (samePattern s offsets columns values) otherPattern
           (ask (mirrorsEqual (length (s .uppers)) (s .uppers) (s .lowers) values) unequalMirrors passed)
-          (passes (askedOf s offsets columns values) told (went-on v pass)) .0)
+          (passes (askedOf s offsets columns values) (told .answer) (went-on v pass)) .0)
+
+      -- The coefficients of the finest level stand in the shadow.
+      pub faces-ready : FacesReady w values B (locate w 0 (start / 2))
+      faces-ready = told .taken (went-on v pass)
 
       -- What the shadow requires.
-      pub shadow-ready : ShadowOk levels w size (length values) (start / 2)
-      shadow-ready =
+      pub shadow-ready : {now : ℕ} → now ≡ size → ShadowOk levels w now (length values) (start / 2)
+      shadow-ready {now} same =
           let few = ok .few in
           let room = ok .room in
           let is = image-is in
           let far = shadow-end levels w (start / 2) in
+          let fits : now ≤ 18446744073709551615 = omega (arith, ok .fits) in
           record {
-            chain = record { walk = ok .walk; room = omega arith; few = omega arith; fits = ok .fits };
+            chain = record { walk = ok .walk; room = omega arith; few = omega arith; fits = fits };
             some = ok .some;
             is = is;
             room = omega arith;
@@ -160,24 +174,27 @@ module _ {levels : ℕ} {w : List ℕ} (F : List Float) (ok : AttemptOk levels w
         size = k .size;
       }
 
-  module _ {v : Verdict} (told : v ≡ verdictOf asked) where
-    -- Question 31 or 10 refuses.
-    pub attempt-asked-no : isRefused v ≡ true → Attempted levels w F F out v
+  module _ {start : ℕ} (at : start ≡ scratchStart levels w) {E : List Float} {v : Verdict} (told : Asked w F E offsets columns values (start / 2) v) where
+    -- Question 31 or 10 refuses: nothing below the shadow was written.
+    pub attempt-asked-no : isRefused v ≡ true → Attempted levels w F E out v
     attempt-asked-no stop =
-        let no = told-refused asked told stop in
-        refused-done (out-is ∙ then-refused asked (λ _. summed) (no .1)) (no .2) kept-self
+        let no = told-refused asked (told .answer) stop in
+        refused-done (out-is ∙ then-refused asked (λ _. summed) (no .1)) (no .2) (subst (λ (n : ℕ). Kept n F E) (image-is ok at) (told .kept))
 
-    module _ (pass : isRefused v ≡ false) {start : ℕ} (at : start ≡ scratchStart levels w) {G : List Float} {r : Verdict}
-        (done : Renewed o levels 0 w values F G 0 (start / 2) r) where
+    module _ (pass : isRefused v ≡ false) {G : List Float} {r : Verdict} (done : Renewed o levels 0 w values E G 0 (start / 2) r) where
+      -- What the levels leave.
+      frame : Kept (start / 2) F G
+      frame = kept-on (told .kept) (done .kept)
+
       -- Once 31 and 10 have passed, the levels are renewed.
       through : out ≡ summed
-      through = out-is ∙ then-accepted asked (λ _. summed) (passes asked told (went-on v pass))
+      through = out-is ∙ then-accepted asked (λ _. summed) (passes asked (told .answer) (went-on v pass))
 
       -- A level refuses: nothing below the shadow was written.
       pub attempt-no : isRefused r ≡ true → Attempted levels w F G out r
       attempt-no stop =
           let no = told-refused renewed (done .answer) stop in
-          refused-done (through ∙ then-refused renewed (λ ls. accepted (withSums o ls)) (no .1)) (no .2) (subst (λ (n : ℕ). Kept n F G) (image-is ok at) (done .kept))
+          refused-done (through ∙ then-refused renewed (λ ls. accepted (withSums o ls)) (no .1)) (no .2) (subst (λ (n : ℕ). Kept n F G) (image-is ok at) frame)
 
       -- The levels of the shadow are those of the image, and the row sums are made.
       pub attempt-yes : isRefused r ≡ false → {H : List Float} → Committed levels w G H (start / 2)
@@ -188,7 +205,7 @@ module _ {levels : ℕ} {w : List ℕ} (F : List Float) (ok : AttemptOk levels w
           let is-out : out ≡ accepted (withSums o (a .0)) = through ∙ then-accepted renewed (λ ls. accepted (withSums o ls)) (a .1) in
           let room = ok .room in
           let im = image-is ok at in
-          let size : length H ≡ length F = copied .size ∙ done .kept .size in
+          let size : length H ≡ length F = copied .size ∙ frame .size in
           let view : viewOf levels w K 0 ≡ withSums o (levelsAt levels w H 0 0) = with-sums (ok .some) im o under (omega arith) sums in
           record {
             answer = went-on r go ∙ sym (ap verdictOf is-out);

@@ -47,12 +47,12 @@ fn attempt(
     requires { ⌜ AttemptOk levels (now w) (length (now f)) ⌝ }
     ensures { λ r. ⌜ With kind norm (λ o. Attempted levels (now (w .entry)) (now (f .entry)) (now (f .exit)) (attemptOf o levels (now (w .entry)) (now (f .entry)) (now (offsets .entry)) (now (columns .entry)) (now (values .entry))) r) ⌝ }
 {
-    let asked = samepattern::asked(w, offsets, columns, values);
+    // The image and its shadow end where the scratch of a solve starts.
+    let image = sound::scratch_start(w, levels) / 2;
+    let asked = samepattern::asked(w, f, offsets, columns, values, image);
     if asked.refused() {
         return asked;
     }
-    // The image and its shadow end where the scratch of a solve starts.
-    let image = sound::scratch_start(w, levels) / 2;
     let answer = shadow::shadow(w, f, kind, levels, values, image);
     if answer.refused() {
         return answer;

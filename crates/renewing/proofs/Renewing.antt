@@ -31,7 +31,7 @@ use Rattle.sound.specs.Contract.{PlaceOk}
 use Rattle.sound.proofs.Facts.{Here, targetsOf, sumsOf, endsOf}
 use Rattle.standing.specs.Standing.{diagonalsStand}
 use Rattle.renewing.specs.Update.{renewOf}
-use Rattle.renewlevel.specs.Level.{Under, LevelOk, LevelReady, levelOf, levelRenewed, LevelDone, CoarseOk, coarseAt, FirstOk}
+use Rattle.renewlevel.specs.Level.{Under, LevelOk, LevelReady, levelOf, levelRenewed, LevelDone, CoarseOk, coarseAt, FirstOk, FacesReady}
 use Rattle.renewing.specs.Steps.{Chain, TurnOk, turnOf, Turned, shapesAt, renewAt, RenewOk, Renewed, RestOk, StartOk}
 use Rattle.renewing.proofs.Chains.{Opened, opened}
 use Rattle.standing.proofs.Outcomes.{accepts, never, verdict-then, then-then, told-refused}
@@ -573,6 +573,10 @@ module _ {levels image : ℕ} {w : List ℕ} (given F : List Float) (s : StartOk
           let here : part image (entriesAt w 0) E ≡ given = ap (λ (n : ℕ). part image n E) (sym (s .many)) ∙ wrote-at loaded load-room in
           let d : Renewed o levels 0 w given E G 0 image r = rw (is, sub-zero levels, here) at (done o by) in
           record { answer = d .answer; levels = d .levels; kept = kept-on (kept-wrote loaded (omega arith)) (d .kept) }
+
+    -- The faces' values stand at its place.
+    pub faces-ready : FacesReady w given F (locate w 0 image) → FacesReady w given F p
+    faces-ready taken = rw is taken
 
     module _ (more : 2 ≤ levels) where
       -- Where its words end.

@@ -2,7 +2,8 @@
 ghost use Prim.Native.Nat.{_+_, _-_, _≤_};
 ghost use lib.ListN.{length};
 ghost use Rattle.store.specs.Region.{part, Wrote};
-ghost use Rattle.renewlevel.specs.Level.{Under, FirstOk};
+ghost use Rattle.renewlevel.specs.Level.{Under, FirstOk, FacesReady};
+ghost use Rattle.layout.specs.Layout.{locate};
 ghost use Rattle.renewing.specs.Steps.{TurnOk, Turned, RestOk, StartOk, Renewed};
 use layout::Place;
 use refusal::Verdict;
@@ -22,9 +23,10 @@ fn turn(w: &[u32], f: &mut [f64], dic: bool, p: Place, t: Place, level: u64) -> 
     Verdict::Refused(refusal::BAD_COARSE_VALUE)
 }
 
-// The same of the finest level, from values that are given.
+// The same of the finest level, from values that are given; those of the faces stand there already.
 fn first_turn(w: &[u32], given: &[f64], f: &mut [f64], dic: bool, p: Place, t: Place) -> Verdict
     requires { ⌜ FirstOk (now w) (length (now f)) (length (now given)) p t ⌝ }
+    requires { ⌜ FacesReady (now w) (now given) (now f) p ⌝ }
     ensures { λ r. ⌜ Under dic (λ o. Turned (now (w .entry)) (now (given .entry)) (now (f .entry)) (now (f .exit)) o p t 0 r) ⌝ }
 {
     let numbers = renewlevel::first_level(w, given, f, dic, p, 0);
@@ -81,7 +83,8 @@ fn load(f: &mut [f64], from: &[f64], to: usize)
 }
 
 // So many levels, whose floats start at `image`, from the values of the finest, which are given; `dic` tells whether the smoother needs
-// DIC data. The finest level reads them where they are; only where it is the last, which a factor is made of, they are copied.
+// DIC data. The finest level reads them where they are, and its coefficients stand there already; only where it is the last, which a
+// factor is made of, they are copied.
 pub fn renew(
     w: &[u32],
     given: &[f64],
@@ -91,6 +94,7 @@ pub fn renew(
     image: usize,
 ) -> Verdict
     requires { ⌜ StartOk (now w) (length (now f)) (length (now given)) levels image ⌝ }
+    requires { ⌜ FacesReady (now w) (now given) (now f) (locate (now w) 0 image) ⌝ }
     ensures { λ r. ⌜ Under dic (λ o. Renewed o levels 0 (now (w .entry)) (now (given .entry)) (now (f .entry)) (now (f .exit)) 0 image r) ⌝ }
 {
     let p = sound::place_at(w, 0, image);

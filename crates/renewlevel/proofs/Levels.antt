@@ -18,7 +18,7 @@ use Rattle.finite.specs.Finite.{allFinite}
 use Rattle.matrix.specs.declared.SymmetricMatrix.{SymmetricMatrix}
 use Rattle.matrix.specs.Kernel.{kernelAt, KernelOk}
 use Rattle.values.specs.declared.entries.Entries.{Entries}
-use Rattle.values.specs.Update.{Coefficients, updateWith, updateAt, UpdateOk, Updated}
+use Rattle.values.specs.Update.{Coefficients, updateWith, updateAt, FacesTaken, UpdateOk, Updated}
 use Rattle.dic.specs.Dic.{dicOf, settled, Settled, DicOk}
 use Rattle.cholesky.specs.declared.Terminal.{Terminal}
 use Rattle.cholesky.specs.Factor.{choleskyOf}
@@ -27,7 +27,7 @@ use Rattle.galerkin.specs.Values.{sumsOf, symmetrizeOf, FacesOk}
 use Rattle.layout.specs.declared.Place.{Place}
 use Rattle.layout.specs.Parts.{kernelIn, entriesIn, terminalIn}
 use Rattle.standing.specs.Standing.{diagonalStands, diagonalsStand, bareAt}
-use Rattle.renewlevel.specs.Level.{LevelOk, CoefficientsOk, coefficientsAsked, smootherAt, SmootherOk, factorOf, FactorOk, FactorDone, coarseAt, CoarseDone}
+use Rattle.renewlevel.specs.Level.{LevelOk, CoefficientsOk, FacesReady, coefficientsAsked, smootherAt, SmootherOk, factorOf, FactorOk, FactorDone, coarseAt, CoarseDone}
 use Rattle.standing.proofs.Outcomes.{never}
 use Rattle.standing.proofs.Standing.{stand-all, stand-not}
 
@@ -115,9 +115,9 @@ module _ {w : List ℕ} {size : ℕ} {p : Place} (ok : CoefficientsOk w size p) 
   update-ready kernel image = rw (kernel, image) (ok .update)
 
   -- The same where the values are given.
-  pub given-ready : {count : ℕ} → p .entries ≤ count → {k : SymmetricMatrix} {e : Entries} → k ≡ kernelIn p → e ≡ entriesIn p
-      → UpdateOk w size k e × (e .entries ≤ count)
-  given-ready many kernel image = rw (kernel, image) (ok .update, many)
+  pub given-ready : (given F : List Float) → p .entries ≤ length given → FacesReady w given F p → {k : SymmetricMatrix} {e : Entries} → k ≡ kernelIn p
+      → e ≡ entriesIn p → UpdateOk w size k e × ((e .entries ≤ length given) × FacesTaken w given F k e)
+  given-ready given F many taken kernel image = rw (kernel, image) (ok .update, (many, taken))
 
 module _ (w : List ℕ) (values F : List Float) (p : Place) (level : ℕ) {all : Bool} (asked : all ≡ each (diagonalStands (bareAt w p)) (p .rows)) where
   -- what 12 and 13 ask

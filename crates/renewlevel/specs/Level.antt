@@ -13,7 +13,7 @@ use Rattle.refusal.specs.declared.Verdict.{Verdict}
 use Rattle.refusal.specs.Outcome.{Outcome, accepted, verdictOf, _>>=_, _>>_}
 use Rattle.finite.specs.Finite.{allFinite}
 use Rattle.matrix.specs.Kernel.{Kernel, kernelAt}
-use Rattle.values.specs.Update.{Coefficients, updateWith, UpdateOk}
+use Rattle.values.specs.Update.{Coefficients, updateWith, FacesTaken, UpdateOk}
 use Rattle.dic.specs.Dic.{dicOf, DicOk}
 use Rattle.packed.specs.Triangle.{tri}
 use Rattle.cholesky.specs.Factor.{choleskyOf}
@@ -66,6 +66,10 @@ pub record LevelReady (w : List ℕ) (size : ℕ) (p : Place) (last : Bool) (cou
 pub record CoefficientsOk (w : List ℕ) (size : ℕ) (p : Place) : Type 0 where
   pub rows : RowsOk w p
   pub update : UpdateOk w size (kernelIn p) (entriesIn p)
+
+-- the faces' values among those that are given stand where the coefficients of the level at p are
+abbrev pub FacesReady : List ℕ → List Float → List Float → Place → Type 0
+FacesReady w given F p = FacesTaken w given F (kernelIn p) (entriesIn p)
 
 -- these questions, and the coefficients
 abbrev pub coefficientsAsked : ℕ → List ℕ → List Float → Place → Outcome Coefficients

@@ -7,7 +7,7 @@ ghost use Rattle.store.specs.Region.{part};
 ghost use Rattle.values.specs.Update.{Updated};
 ghost use Rattle.dic.specs.Dic.{Settled};
 ghost use Rattle.layout.specs.Parts.{kernelIn, terminalIn};
-ghost use Rattle.renewlevel.specs.Level.{Under, CoefficientsOk, coefficientsAsked, SmootherOk, smootherAt};
+ghost use Rattle.renewlevel.specs.Level.{Under, CoefficientsOk, FacesReady, coefficientsAsked, SmootherOk, smootherAt};
 ghost use Rattle.renewlevel.specs.Level.{FactorOk, FactorDone, LevelOk, LevelReady, LevelDone, CoarseOk, FirstOk, CoarseDone};
 use cholesky::Terminal;
 use layout::Place;
@@ -97,10 +97,11 @@ pub fn coarse_values(w: &[u32], f: &mut [f64], p: Place, t: Place) -> bool
     finite::all_finite(f, t.entries, t.values)
 }
 
-// The coefficients of the level from values that are given: 11, 12 and 13.
+// The coefficients of the level from values that are given, those of the faces stand there already: 11, 12 and 13.
 fn coefficients_given(w: &[u32], given: &[f64], f: &mut [f64], p: Place, level: u64) -> Verdict
     requires { ⌜ CoefficientsOk (now w) (length (now f)) p ⌝ }
     requires { ⌜ p .entries ≤ length (now given) ⌝ }
+    requires { ⌜ FacesReady (now w) (now given) (now f) p ⌝ }
     ensures { λ r. ⌜ Updated (now (w .entry)) (kernelIn p) (coefficientsAsked level (now (w .entry)) (now (given .entry)) p) (now (f .entry)) (now (f .exit)) r ⌝ }
 {
     if standing::all_stand(w, p) {
@@ -127,6 +128,7 @@ pub fn first_level(
 ) -> Verdict
     requires { ⌜ LevelOk (now w) (length (now f)) p 0 ⌝ }
     requires { ⌜ p .entries ≤ length (now given) ⌝ }
+    requires { ⌜ FacesReady (now w) (now given) (now f) p ⌝ }
     ensures { λ r. ⌜ Under dic (λ o. LevelDone (now (w .entry)) (now (given .entry)) (now (f .entry)) (now (f .exit)) o p false 0 level r) ⌝ }
 {
     let own = coefficients_given(w, given, f, p, level);

@@ -6,11 +6,9 @@ ghost use lib.Dec.{eqb};
 ghost use lib.ListN.{length};
 ghost use Rattle.store.specs.Region.{idx, part};
 ghost use Rattle.store.specs.Vector.{each};
-ghost use Rattle.refusal.specs.Outcome.{verdictOf};
-ghost use Rattle.sound.specs.Sound.{shapeIn};
 ghost use Rattle.renewing.specs.Update.{sameList, samePattern};
 ghost use Rattle.standing.specs.Standing.{bareAt};
-ghost use Rattle.samepattern.specs.Arrays.{askedOf, PatternOk, AskOk};
+ghost use Rattle.samepattern.specs.Arrays.{PatternOk, AskOk, Asked};
 use layout::Place;
 use refusal::Verdict;
 
@@ -50,14 +48,22 @@ fn same_pattern(w: &[u32], p: Place, offsets: &[u32], columns: &[u32], values: &
         & (values.len() == columns.len())
 }
 
-// Questions 31 and 10.
-pub fn asked(w: &[u32], offsets: &[u32], columns: &[u32], values: &[f64]) -> Verdict
-    requires { ⌜ AskOk (now w) ⌝ }
-    ensures { λ r. ⌜ r ≡ verdictOf (askedOf (shapeIn (now (w .entry)) 0) (now (offsets .entry)) (now (columns .entry)) (now (values .entry))) ⌝ }
+// Questions 31 and 10. The values that 10 compares are the coefficients of the finest level: they are taken to its place in the shadow,
+// which starts at `image`.
+pub fn asked(
+    w: &[u32],
+    f: &mut [f64],
+    offsets: &[u32],
+    columns: &[u32],
+    values: &[f64],
+    image: usize,
+) -> Verdict
+    requires { ⌜ AskOk (now w) (length (now f)) image ⌝ }
+    ensures { λ r. ⌜ Asked (now (w .entry)) (now (f .entry)) (now (f .exit)) (now (offsets .entry)) (now (columns .entry)) (now (values .entry)) image r ⌝ }
 {
-    let p = sound::place_at(w, 0, 0);
+    let p = sound::place_at(w, 0, image);
     if same_pattern(w, p, offsets, columns, values) {
-        if mirrors::equal_mirrors(w, values, p.faces, p.uppers, p.lowers) {
+        if mirrors::take_faces(w, values, f, p.faces, p.uppers, p.lowers, p.coefficients) {
             return Verdict::Passed;
         }
         return Verdict::Refused(refusal::UNEQUAL_MIRRORS);

@@ -2,6 +2,8 @@
 ghost use mathlib.Core.Path.{_≡_};
 ghost use lib.ListN.{length};
 ghost use Rattle.hierarchy.specs.Refresh.{needsDic};
+ghost use Rattle.layout.specs.Layout.{locate};
+ghost use Rattle.renewlevel.specs.Level.{FacesReady};
 ghost use Rattle.renewing.specs.Steps.{Renewed};
 ghost use Rattle.shadow.specs.Shadow.{SumOk, Summed, Smoothed, ShadowOk};
 use options::MultigridResidualNorm;
@@ -19,7 +21,7 @@ fn needs_dic(kind: MultigridSmoother) -> bool
     }
 }
 
-// The levels of the new image in the shadow, which starts where the old image ends.
+// The levels of the new image in the shadow, which starts where the old image ends and already has the coefficients of the finest.
 pub fn shadow(
     w: &[u32],
     f: &mut [f64],
@@ -29,6 +31,7 @@ pub fn shadow(
     image: usize,
 ) -> Verdict
     requires { ⌜ ShadowOk levels (now w) (length (now f)) (length (now values)) image ⌝ }
+    requires { ⌜ FacesReady (now w) (now values) (now f) (locate (now w) 0 image) ⌝ }
     ensures { λ r. ⌜ Smoothed kind (λ o. Renewed o levels 0 (now (w .entry)) (now (values .entry)) (now (f .entry)) (now (f .exit)) 0 image r) ⌝ }
 {
     renewing::renew(w, values, f, needs_dic(kind), levels, image)

@@ -9,7 +9,9 @@ all-stand-requires : tie.Need-all-stand-requires
 all-stand-requires c κs = c .before .before .before .pre .0 .rows
 
 update-given-requires : tie.Need-update-given-requires
-update-given-requires c κs = given-ready (c .before .before .before .before .before .before .before .before .pre .0) (c .before .before .before .before .before .before .before .before .pre .1) (c .before .kernel-in .ensures) (c .entries-in .ensures)
+update-given-requires c κs =
+    let start = c .before .before .before .before .before .before .before .before in
+    given-ready (start .pre .0) (start .args .given .now) (start .args .f .now) (start .pre .1 .0) (start .pre .1 .1) (c .before .kernel-in .ensures) (c .entries-in .ensures)
 
 returns : tie.Need-returns
 returns c =

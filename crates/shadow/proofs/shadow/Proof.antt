@@ -6,7 +6,7 @@ use Rattle.shadow.proofs.shadow.Statement.{statement}
 use Rattle.shadow.proofs.shadow.Tie as tie
 
 renew-requires : tie.Need-renew-requires
-renew-requires c κs = renew-ready (c .before .before .before .before .before .pre)
+renew-requires c κs = let start = c .before .before .before .before .before in (renew-ready (start .pre .0), start .pre .1)
 
 returns : tie.Need-returns
 returns c = shadowed (c .before .before .before .needs-dic .ensures) (c .before .before .renew .ensures)
