@@ -9,7 +9,7 @@ use native.Mathlib.Nat.{not-suc-le-zero}
 use native.Mathlib.Omega.{arith}
 use lib.Dec.{leb, ltb}
 use lib.ListN.{length}
-use borrow.Author.Tests.{le-leb, lt-leb, lt-ltb, le-ltb, eq-eqb, ne-eqb}
+use borrow.Author.Tests.{leb-true, le-leb, lt-leb, lt-ltb, le-ltb, eq-eqb, ne-eqb}
 use Rattle.store.specs.Region.{idx, part}
 use Rattle.store.specs.Vector.{each}
 use Rattle.store.proofs.Each.{both-l, both-r, each-at, each-same, Tested, tested-done, Passed, passed-on, passed-yes, passed-no}
@@ -20,9 +20,16 @@ use Rattle.layout.proofs.Places.{ends-last, ends-inner, ends-above}
 use Rattle.sound.specs.Sound.{allBelow, headSound, shapeIn, arraysSound, rowSound, linked}
 use Rattle.sound.specs.Contract.{WordAt}
 use Rattle.sound.proofs.Laws.{Head}
-use Rattle.soundlevel.specs.Contract.{sizesFit, ArraysOk, arraysAt, RowOk, riseAt, RowsOk, RowsPassed}
+use Rattle.soundlevel.specs.Contract.{sizesFit, FacesFit, facesAt, RowOk, riseAt, RowsOk, RowsPassed}
 
 -- ---- numbers below a bound
+
+-- Four tests in another order.
+crossed : (a b c d : Bool) → a && b && (c && d) ≡ a && c && (b && d)
+crossed true b true d = refl
+crossed true true false d = refl
+crossed true false false d = refl
+crossed false b c d = refl
 
 -- the test of the number at from + k
 abbrev pub belowAt : List ℕ → ℕ → ℕ → ℕ → Bool
@@ -52,6 +59,51 @@ module _ (w : List ℕ) (from n bound : ℕ) (fits : from + n ≤ length w) wher
 pub below-tested : (w : List ℕ) (from n bound : ℕ) → from + n ≤ length w → {k : ℕ} {ok : Bool} → Tested (belowAt w from bound) n k ok → n ≤ k
     → ok ≡ allBelow bound (part from n w)
 below-tested w from n bound fits t h = tested-done t h ∙ below-is w from n bound fits
+
+-- Two tests made side by side at each index tell what each of them tells of all.
+each-both : (p q : ℕ → Bool) (n : ℕ) → each (λ k. p k && q k) n ≡ each p n && each q n
+unfolding each
+each-both p q zero = refl
+each-both p q (suc n) = rw (each-both p q n) (crossed (each p n) (each q n) (p n) (q n))
+
+-- Two bounds that a u32 holds.
+pub both-narrow : (a b m : ℕ) → leb a m && leb b m ≡ true → (a ≤ m) × (b ≤ m)
+both-narrow a b m t = (leb-true a m (both-l (leb a m) (leb b m) t), leb-true b m (both-r (leb a m) (leb b m) t))
+
+-- the tests of the numbers at first + k and at second + k
+abbrev pub twoAt : List ℕ → ℕ → ℕ → ℕ → ℕ → ℕ → Bool
+twoAt w first second low high k = belowAt w first low k && belowAt w second high k
+
+-- Two arrays that have been tested side by side.
+pub two-tested : (w : List ℕ) (first second n low high : ℕ) → first + n ≤ length w → second + n ≤ length w → {k : ℕ} {ok : Bool}
+    → Tested (twoAt w first second low high) n k ok → n ≤ k → ok ≡ allBelow low (part first n w) && allBelow high (part second n w)
+two-tested w first second n low high fits fits' t h =
+    tested-done t h ∙ each-both (belowAt w first low) (belowAt w second high) n ∙ rw (below-is w first n low fits, below-is w second n high fits')
+
+-- the tests of face k of a place
+abbrev pub faceAt : List ℕ → Place → ℕ → ℕ → ℕ → Bool
+faceAt w p rows entries k = belowAt w (p .neighbors) rows k && belowAt w (p .uppers) entries k && belowAt w (p .lowers) entries k
+
+-- The faces of a place that have been tested side by side.
+pub faces-tested : (w : List ℕ) (p : Place) (rows entries : ℕ) → FacesFit (length w) p → rows ≡ p .rows → entries ≡ p .entries → {k : ℕ} {ok : Bool}
+    → Tested (faceAt w p rows entries) (p .faces) k ok → p .faces ≤ k → ok ≡ facesAt w p
+unfolding facesAt
+faces-tested w p rows entries fits er ee t h =
+    let n = p .faces in
+    let near : ℕ → Bool = belowAt w (p .neighbors) rows in
+    let upper : ℕ → Bool = belowAt w (p .uppers) entries in
+    let lower : ℕ → Bool = belowAt w (p .lowers) entries in
+    tested-done t h ∙ each-both (λ k. near k && upper k) lower n ∙ ap (λ (b : Bool). b && each lower n) (each-both near upper n)
+    ∙ rw (below-is w (p .neighbors) n rows (fits .neighbors), below-is w (p .uppers) n entries (fits .uppers), below-is w (p .lowers) n entries (fits .lowers), er, ee)
+
+-- the tests that neither offsets nor starts fall after k
+abbrev pub bothRise : List ℕ → ℕ → ℕ → ℕ → Bool
+bothRise w first second k = riseAt w first k && riseAt w second k
+
+-- Two arrays that have been asked side by side whether they fall.
+pub rise-tested : (w : List ℕ) (first second n : ℕ) {k : ℕ} {ok : Bool} → Tested (bothRise w first second) n k ok → n ≤ k
+    → ok ≡ each (riseAt w first) n && each (riseAt w second) n
+rise-tested w first second n t h = tested-done t h ∙ each-both (riseAt w first) (riseAt w second) n
 
 -- No numbers are below any bound.
 below-none : (w : List ℕ) (from bound : ℕ) → allBelow bound (part from 0 w) ≡ true
@@ -125,6 +177,21 @@ pub and-true : (b : Bool) → b && true ≡ b
 and-true true = refl
 and-true false = refl
 
+-- A test that never holds decides.
+and-false : (b : Bool) → b && false ≡ false
+and-false true = refl
+and-false false = refl
+
+-- The last of four tests may be made first.
+last-first : (n u l c : Bool) → n && u && l && c ≡ c && n && u && l
+last-first n u l true = and-true (n && u && l)
+last-first n u l false = and-false (n && u && l)
+
+-- The last but one of six tests may be made first.
+inner-first : (n u l c t s : Bool) → n && u && l && t && (c && s) ≡ c && n && u && l && t && s
+inner-first n u l true t s = refl
+inner-first n u l false t s = and-false (n && u && l && t)
+
 module _ (w : List ℕ) (p : Place) where
   -- The tests of a row, read in the store.
   row-is : {row : ℕ} → RowOk (length w) p row
@@ -146,15 +213,15 @@ module _ (w : List ℕ) (p : Place) where
       → riseAt w (p .offsets) row && riseAt w (p .starts) row && ltb d (p .entries) ≡ rowSound (shapeAt w p false 0) row
   row-told {row} {d} ok at = rw (at .is) (row-is ok)
 
-  -- All rows at once: each test of its own goes over all of them.
-  pub rows-told : {o s d : Bool} → RowsOk (length w) p → o ≡ each (riseAt w (p .offsets)) (p .rows) → s ≡ each (riseAt w (p .starts)) (p .rows)
-      → d ≡ allBelow (p .entries) (part (p .diagonals) (p .rows) w) → o && s && d ≡ true → RowsPassed w p (p .rows)
-  rows-told {o} {s} {d} ok eo es ed t =
+  -- All rows at once: each of the two tests goes over all of them.
+  pub rows-told : {o d : Bool} → RowsOk (length w) p → o ≡ each (riseAt w (p .offsets)) (p .rows) && each (riseAt w (p .starts)) (p .rows)
+      → d ≡ allBelow (p .entries) (part (p .diagonals) (p .rows) w) → o && d ≡ true → RowsPassed w p (p .rows)
+  rows-told {o} {d} ok eo ed t =
       let below : each (belowAt w (p .diagonals) (p .entries)) (p .rows) ≡ true =
-      below-is w (p .diagonals) (p .rows) (p .entries) (ok .diagonals) ∙ sym ed ∙ both-r (o && s) d t in
-      let first = both-l (o && s) d t in
-      let rise : each (riseAt w (p .offsets)) (p .rows) ≡ true = sym eo ∙ both-l o s first in
-      let rise' : each (riseAt w (p .starts)) (p .rows) ≡ true = sym es ∙ both-r o s first in
+      below-is w (p .diagonals) (p .rows) (p .entries) (ok .diagonals) ∙ sym ed ∙ both-r o d t in
+      let first = sym eo ∙ both-l o d t in
+      let rise : each (riseAt w (p .offsets)) (p .rows) ≡ true = both-l _ _ first in
+      let rise' : each (riseAt w (p .starts)) (p .rows) ≡ true = both-r (each (riseAt w (p .offsets)) (p .rows)) _ first in
       record {
         within = omega arith;
         all = each-all (rowSound (shapeAt w p false 0)) (p .rows)
@@ -163,27 +230,50 @@ module _ (w : List ℕ) (p : Place) where
             ∙ rw (each-at _ (p .rows) rise row h, each-at _ (p .rows) rise' row h, each-at _ (p .rows) below row h));
       }
 
+  -- the test of its columns,
+  abbrev columns : Bool
+  columns = allBelow (p .rows) (part (p .columns) (p .entries) w)
+
+  -- and of each array of its faces
+  abbrev near : Bool
+  near = allBelow (p .rows) (part (p .neighbors) (p .faces) w)
+
+  abbrev upper : Bool
+  upper = allBelow (p .entries) (part (p .uppers) (p .faces) w)
+
+  abbrev lower : Bool
+  lower = allBelow (p .entries) (part (p .lowers) (p .faces) w)
+
   module _ (fits : p .columns + p .entries ≤ length w) where
-    -- The arrays of the last level,
-    arrays-last : (targets sums coupled : ℕ)
-        → arraysSound targets sums (shapeAt w p true coupled) ≡ arraysAt w p && allBelow targets (part (p .links) coupled w)
-    unfolding arraysSound arraysAt
+    -- The arrays of the last level, in the order in which the code tests them,
+    arrays-last : (targets sums coupled : ℕ) → facesAt w p && columns && allBelow targets (part (p .links) coupled w)
+        ≡ arraysSound targets sums (shapeAt w p true coupled)
+    unfolding arraysSound facesAt
     arrays-last targets sums coupled =
+        let links = allBelow targets (part (p .links) coupled w) in
         rw (length-part (p .columns) (p .entries) w fits, below-none w (p .positions) sums)
-        (and-true (arraysAt w p && allBelow targets (part (p .links) coupled w)))
+        (ap (λ (b : Bool). b && links) (last-first near upper lower columns) ∙ sym (and-true (columns && near && upper && lower && links)))
 
     -- and of any other.
-    arrays-inner : (targets sums coupled : ℕ) → arraysSound targets sums (shapeAt w p false coupled)
-        ≡ arraysAt w p && allBelow targets (part (p .links) (p .rows) w) && allBelow sums (part (p .positions) (p .entries) w)
-    unfolding arraysSound arraysAt
-    arrays-inner targets sums coupled = rw (length-part (p .columns) (p .entries) w fits)
+    arrays-inner : (targets sums coupled : ℕ) → facesAt w p && allBelow targets (part (p .links) (p .rows) w)
+        && (columns && allBelow sums (part (p .positions) (p .entries) w)) ≡ arraysSound targets sums (shapeAt w p false coupled)
+    unfolding arraysSound facesAt
+    arrays-inner targets sums coupled =
+        rw (length-part (p .columns) (p .entries) w fits)
+        (inner-first near upper lower columns (allBelow targets (part (p .links) (p .rows) w)) (allBelow sums (part (p .positions) (p .entries) w)))
 
 module _ (w : List ℕ) (a : ℕ) {p : Place} (h : Head w a) (q : p ≡ locate w a 0) where
-  -- The arrays of a level with a sound head lie in the store,
-  pub arrays-ok : ArraysOk (length w) p
-  arrays-ok =
+  -- The columns of a level with a sound head lie in the store,
+  pub columns-fit : p .columns + p .entries ≤ length w
+  columns-fit =
       let links = ends-above w a refl refl refl (h .ends) in
-      rw q (record { columns = omega arith; neighbors = omega arith; uppers = omega arith; lowers = omega arith })
+      rw q (omega arith)
+
+  -- so do its faces,
+  pub faces-fit : FacesFit (length w) p
+  faces-fit =
+      let links = ends-above w a refl refl refl (h .ends) in
+      rw q (record { neighbors = omega arith; uppers = omega arith; lowers = omega arith })
 
   -- and so does what is told of each row.
   pub row-ok : {row : ℕ} → row < p .rows → RowOk (length w) p row
@@ -215,10 +305,11 @@ module _ (w : List ℕ) (a : ℕ) {p : Place} (h : Head w a) (q : p ≡ locate w
         rw q (omega arith)
 
     -- The last level.
-    pub last-told : {s u : Bool} → s ≡ arraysAt w p → u ≡ allBelow (p .rows) (part (p .links) coupled w) → s && u ≡ linked 0 w a
-    last-told {s} {u} es eu =
-        let fits = arrays-ok .columns in
-        rw (eq-eqb (idx w (a + 1)) 1 t, es, eu, coupled-is, q) (sym (arrays-last w (locate w a 0) (rw q at fits) (rowsAt w a) 0 (idx w (a + 2))))
+    pub last-told : {s c u : Bool} → s ≡ facesAt w p → c ≡ allBelow (p .rows) (part (p .columns) (p .entries) w)
+        → u ≡ allBelow (p .rows) (part (p .links) coupled w) → s && c && u ≡ linked 0 w a
+    last-told {s} {c} {u} es ec eu =
+        rw (eq-eqb (idx w (a + 1)) 1 t, es, ec, eu, coupled-is, q)
+        (arrays-last w (locate w a 0) (rw q at columns-fit) (rowsAt w a) 0 (idx w (a + 2)))
 
   module _ (t : idx w (a + 1) ≡ 1 → ⊥) where
     -- The links and the positions of another lie in the store.
@@ -230,14 +321,14 @@ module _ (w : List ℕ) (a : ℕ) {p : Place} (h : Head w a) (q : p ≡ locate w
 
     -- A level that another follows.
     pub inner-told : (more : ℕ) {b : ℕ} {next : Place} {s u v : Bool} → 1 ≤ more → b ≡ wordsEnd w a → headSound w b ≡ true → next ≡ locate w b 0
-        → s ≡ arraysAt w p → u ≡ allBelow (next .rows) (part (p .links) (p .rows) w)
-        → v ≡ allBelow (next .entries) (part (p .positions) (p .entries) w) → s && u && v ≡ linked more w a
+        → s ≡ facesAt w p → u ≡ allBelow (next .rows) (part (p .links) (p .rows) w)
+        → v ≡ allBelow (p .rows) (part (p .columns) (p .entries) w) && allBelow (next .entries) (part (p .positions) (p .entries) w)
+        → s && u && v ≡ linked more w a
     inner-told zero o eb hb en es eu ev = absurd (not-suc-le-zero o)
     inner-told (suc more) {b} {next} {s} {u} {v} o eb hb en es eu ev =
-        let fits = arrays-ok .columns in
         let hb' : headSound w (wordsEnd w a) ≡ true = rw eb at hb in
         rw (ne-eqb (idx w (a + 1)) 1 t, hb', es, eu, ev, en, q, eb)
-        (sym (arrays-inner w (locate w a 0) (rw q at fits) (rowsAt w (wordsEnd w a)) (entriesAt w (wordsEnd w a)) 0))
+        (arrays-inner w (locate w a 0) (rw q at columns-fit) (rowsAt w (wordsEnd w a)) (entriesAt w (wordsEnd w a)) 0)
 
 -- ---- the level
 

@@ -14,18 +14,16 @@ use Rattle.sound.specs.Sound.{allBelow, headSound, rowSound}
 unfoldable pub sizesFit : ℕ → ℕ → ℕ → ℕ → Bool
 sizesFit rows entries faces coupled = leb rows 65536 && leb entries 1048576 && leb faces entries && leb coupled rows
 
--- The arrays that every level has lie in a store of that size.
-pub record ArraysOk (size : ℕ) (p : Place) : Type 0 where
-  pub columns : p .columns + p .entries ≤ size
+-- What is told of a level's faces lies in a store of that size.
+pub record FacesFit (size : ℕ) (p : Place) : Type 0 where
   pub neighbors : p .neighbors + p .faces ≤ size
   pub uppers : p .uppers + p .faces ≤ size
   pub lowers : p .lowers + p .faces ≤ size
 
--- the arrays of a place that every level has: each column a row, each face two entries
-unfoldable pub arraysAt : List ℕ → Place → Bool
-arraysAt w p =
-    allBelow (p .rows) (part (p .columns) (p .entries) w)
-    && allBelow (p .rows) (part (p .neighbors) (p .faces) w)
+-- the faces of a place: the column of each is a row, and each stands for two entries
+unfoldable pub facesAt : List ℕ → Place → Bool
+facesAt w p =
+    allBelow (p .rows) (part (p .neighbors) (p .faces) w)
     && allBelow (p .entries) (part (p .uppers) (p .faces) w)
     && allBelow (p .entries) (part (p .lowers) (p .faces) w)
 

@@ -8,7 +8,7 @@ ghost use Rattle.store.specs.Vector.{each};
 ghost use Rattle.layout.specs.Layout.{shapeAt};
 ghost use Rattle.sound.specs.Sound.{allBelow, headSound, linked, rowSound};
 ghost use Rattle.sound.specs.Contract.{HeadOk};
-ghost use Rattle.soundlevel.specs.Contract.{sizesFit, InnerOk, ArraysOk, arraysAt, RowOk, riseAt, RowsOk, RowsPassed};
+ghost use Rattle.soundlevel.specs.Contract.{sizesFit, InnerOk, FacesFit, facesAt, RowOk, riseAt, RowsOk, RowsPassed};
 use layout::Place;
 
 // Whether the n numbers at `from` are below the bound. No branch leaves the loop, so that it takes several numbers at once.
@@ -52,6 +52,34 @@ fn all_below(w: &[u32], from: usize, n: usize, bound: usize) -> bool
     below_wide(w, from, n, bound)
 }
 
+// Whether the n numbers at `first` are below `low` and the n at `second` below `high`. One loop takes several numbers of both at
+// once: two streams come from memory side by side, and no branch leaves it.
+fn two_narrow(w: &[u32], first: usize, second: usize, n: usize, low: u32, high: u32) -> bool
+    requires { ⌜ first + n ≤ length (now w) ⌝ }
+    requires { ⌜ second + n ≤ length (now w) ⌝ }
+    ensures { λ r. ⌜ r ≡ (allBelow low (part first n (now (w .entry))) && allBelow high (part second n (now (w .entry)))) ⌝ }
+{
+    let mut ok = true;
+    let mut k = 0;
+    while k < n {
+        ok = ok & ((w[first + k] < low) & (w[second + k] < high));
+        k += 1;
+    }
+    ok
+}
+
+// The same of any two bounds: those that no u32 holds are tested array by array.
+fn two_below(w: &[u32], first: usize, second: usize, n: usize, low: usize, high: usize) -> bool
+    requires { ⌜ first + n ≤ length (now w) ⌝ }
+    requires { ⌜ second + n ≤ length (now w) ⌝ }
+    ensures { λ r. ⌜ r ≡ (allBelow low (part first n (now (w .entry))) && allBelow high (part second n (now (w .entry)))) ⌝ }
+{
+    if (low <= 4294967295) & (high <= 4294967295) {
+        return two_narrow(w, first, second, n, low as u32, high as u32);
+    }
+    all_below(w, first, n, low) & all_below(w, second, n, high)
+}
+
 // Whether these are the sizes of a matrix that question 1 passes.
 fn sizes_fit(rows: usize, entries: usize, faces: usize, coupled: usize) -> bool
     ensures { λ r. ⌜ r ≡ sizesFit rows entries faces coupled ⌝ }
@@ -88,24 +116,41 @@ fn head_sound(w: &[u32], a: usize) -> bool
     (links + rows + entries <= left) & sizes_fit(rows, entries, faces, 0)
 }
 
-// Each column and each face's column is a row, and each face stands for two entries.
-fn arrays_sound(w: &[u32], p: Place) -> bool
-    requires { ⌜ ArraysOk (length (now w)) p ⌝ }
-    ensures { λ r. ⌜ r ≡ arraysAt (now (w .entry)) p ⌝ }
+// The faces of a level against bounds that a u32 holds: its neighbours, uppers and lowers come from memory side by side, and no
+// branch leaves the loop.
+fn faces_narrow(w: &[u32], p: Place, rows: u32, entries: u32) -> bool
+    requires { ⌜ FacesFit (length (now w)) p ⌝ }
+    requires { ⌜ rows ≡ p .rows ⌝ }
+    requires { ⌜ entries ≡ p .entries ⌝ }
+    ensures { λ r. ⌜ r ≡ facesAt (now (w .entry)) p ⌝ }
 {
-    if !all_below(w, p.columns, p.entries, p.rows) {
-        return false;
+    let n = p.faces;
+    let mut ok = true;
+    let mut k = 0;
+    while k < n {
+        ok = ok
+            & ((w[p.neighbors + k] < rows)
+                & (w[p.uppers + k] < entries)
+                & (w[p.lowers + k] < entries));
+        k += 1;
     }
-    if !all_below(w, p.neighbors, p.faces, p.rows) {
-        return false;
-    }
-    if !all_below(w, p.uppers, p.faces, p.entries) {
-        return false;
-    }
-    all_below(w, p.lowers, p.faces, p.entries)
+    ok
 }
 
-// The level at a as the last one: its coupled rows are rows.
+// Each face's column is a row, and each face stands for two entries.
+fn faces_sound(w: &[u32], p: Place) -> bool
+    requires { ⌜ FacesFit (length (now w)) p ⌝ }
+    ensures { λ r. ⌜ r ≡ facesAt (now (w .entry)) p ⌝ }
+{
+    if (p.rows <= 4294967295) & (p.entries <= 4294967295) {
+        return faces_narrow(w, p, p.rows as u32, p.entries as u32);
+    }
+    all_below(w, p.neighbors, p.faces, p.rows)
+        & all_below(w, p.uppers, p.faces, p.entries)
+        & all_below(w, p.lowers, p.faces, p.entries)
+}
+
+// The level at a as the last one: its columns and its coupled rows are rows.
 fn last_sound(w: &[u32], a: usize) -> bool
     requires { ⌜ HeadOk (now w) a ⌝ }
     ensures { λ r. ⌜ r ≡ linked 0 (now (w .entry)) a ⌝ }
@@ -114,13 +159,17 @@ fn last_sound(w: &[u32], a: usize) -> bool
         return false;
     }
     let p = sound::place_at(w, a, 0);
-    if !arrays_sound(w, p) {
+    if !faces_sound(w, p) {
+        return false;
+    }
+    if !all_below(w, p.columns, p.entries, p.rows) {
         return false;
     }
     all_below(w, p.links, sound::coupled_at(w, a), p.rows)
 }
 
-// The level at a as one that another follows: its aggregates are rows of that one, its positions are entries of it.
+// The level at a as one that another follows: its columns are rows, its aggregates are rows of that one, its positions are entries
+// of it. Columns and positions are as many, so they are tested together.
 fn inner_sound(w: &[u32], a: usize, more: u64) -> bool
     requires { ⌜ InnerOk (now w) a more ⌝ }
     ensures { λ r. ⌜ r ≡ linked more (now (w .entry)) a ⌝ }
@@ -133,14 +182,14 @@ fn inner_sound(w: &[u32], a: usize, more: u64) -> bool
         return false;
     }
     let p = sound::place_at(w, a, 0);
-    if !arrays_sound(w, p) {
+    if !faces_sound(w, p) {
         return false;
     }
     let next = sound::place_at(w, b, 0);
     if !all_below(w, p.links, p.rows, next.rows) {
         return false;
     }
-    all_below(w, p.positions, p.entries, next.entries)
+    two_below(w, p.columns, p.positions, p.entries, p.rows, next.entries)
 }
 
 // The level at a, after which so many come, but for its rows.
@@ -167,30 +216,31 @@ pub fn row_sound(w: &[u32], p: Place, row: usize) -> bool
         & (sound::word_at(w, p.diagonals + row) < p.entries)
 }
 
-// Whether none of the n numbers after the one at `from` is below the one before it. No branch leaves the loop.
-fn never_falls(w: &[u32], from: usize, n: usize) -> bool
-    requires { ⌜ from + n + 1 ≤ length (now w) ⌝ }
-    ensures { λ r. ⌜ r ≡ each (riseAt (now (w .entry)) from) n ⌝ }
+// Whether none of the n numbers after the one at `first` is below the one before it, and none of the n after the one at `second`.
+// Both come from memory side by side, and no branch leaves the loop.
+fn two_rise(w: &[u32], first: usize, second: usize, n: usize) -> bool
+    requires { ⌜ first + n + 1 ≤ length (now w) ⌝ }
+    requires { ⌜ second + n + 1 ≤ length (now w) ⌝ }
+    ensures { λ r. ⌜ r ≡ (each (riseAt (now (w .entry)) first) n && each (riseAt (now (w .entry)) second) n) ⌝ }
 {
     let mut ok = true;
     let mut k = 0;
     while k < n {
-        ok = ok & (w[from + k] <= w[from + k + 1]);
+        ok = ok & ((w[first + k] <= w[first + k + 1]) & (w[second + k] <= w[second + k + 1]));
         k += 1;
     }
     ok
 }
 
-// The row from which the rows of a level are asked one by one: where all of them are sound, none is. Each of the three tests goes over
+// The row from which the rows of a level are asked one by one: where all of them are sound, none is. Each of the two tests goes over
 // all rows by itself, so that it takes several at once.
 pub fn rows_from(w: &[u32], p: Place) -> usize
     requires { ⌜ RowsOk (length (now w)) p ⌝ }
     ensures { λ r. ⌜ RowsPassed (now (w .entry)) p r ⌝ }
 {
-    let offsets = never_falls(w, p.offsets, p.rows);
-    let starts = never_falls(w, p.starts, p.rows);
+    let rise = two_rise(w, p.offsets, p.starts, p.rows);
     let diagonals = all_below(w, p.diagonals, p.rows, p.entries);
-    if offsets & starts & diagonals {
+    if rise & diagonals {
         return p.rows;
     }
     0

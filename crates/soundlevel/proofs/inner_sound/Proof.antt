@@ -3,7 +3,7 @@
 use borrow.Author.Tests.{not-true, not-false}
 use mathlib.Core.Path.{refl, sym, _∙_}
 use Rattle.sound.proofs.Laws.{head-told, head-sizes}
-use Rattle.soundlevel.proofs.Laws.{inner-last, inner-next, arrays-ok, inner-fits, inner-told}
+use Rattle.soundlevel.proofs.Laws.{inner-last, inner-next, faces-fit, columns-fit, inner-fits, inner-told}
 use Rattle.sound.proofs.Sizes.{place-zero}
 use native.Mathlib.Omega.{arith}
 use borrow.Author.Needs.{needs}
@@ -35,8 +35,8 @@ returns-2 c = inner-next (c .before .before .before .before .before .before .arg
 place-at-requires : tie.Need-place-at-requires
 place-at-requires c κs = place-zero _ _ (c .before .before .before .before .before .before .pre .head)
 
-arrays-sound-requires : tie.Need-arrays-sound-requires
-arrays-sound-requires c κs = arrays-ok _ _ (head-told _ _ (c .before .before .before .before .before .before .before .pre .head))
+faces-sound-requires : tie.Need-faces-sound-requires
+faces-sound-requires c κs = faces-fit _ _ (head-told _ _ (c .before .before .before .before .before .before .before .pre .head))
     (c .place-at .ensures)
 
 returns-3 : tie.Need-returns-3
@@ -45,7 +45,7 @@ returns-3 c = inner-told _ _ (head-told _ _ (c .before .before .before .before .
     (c .before .before .before .before .before .before .before .before .before .pre .followed)
     (c .before .before .before .before .before .words-end .ensures)
     (sym (c .before .before .before .before .head-sound .ensures) ∙ not-false _ (c .before .before .before .if2 .left)) refl
-    (sym (not-true _ (c .if3 .taken)) ∙ c .before .arrays-sound .ensures) refl refl
+    (sym (not-true _ (c .if3 .taken)) ∙ c .before .faces-sound .ensures) refl refl
 
 place-at-requires-2 : tie.Need-place-at-requires-2
 place-at-requires-2 c κs = place-zero _ _
@@ -65,14 +65,14 @@ returns-4 c = inner-told _ _
     (c .before .before .before .before .before .before .before .before .words-end .ensures)
     (sym (c .before .before .before .before .before .before .before .head-sound .ensures) ∙ not-false _
     (c .before .before .before .before .before .before .if2 .left)) (c .before .before .place-at2 .ensures)
-    (sym (not-false _ (c .before .before .before .if3 .left)) ∙ c .before .before .before .before .arrays-sound .ensures)
+    (sym (not-false _ (c .before .before .before .if3 .left)) ∙ c .before .before .before .before .faces-sound .ensures)
     (sym (not-true _ (c .if4 .taken)) ∙ c .before .all-below .ensures) refl
 
-all-below-requires-2 : tie.Need-all-below-requires-2
-all-below-requires-2 c κs = inner-fits _ _
-    (head-told _ _ (c .before .before .before .before .before .before .before .before .before .before .before .before .pre .head))
-    (c .before .before .before .before .before .place-at .ensures)
-    (c .before .before .before .before .before .before .before .before .before .if1 .left) .1
+two-below-requires : tie.Need-two-below-requires
+two-below-requires c κs = (
+  columns-fit _ _ (head-told _ _ (c .before .before .before .before .before .before .before .before .before .before .before .before .pre .head)) (c .before .before .before .before .before .place-at .ensures),
+  inner-fits _ _ (head-told _ _ (c .before .before .before .before .before .before .before .before .before .before .before .before .pre .head)) (c .before .before .before .before .before .place-at .ensures) (c .before .before .before .before .before .before .before .before .before .if1 .left) .1,
+)
 
 returns-5 : tie.Need-returns-5
 returns-5 c = inner-told _ _
@@ -83,8 +83,8 @@ returns-5 c = inner-told _ _
     (c .before .before .before .before .before .before .before .before .before .words-end .ensures)
     (sym (c .before .before .before .before .before .before .before .before .head-sound .ensures) ∙ not-false _
     (c .before .before .before .before .before .before .before .if2 .left)) (c .before .before .before .place-at2 .ensures)
-    (sym (not-false _ (c .before .before .before .before .if3 .left)) ∙ c .before .before .before .before .before .arrays-sound .ensures)
-    (sym (not-false _ (c .before .if4 .left)) ∙ c .before .before .all-below .ensures) (c .all-below2 .ensures)
+    (sym (not-false _ (c .before .before .before .before .if3 .left)) ∙ c .before .before .before .before .before .faces-sound .ensures)
+    (sym (not-false _ (c .before .if4 .left)) ∙ c .before .before .all-below .ensures) (c .two-below .ensures)
 
 pub inner-sound-spec : {M : Type 1} → statement M
 inner-sound-spec =
@@ -98,10 +98,10 @@ inner-sound-spec =
     (λ c κs. search needs)
     returns-2
     place-at-requires
-    arrays-sound-requires
+    faces-sound-requires
     returns-3
     place-at-requires-2
     all-below-requires
     returns-4
-    all-below-requires-2
+    two-below-requires
     returns-5)

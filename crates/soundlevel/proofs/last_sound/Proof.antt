@@ -3,7 +3,7 @@
 use borrow.Author.Tests.{not-true, not-false}
 use mathlib.Core.Path.{refl, sym, _∙_}
 use Rattle.sound.proofs.Laws.{head-told, head-sizes}
-use Rattle.soundlevel.proofs.Laws.{last-other, arrays-ok, last-fits, last-told}
+use Rattle.soundlevel.proofs.Laws.{last-other, faces-fit, columns-fit, last-fits, last-told}
 use Rattle.sound.proofs.Sizes.{place-zero}
 use native.Mathlib.Omega.{arith}
 use borrow.Author.Needs.{needs}
@@ -25,23 +25,29 @@ returns c = last-other (c .before .before .before .args .w .now) (c .before .bef
 place-at-requires : tie.Need-place-at-requires
 place-at-requires c κs = place-zero _ _ (c .before .before .before .pre .head)
 
-arrays-sound-requires : tie.Need-arrays-sound-requires
-arrays-sound-requires c κs = arrays-ok _ _ (head-told _ _ (c .before .before .before .before .pre .head)) (c .place-at .ensures)
+faces-sound-requires : tie.Need-faces-sound-requires
+faces-sound-requires c κs = faces-fit _ _ (head-told _ _ (c .before .before .before .before .pre .head)) (c .place-at .ensures)
 
 returns-2 : tie.Need-returns-2
-returns-2 c = last-told _ _ (head-told _ _ (c .before .before .before .before .before .before .pre .head))
-    (c .before .before .place-at .ensures) (c .before .before .before .if1 .left) refl
-    (sym (not-true _ (c .if2 .taken)) ∙ c .before .arrays-sound .ensures) refl
+returns-2 c = last-told _ _ (head-told _ _ (c .before .before .before .before .before .before .pre .head)) (c .before .before .place-at .ensures) (c .before .before .before .if1 .left) refl
+    (sym (not-true _ (c .if2 .taken)) ∙ c .before .faces-sound .ensures) refl refl
 
 all-below-requires : tie.Need-all-below-requires
-all-below-requires c κs = last-fits _ _ (head-told _ _ (c .before .before .before .before .before .before .before .pre .head))
-    (c .before .before .before .place-at .ensures) (c .before .before .before .before .if1 .left) (c .coupled-at .ensures)
+all-below-requires c κs = columns-fit _ _ (head-told _ _ (c .before .before .before .before .before .before .pre .head)) (c .before .before .place-at .ensures)
 
 returns-3 : tie.Need-returns-3
-returns-3 c = last-told _ _ (head-told _ _ (c .before .before .before .before .before .before .before .before .pre .head))
-    (c .before .before .before .before .place-at .ensures) (c .before .before .before .before .before .if1 .left)
-    (c .before .coupled-at .ensures) (sym (not-false _ (c .before .before .if2 .left)) ∙ c .before .before .before .arrays-sound .ensures)
-    (c .all-below .ensures)
+returns-3 c = last-told _ _ (head-told _ _ (c .before .before .before .before .before .before .before .before .pre .head)) (c .before .before .before .before .place-at .ensures) (c .before .before .before .before .before .if1 .left) refl
+    (sym (not-false _ (c .before .before .if2 .left)) ∙ c .before .before .before .faces-sound .ensures)
+    (sym (not-true _ (c .if3 .taken)) ∙ c .before .all-below .ensures) refl
+
+all-below-requires-2 : tie.Need-all-below-requires-2
+all-below-requires-2 c κs = last-fits _ _ (head-told _ _ (c .before .before .before .before .before .before .before .before .before .pre .head)) (c .before .before .before .before .before .place-at .ensures) (c .before .before .before .before .before .before .if1 .left)
+    (c .coupled-at .ensures)
+
+returns-4 : tie.Need-returns-4
+returns-4 c = last-told _ _ (head-told _ _ (c .before .before .before .before .before .before .before .before .before .before .pre .head)) (c .before .before .before .before .before .before .place-at .ensures) (c .before .before .before .before .before .before .before .if1 .left)
+    (c .before .coupled-at .ensures) (sym (not-false _ (c .before .before .before .before .if2 .left)) ∙ c .before .before .before .before .before .faces-sound .ensures)
+    (sym (not-false _ (c .before .before .if3 .left)) ∙ c .before .before .before .all-below .ensures) (c .all-below2 .ensures)
 
 pub last-sound-spec : {M : Type 1} → statement M
 last-sound-spec =
@@ -52,8 +58,10 @@ last-sound-spec =
     shared-slice-read-if1
     returns
     place-at-requires
-    arrays-sound-requires
+    faces-sound-requires
     returns-2
-    (λ c κs. search needs)
     all-below-requires
-    returns-3)
+    returns-3
+    (λ c κs. search needs)
+    all-below-requires-2
+    returns-4)
