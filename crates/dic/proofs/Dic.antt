@@ -1,10 +1,11 @@
 -- The DIC diagonal: the loops over the store compute the definitions over lists, and their ways out.
 -- Assumes nothing.
 use mathlib.Core.Path.{_≡_, refl, sym, ap, _∙_}
-use mathlib.Core.Bool.{Bool, true, false}
+use mathlib.Core.Bool.{Bool, true, false, _&&_}
 use mathlib.Core.List.{List}
 use Prim.Native.Nat.{ℕ, _+_, _≤_, _<_}
 use native.Mathlib.Nat.{add-assoc}
+use native.Mathlib.Numerals.{add-one}
 use native.Mathlib.Omega.{arith}
 use lib.ListN.{length, set, length-set}
 use lib.Seq.{getD-set-other}
@@ -14,20 +15,19 @@ use Rattle.store.specs.Loop.{for}
 use Rattle.store.specs.Region.{at, idx, part, splice, Wrote}
 use Rattle.store.specs.Vector.{tab}
 use Rattle.store.proofs.Loop.{for-map, Left, left-on, left-end, left-stop}
-use Rattle.store.proofs.Region.{length-part, getD-part, getD-splice-in, getD-splice-below, set-splice, splice-part, wrote, wrote-at, wrote-off, wrote-again, kept-wrote}
-use Rattle.store.proofs.Vector.{length-tab, getD-tab, tab-same, for-each}
-use Rattle.store.proofs.Each.{each-at}
+use Rattle.store.proofs.Region.{length-part, getD-part, getD-splice-in, getD-splice-below, getD-splice-above, set-splice, set-splice-end, splice-nil, splice-part, wrote, wrote-at, wrote-off, wrote-again, kept-wrote}
+use Rattle.store.proofs.Vector.{length-tab, getD-tab, tab-same}
+use Rattle.store.proofs.Each.{each-at, each-same, Tested, tested-start, tested-on, tested-done}
 use Rattle.refusal.specs.declared.Refusal.{Refusal}
 use Rattle.refusal.specs.Refusal.{badDicPivot, badDicReciprocal}
 use Rattle.refusal.specs.declared.Verdict.{Verdict}
 use Rattle.refusal.specs.Outcome.{Outcome, accepted, refused, passed, ask, askEach, askFrom}
 use Rattle.refusal.proofs.Outcome.{each-step, each-stop, each-done, each-all, each-alike}
-use Rattle.finite.specs.Finite.{allFinite}
 use Rattle.matrix.specs.declared.SymmetricMatrix.{SymmetricMatrix}
 use Rattle.matrix.specs.Kernel.{Kernel, kernelAt}
 use Rattle.matrix.proofs.Kernel.{kernel-kept}
 use Rattle.sweeps.specs.Sweep.{eachFace}
-use Rattle.dic.specs.Dic.{isPivot, pivotFace, pivotRow, pivotsOf, reciprocalAsked, invertedOf, reciprocalsOf, dicOf, DicOk, settled, Settled, ReciprocalsAsked}
+use Rattle.dic.specs.Dic.{isPivot, pivotFace, pivotRow, pivotsOf, reciprocalAsked, invertedOf, reciprocalsOf, dicOf, DicOk, settled, Settled, Inverted, ReciprocalsAsked}
 use Rattle.dic.specs.Turns.{pivotTurn, PivotRowed}
 
 -- ---- the pivots
@@ -119,18 +119,53 @@ pivots-done p h = record { held = p .vector; wrote = p .wrote; is = sym (left-en
 
 -- ---- the reciprocals
 
--- a turn of `invert`
-unfoldable pub invertTurn : ℕ → ℕ → List Float → List Float
-invertTurn d k F = set F (d + k) (div64 one64 (at F (d + k)))
+module _ (n d : ℕ) (F : List Float) where
+  -- the reciprocals of the first k pivots
+  abbrev recips : ℕ → List Float
+  recips k = tab (λ r. div64 one64 (at F (d + r))) k
 
--- Its loop leaves the reciprocals.
-pub invert-done : {F G : List Float} {n d k : ℕ} → Left (invertTurn d) k n G (for (invertTurn d) 0 n F) → n ≤ k
-    → Wrote d n (invertedOf n (part d n F)) F G
-unfolding invertTurn
-invert-done {F} {G} {n} {d} {k} l h =
-    wrote (left-end l h
-    ∙ for-each d n F (λ k G. div64 one64 (at G (d + k))) (λ k b G same. rw (same (d + k) nan (omega arith)))
-    ∙ ap (λ (v : List Float). splice d v F) (tab-same _ _ n (λ k b. simp getD-part))) (length-tab _ n)
+  -- The invariant of `invert`: the reciprocals below `row` are written, and ok tells whether those are finite.
+  pub record Inverting (G : List Float) (row : ℕ) (ok : Bool) : Type 0 where
+    pub is : G ≡ splice d (recips row) F
+    pub tested : Tested (λ r. isFinite (div64 one64 (at F (d + r)))) n row ok
+
+  -- At the start none is written.
+  pub inverting-start : Inverting F 0 true
+  unfolding tab
+  inverting-start = record { is = sym (splice-nil d F); tested = tested-start _ n }
+
+  module _ (G : List Float) (row : ℕ) (is : G ≡ splice d (recips row) F) where
+    -- The next pivot still stands.
+    unread : at G (d + row) ≡ at F (d + row)
+    unread =
+        let l : length (recips row) ≡ row = length-tab _ row in
+        rw is (getD-splice-above d (recips row) F (d + row) nan (omega arith))
+
+    -- Its reciprocal is written behind the others.
+    written : set G (d + row) (div64 one64 (at G (d + row))) ≡ splice d (recips (row + 1)) F
+    unfolding tab
+    written =
+        let l : row ≡ length (recips row) = sym (length-tab _ row) in
+        let v = div64 one64 (at F (d + row)) in
+        rw (unread, is, add-one row) (ap (λ (m : ℕ). set (splice d (recips row) F) (d + m) v) l ∙ set-splice-end d (recips row) F v)
+
+  -- A turn writes one more.
+  pub invert-on : {G : List Float} {row : ℕ} {ok r : Bool} → Inverting G row ok → row < n → r ≡ isFinite (div64 one64 (at G (d + row)))
+      → Inverting (set G (d + row) (div64 one64 (at G (d + row)))) (row + 1) (ok && r)
+  invert-on {G} {row} s h e =
+      let same = unread G row (s .is) in
+      record { is = written G row (s .is); tested = tested-on (s .tested) h (rw (e, same)) }
+
+  -- At the end every one is written.
+  pub inverted : {G : List Float} {row : ℕ} {ok : Bool} → Inverting G row ok → n ≤ row → Inverted n d F G ok
+  inverted {G} {row} {ok} s h =
+      let reach : row ≤ n = s .tested .within in
+      let e : row ≡ n = omega arith in
+      let all : G ≡ splice d (recips n) F = rw e at (s .is) in
+      record {
+        wrote = wrote (all ∙ ap (λ (v : List Float). splice d v F) (tab-same _ _ n (λ k b. simp getD-part))) (length-tab _ n);
+        all = tested-done (s .tested) h ∙ each-same _ _ n (λ k b. simp getD-part);
+      }
 
 module _ (level n d : ℕ) (F : List Float) where
   -- the question of a reciprocal that is written
@@ -164,27 +199,22 @@ module _ (level n d : ℕ) (F : List Float) where
         let bad : isFinite (at F (d + row)) ≡ false = sym e ∙ t in
         record { asked = λ v. a .left v ∙ each-stop row n asks (accepted v) h (rw bad) }
 
-module _ {n d : ℕ} {F G : List Float} (fits : d + n ≤ length F) (c : Wrote d n (invertedOf n (part d n F)) F G) where
+module _ {n d : ℕ} {F G : List Float} {ok : Bool} (fits : d + n ≤ length F) (c : Inverted n d F G ok) where
   -- What is written at a row is its reciprocal.
   inverted-at : (k : ℕ) → k < n → at G (d + k) ≡ div64 one64 (at (part d n F) k)
   inverted-at k h =
       let i : d + k < length F = omega arith in
       let b : k < length (invertedOf n (part d n F)) = rw (length-tab (λ row. div64 one64 (at (part d n F) row)) n) h in
-      rw (c .is) (simp (getD-splice-in, getD-tab))
+      rw (c .wrote .is) (simp (getD-splice-in, getD-tab))
 
   -- Every reciprocal is finite.
-  pub reciprocals-good : (level : ℕ) {r : Bool} → r ≡ allFinite n (part d n G) → r ≡ true
-      → Settled d n (reciprocalsOf level n (part d n F)) F G Verdict.Passed
-  unfolding reciprocalsOf settled allFinite
-  reciprocals-good level {r} e t = record {
+  pub reciprocals-good : (level : ℕ) → ok ≡ true → Settled d n (reciprocalsOf level n (part d n F)) F G Verdict.Passed
+  unfolding reciprocalsOf settled
+  reciprocals-good level t = record {
     held = invertedOf n (part d n F);
-    wrote = c;
+    wrote = c .wrote;
     is = each-all (reciprocalAsked level (part d n F)) _ n
-        (λ k h.
-        let fine : isFinite (at (part d n G) k) ≡ true = each-at _ n (sym e ∙ t) k h in
-        let same : at (part d n G) k ≡ div64 one64 (at (part d n F) k) = getD-part d n G k nan h ∙ inverted-at k h in
-        let good : isFinite (div64 one64 (at (part d n F) k)) ≡ true = rw same at fine in
-        rw good);
+        (λ k h. let good : isFinite (div64 one64 (at (part d n F) k)) ≡ true = each-at _ n (sym (c .all) ∙ t) k h in rw good);
   }
 
   -- Else the questions, asked one by one, give the verdict.
@@ -192,7 +222,7 @@ module _ {n d : ℕ} {F G : List Float} (fits : d + n ≤ length F) (c : Wrote d
   unfolding reciprocalsOf
   reciprocals-asked {level} {r} a = record {
     held = invertedOf n (part d n F);
-    wrote = c;
+    wrote = c .wrote;
     is = each-alike (reciprocalAsked level (part d n F)) _ (asks level n d G) n
         (λ k h. ap (λ (x : Float). ask (isFinite x) (badDicReciprocal level k) passed) (sym (inverted-at k h)))
         ∙ a .asked (invertedOf n (part d n F));

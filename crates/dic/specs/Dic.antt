@@ -8,8 +8,8 @@ use lib.ListN.{set}
 use lib.Ieee.{Float, le}
 use Rattle.float.specs.Float.{sub64, div64, squareOf, zero64, one64, isFinite}
 use Rattle.store.specs.Loop.{for}
-use Rattle.store.specs.Region.{at, idx, Wrote}
-use Rattle.store.specs.Vector.{tab}
+use Rattle.store.specs.Region.{at, idx, part, Wrote}
+use Rattle.store.specs.Vector.{tab, each}
 use Rattle.refusal.specs.Refusal.{badDicPivot, badDicReciprocal}
 use Rattle.refusal.specs.declared.Verdict.{Verdict}
 use Rattle.refusal.specs.Outcome.{Outcome, accepted, refused, passed, ask, _>>=_, _>>_, askEach}
@@ -74,6 +74,11 @@ pub record Settled (b n : ℕ) (o : Outcome (List Float)) (F G : List Float) (r 
   pub held : List Float
   pub wrote : Wrote b n held F G
   pub is : o ≡ settled r held
+
+-- the pivots stand in F: what a pass over them leaves, each reciprocal, and whether all of them are finite
+pub record Inverted (n d : ℕ) (F G : List Float) (r : Bool) : Type 0 where
+  pub wrote : Wrote d n (invertedOf n (part d n F)) F G
+  pub all : r ≡ each (λ row. isFinite (div64 one64 (at (part d n F) row))) n
 
 -- the verdict on n reciprocals that stand in F at d decides how the questions go on
 pub record ReciprocalsAsked (level n d : ℕ) (F : List Float) (r : Verdict) : Type 0 where

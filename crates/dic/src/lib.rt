@@ -2,12 +2,12 @@
 ghost use mathlib.Core.Path.{_≡_};
 ghost use Prim.Native.Nat.{_+_, _<_, _≤_};
 ghost use lib.ListN.{length};
-ghost use Rattle.store.specs.Region.{part, Wrote};
+ghost use Rattle.store.specs.Region.{part};
 ghost use Rattle.held.specs.Held.{Held};
 ghost use Rattle.matrix.specs.Kernel.{kernelAt};
 ghost use Rattle.matrix.specs.Turns.{FacesOk};
 ghost use Rattle.sweeps.specs.Turns.{Watched};
-ghost use Rattle.dic.specs.Dic.{isPivot, pivotsOf, invertedOf, reciprocalsOf, dicOf, DicOk, Settled, ReciprocalsAsked};
+ghost use Rattle.dic.specs.Dic.{isPivot, pivotsOf, reciprocalsOf, dicOf, DicOk, Settled, Inverted, ReciprocalsAsked};
 ghost use Rattle.dic.specs.Turns.{pivotTurn, PivotRowed};
 use matrix::SymmetricMatrix;
 use refusal::Refusal;
@@ -111,16 +111,21 @@ fn dic_pivots(w: &[u32], f: &mut [f64], s: SymmetricMatrix, d: usize, level: u64
     Verdict::Passed
 }
 
-// The reciprocal of each pivot, in its place.
-fn invert(f: &mut [f64], rows: usize, d: usize)
+// The reciprocal of each pivot, in its place, and whether all of them are finite. No branch leaves the loop, so that it divides
+// several at once.
+fn invert(f: &mut [f64], rows: usize, d: usize) -> bool
     requires { ⌜ d + rows ≤ length (now f) ⌝ }
-    ensures { λ _. ⌜ Wrote d rows (invertedOf rows (part d rows (now (f .entry)))) (now (f .entry)) (now (f .exit)) ⌝ }
+    ensures { λ r. ⌜ Inverted rows d (now (f .entry)) (now (f .exit)) r ⌝ }
 {
+    let mut ok = true;
     let mut row = 0;
     while row < rows {
-        f[d + row] = 1.0 / f[d + row];
+        let reciprocal = 1.0 / f[d + row];
+        ok = ok & float::is_finite(reciprocal);
+        f[d + row] = reciprocal;
         row += 1;
     }
+    ok
 }
 
 // Question 17, row by row, of the reciprocals that are written: which row fails first.
@@ -148,8 +153,7 @@ fn dic_reciprocals(f: &mut [f64], rows: usize, d: usize, level: u64) -> Verdict
     requires { ⌜ d + rows ≤ length (now f) ⌝ }
     ensures { λ r. ⌜ Settled d rows (reciprocalsOf level rows (part d rows (now (f .entry)))) (now (f .entry)) (now (f .exit)) r ⌝ }
 {
-    invert(f, rows, d);
-    if finite::all_finite(f, rows, d) {
+    if invert(f, rows, d) {
         return Verdict::Passed;
     }
     ask_reciprocals(f, rows, d, level)

@@ -14,4 +14,4 @@ returns-2 c = search (reciprocals-asked, needs)
 pub dic-reciprocals-spec : {M : Type 1} → statement M
 dic-reciprocals-spec =
     tie.close
-    (tie.spec (λ c κs. search needs) (λ c κs. search needs) (λ c. search needs) returns (λ c κs. search needs) (λ c. search needs) returns-2)
+    (tie.spec (λ c κs. search needs) (λ c. search needs) returns (λ c κs. search needs) (λ c. search needs) returns-2)

@@ -1,31 +1,28 @@
--- `dic::invert` meets its contract. The loop's invariant: what is left to do from here gives what the whole gives.
+-- `dic::invert` meets its contract. The loop's invariant: the reciprocals passed are written, and the answer so far is theirs.
 -- Assumes nothing.
-use borrow.Author.Needs.{needs}
-use native.Mathlib.Omega.{arith}
 use mathlib.Core.Path.{_≡_, refl}
 use Prim.Native.Nat.{_-_}
-use lib.ListN.{length}
-use Rattle.store.specs.Loop.{for}
-use Rattle.store.proofs.Loop.{Left, left-start, left-on}
-use Rattle.dic.proofs.Dic.{invertTurn, invert-done}
+use lib.ListN.{length, length-set}
+use Rattle.dic.proofs.Dic.{Inverting, inverting-start, invert-on, inverted}
+use native.Mathlib.Omega.{arith}
+use borrow.Author.Needs.{needs}
 use Rattle.dic.proofs.invert.Statement.{statement}
 use Rattle.dic.proofs.invert.Tie as tie
 
 abbrev Inv-loop : tie.InvT-loop
-Inv-loop f₀ rows d row₀ f row = (length f ≡ length f₀) × Left (invertTurn d) row rows f (for (invertTurn d) 0 rows f₀)
+Inv-loop f₀ rows d ok₀ row₀ f ok row = (length f ≡ length f₀) × Inverting rows d f₀ f row ok
 
 abbrev μ-loop : tie.MeasureT-loop
-μ-loop f₀ rows d row₀ f row = rows - row
+μ-loop f₀ rows d ok₀ row₀ f ok row = rows - row
 
 loop-holds : tie.Need-loop-holds Inv-loop μ-loop
-loop-holds c = (refl, left-start)
+loop-holds c = (refl, inverting-start _ _ _)
 
 loop-again : tie.Need-loop-again Inv-loop μ-loop
-unfolding invertTurn
-loop-again c = search (left-on, needs)
+loop-again c = (search needs, search (invert-on))
 
 returns : tie.Need-returns Inv-loop μ-loop
-returns c = search (invert-done)
+returns c = search (inverted)
 
 pub invert-spec : {M : Type 1} → statement M
 invert-spec =
@@ -37,6 +34,7 @@ invert-spec =
     (λ c. omega arith)
     (λ c. omega arith)
     (λ c. omega arith)
+    (λ c κs. search needs)
     (λ c. omega arith)
     (λ c. omega arith)
     (λ c. omega arith)
