@@ -3,7 +3,8 @@ ghost use mathlib.Core.Path.{_≡_};
 ghost use Prim.Native.Nat.{_+_, _≤_};
 ghost use lib.ListN.{length};
 ghost use Rattle.refusal.specs.Outcome.{verdictOf};
-ghost use Rattle.store.specs.Region.{part, Wrote};
+ghost use Rattle.store.specs.Region.{at, idx, part, Wrote};
+ghost use Rattle.store.specs.Vector.{tab};
 ghost use Rattle.matrix.specs.Kernel.{kernelAt, applyOf, residualOf, rowSumsOf, KernelOk};
 ghost use Rattle.values.specs.Update.{updateAt, updateWith, UpdateOk, Updated};
 ghost use Rattle.mirrors.specs.Mirrors.{mirrorsEqual, MirrorsOk};
@@ -203,6 +204,8 @@ pub extern "C" fn probe_update_given(
         faces: faces,
         values: values,
     };
+    let count = store::wide(w[offsets + rows]);
+    values::pick_given(w, given, f, count, faces, coefficients);
     answer(values::update_given(w, given, f, s, e, level), place)
 }
 
@@ -219,4 +222,25 @@ pub extern "C" fn probe_equal_mirrors(
         (part lower faces (now (w .entry))) (now (values .entry))) ⌝ }
 {
     number(mirrors::equal_mirrors(w, values, faces, upper, lower))
+}
+
+#[no_mangle]
+pub extern "C" fn probe_take_faces(
+    w: &[u32],
+    values: &[f64],
+    f: &mut [f64],
+    faces: usize,
+    upper: usize,
+    lower: usize,
+    to: usize,
+) -> u8
+    requires { ⌜ MirrorsOk (now w) (length (now values)) faces upper lower ⌝ }
+    requires { ⌜ to + faces ≤ length (now f) ⌝ }
+    ensures { λ r. ⌜ r ≡ flag (mirrorsEqual faces (part upper faces (now (w .entry)))
+        (part lower faces (now (w .entry))) (now (values .entry))) ⌝ }
+    ensures { λ _. ⌜ Wrote to faces
+        (tab (λ k. at (now (values .entry)) (idx (part upper faces (now (w .entry))) k)) faces)
+        (now (f .entry)) (now (f .exit)) ⌝ }
+{
+    number(mirrors::take_faces(w, values, f, faces, upper, lower, to))
 }

@@ -351,10 +351,15 @@ pub faces-stand : {w : List ℕ} (U : List Float) {F G : List Float} {faces : �
     → faces ≡ idx w (s .offsets + s .rows) → Wrote (s .coefficients) faces (tab (entryOf (part (e .faces) faces w) U) faces) F G → FacesTaken w U G s e
 faces-stand U ok i c = rw i at (wrote-at c (omega arith))
 
+-- What an update requires holds after it too.
+pub stand-ok : {w : List ℕ} {size long : ℕ} {s : SymmetricMatrix} {e : Entries} → UpdateOk w size s e → long ≡ size → UpdateOk w long s e
+stand-ok ok same = rw same ok
+
 -- An update after it is one from where it began.
-pub stand-updated : {w : List ℕ} {v F D G : List Float} {faces : ℕ} {s : SymmetricMatrix} {e : Entries} {o : Outcome Coefficients} {r : Verdict}
-    → UpdateOk w (length F) s e → faces ≡ idx w (s .offsets + s .rows) → Wrote (s .coefficients) faces v F D → Updated w s o D G r → Updated w s o F G r
-stand-updated ok i c u =
+pub stand-updated : {w : List ℕ} (U : List Float) {F D G : List Float} {faces : ℕ} {s : SymmetricMatrix} {e : Entries} {o : Outcome Coefficients} {r : Verdict}
+    → UpdateOk w (length F) s e → faces ≡ idx w (s .offsets + s .rows) → Wrote (s .coefficients) faces (tab (entryOf (part (e .faces) faces w) U) faces) F D
+    → Updated w s o D G r → Updated w s o F G r
+stand-updated U ok i c u =
     record { verdict = u .verdict; holds = u .holds; within = within-on (within-wrote c (omega arith) (omega arith)) (u .within) }
 
 -- The image stands below what is written, and so it is the same for the faces.
