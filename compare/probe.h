@@ -151,6 +151,11 @@ uint64_t probe_update_given(const uint32_t *w, size_t w_length, const double *gi
 uint8_t probe_equal_mirrors(const uint32_t *w, size_t w_length, const double *values, size_t values_length,
                             size_t faces, size_t upper, size_t lower);
 
+/* The same, and the value of each face's upper entry at `to`.
+ * Required beside: to + faces <= f_length; no overlap. */
+uint8_t probe_take_faces(const uint32_t *w, size_t w_length, const double *values, size_t values_length, double *f,
+                         size_t f_length, size_t faces, size_t upper, size_t lower, size_t to);
+
 /* The reciprocal pivots of DIC, at d. The answer is 0, or 16 or 17 with level and row at place.
  * Required: as for the sums of the rows, with d for sums; 2 <= place_length; no overlap. */
 uint64_t probe_update_dic_diagonal(const uint32_t *w, size_t w_length, double *f, size_t f_length, size_t rows,

@@ -328,6 +328,18 @@ unsafe extern "C" {
         upper: usize,
         lower: usize,
     ) -> u8;
+    fn probe_take_faces(
+        w: *const u32,
+        w_length: usize,
+        values: *const f64,
+        values_length: usize,
+        f: *mut f64,
+        f_length: usize,
+        faces: usize,
+        upper: usize,
+        lower: usize,
+        to: usize,
+    ) -> u8;
     fn probe_update_dic_diagonal(
         w: *const u32,
         w_length: usize,

@@ -45,7 +45,7 @@ fn one_matrix(report: &mut Report, random: &mut Random, pattern: &Pattern) {
 
     let mut image = matrix.clone();
     disturb(random, &mut image, &diagonals, &at.faces);
-    mirrors(report, &at, &words, &theirs, &image);
+    mirrors(report, &at, &words, &floats, &theirs, &image);
     let told = update(report, &at, &words, &mut floats, &mut theirs, &image);
     if told.is_err() {
         theirs.update(&matrix).expect("the values of the matrix");
@@ -147,25 +147,47 @@ fn places(
     (at, words, floats)
 }
 
-/// `is_symmetric`, with no tolerance.
+/// `is_symmetric`, with no tolerance: by the test alone, and by the one that takes the upper values.
 fn mirrors(
     report: &mut Report,
     at: &Places,
     words: &Store<u32>,
+    floats: &Store<f64>,
     theirs: &Kernel,
     image: &CsrMatrix,
 ) {
-    let faces = at.faces.len();
-    let ours = kernels::equal_mirrors(&words.words, image.values(), faces, at.upper, at.lower);
+    let (faces, w, values) = (at.faces.len(), &words.words, image.values());
     let due = theirs.is_symmetric(image, 0.0);
+    let ours = kernels::equal_mirrors(w, values, faces, at.upper, at.lower);
     let kind = report.kind("matrix/equal_mirrors");
     report.case(kind, ours == due, || {
-        format!("ours {ours} theirs {due} of {:?}", image.values())
+        format!("ours {ours} theirs {due} of {values:?}")
     });
     report.answer(if due {
         "matrix/equal_mirrors/yes"
     } else {
         "matrix/equal_mirrors/no"
+    });
+    // A store of its own, so that the update after it finds no coefficients.
+    let mut floats = Store {
+        words: floats.words.clone(),
+    };
+    let to = at.kernel.coefficients;
+    let (ours, kept) = floats.call(&[(to, faces)], |f| {
+        kernels::take_faces(w, values, f, faces, at.upper, at.lower, to)
+    });
+    let taken = floats.at(to, faces).iter().map(|value| value.to_bits());
+    let uppers = at.faces.iter().map(|face| values[face.0].to_bits());
+    let agrees = ours == due && taken.eq(uppers);
+    let kind = report.kind("matrix/take_faces");
+    report.case(kind, agrees, || {
+        format!("ours {ours} theirs {due} of {values:?}")
+    });
+    outside(report, kept, "take_faces");
+    report.answer(if due {
+        "matrix/take_faces/yes"
+    } else {
+        "matrix/take_faces/no"
     });
 }
 

@@ -1,8 +1,8 @@
 //! The kernel of a level, of `matrix` and `values`.
 
 use super::{
-    probe_apply, probe_equal_mirrors, probe_residual, probe_row_sums_into, probe_update,
-    probe_update_given, require_below, require_region, yes,
+    probe_apply, probe_equal_mirrors, probe_residual, probe_row_sums_into, probe_take_faces,
+    probe_update, probe_update_given, require_below, require_region, yes,
 };
 
 /// The question that refused, with level and row.
@@ -234,12 +234,17 @@ impl SymmetricMatrix {
     }
 }
 
-/// Whether the values of each face's two entries are finite and equal.
-pub fn equal_mirrors(w: &[u32], values: &[f64], faces: usize, upper: usize, lower: usize) -> bool {
+/// `MirrorsOk` of `mirrors`.
+fn require_faces(w: &[u32], count: usize, faces: usize, upper: usize, lower: usize) {
     for positions in [upper, lower] {
         require_region(w.len(), positions, faces);
-        require_below(&w[positions..][..faces], values.len());
+        require_below(&w[positions..][..faces], count);
     }
+}
+
+/// Whether the values of each face's two entries are finite and equal.
+pub fn equal_mirrors(w: &[u32], values: &[f64], faces: usize, upper: usize, lower: usize) -> bool {
+    require_faces(w, values.len(), faces, upper, lower);
     // SAFETY: the pointers are slices' own, with their lengths, and what is required was tested just now.
     yes(unsafe {
         probe_equal_mirrors(
@@ -250,6 +255,35 @@ pub fn equal_mirrors(w: &[u32], values: &[f64], faces: usize, upper: usize, lowe
             faces,
             upper,
             lower,
+        )
+    })
+}
+
+/// The same, and the value of each face's upper entry at `to`.
+pub fn take_faces(
+    w: &[u32],
+    values: &[f64],
+    f: &mut [f64],
+    faces: usize,
+    upper: usize,
+    lower: usize,
+    to: usize,
+) -> bool {
+    require_faces(w, values.len(), faces, upper, lower);
+    require_region(f.len(), to, faces);
+    // SAFETY: the pointers are slices' own, with their lengths, and what is required was tested just now.
+    yes(unsafe {
+        probe_take_faces(
+            w.as_ptr(),
+            w.len(),
+            values.as_ptr(),
+            values.len(),
+            f.as_mut_ptr(),
+            f.len(),
+            faces,
+            upper,
+            lower,
+            to,
         )
     })
 }
