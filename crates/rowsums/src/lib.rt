@@ -1,12 +1,44 @@
 // `row_sums_into` of matrix.rs: the row sums of the face-addressed matrix of a level.
 ghost use Prim.Native.Nat.{_+_, _<_, _≤_};
 ghost use lib.ListN.{length};
-ghost use Rattle.store.specs.Region.{Wrote};
+ghost use Rattle.store.specs.Region.{idx, Wrote};
 ghost use Rattle.matrix.specs.Kernel.{kernelAt, rowSumsOf, KernelOk};
 ghost use Rattle.matrix.specs.Turns.{FacesOk, RowsOk, SumFaced, SumRowed, Summed};
+ghost use Rattle.rowsums.specs.Sums.{SumHeld};
 use matrix::SymmetricMatrix;
 
-// The faces from lo to hi of a row, each added to the row's sum and to its neighbour's.
+// One face of a row whose sum so far is `own`: its neighbour's sum in place, the row's returned. In stores that no build wrote a face
+// may lead to its own row, to which it then adds twice.
+fn sum_face(
+    w: &[u32],
+    f: &mut [f64],
+    rows: usize,
+    face: usize,
+    hi: usize,
+    neighbors: usize,
+    coefficients: usize,
+    sums: usize,
+    row: usize,
+    own: f64,
+) -> f64
+    requires { ⌜ FacesOk (now w) (length (now f)) rows hi neighbors coefficients sums sums ⌝ }
+    requires { ⌜ face < hi ⌝ }
+    requires { ⌜ row < rows ⌝ }
+    requires { ⌜ coefficients + hi ≤ sums ⌝ }
+    ensures { λ r. ⌜ SumHeld (now (w .entry)) neighbors coefficients sums row face (now (f .entry)) own (now (f .exit)) r ⌝ }
+{
+    let neighbor = store::index_at(w, neighbors, face, rows);
+    let a = f[coefficients + face];
+    let sum = own + a;
+    if neighbor == row {
+        return sum + a;
+    }
+    f[sums + neighbor] = f[sums + neighbor] + a;
+    sum
+}
+
+// The faces from lo to hi of a row, each added to the row's sum and to its neighbour's. The row's sum is held, so that no face waits
+// for the store of the one before.
 fn sum_faces(
     w: &[u32],
     f: &mut [f64],
@@ -20,16 +52,27 @@ fn sum_faces(
 )
     requires { ⌜ FacesOk (now w) (length (now f)) rows hi neighbors coefficients sums sums ⌝ }
     requires { ⌜ row < rows ⌝ }
+    requires { ⌜ coefficients + hi ≤ sums ⌝ }
     ensures { λ _. ⌜ SumFaced (now (w .entry)) neighbors coefficients sums row lo hi (now (f .entry)) (now (f .exit)) ⌝ }
 {
+    let mut own = f[sums + row];
     let mut face = lo;
     while face < hi {
-        let neighbor = store::index_at(w, neighbors, face, rows);
-        let a = f[coefficients + face];
-        f[sums + row] = f[sums + row] + a;
-        f[sums + neighbor] = f[sums + neighbor] + a;
+        own = sum_face(
+            w,
+            f,
+            rows,
+            face,
+            hi,
+            neighbors,
+            coefficients,
+            sums,
+            row,
+            own,
+        );
         face += 1;
     }
+    f[sums + row] = own;
 }
 
 // The faces of one row.
@@ -44,6 +87,7 @@ fn sum_row(
     row: usize,
 )
     requires { ⌜ RowsOk (now w) (length (now f)) rows offsets neighbors coefficients sums sums ⌝ }
+    requires { ⌜ coefficients + idx (now w) (offsets + rows) ≤ sums ⌝ }
     requires { ⌜ row < rows ⌝ }
     ensures { λ _. ⌜ SumRowed (now (w .entry)) offsets neighbors coefficients sums row (now (f .entry)) (now (f .exit)) ⌝ }
 {
@@ -63,6 +107,7 @@ fn sum_rows(
     sums: usize,
 )
     requires { ⌜ RowsOk (now w) (length (now f)) rows offsets neighbors coefficients sums sums ⌝ }
+    requires { ⌜ coefficients + idx (now w) (offsets + rows) ≤ sums ⌝ }
     ensures { λ _. ⌜ Summed (now (w .entry)) rows offsets neighbors coefficients sums (now (f .entry)) (now (f .exit)) ⌝ }
 {
     let mut row = 0;

@@ -1,9 +1,16 @@
 -- `rowsums::row_sums_into` meets its contract.
 -- Assumes nothing.
 use Rattle.matrix.proofs.Kernel.{sums-done}
+use Rattle.rowsums.proofs.Sums.{rows-ready}
 use borrow.Author.Needs.{needs}
 use Rattle.rowsums.proofs.row_sums_into.Statement.{statement}
 use Rattle.rowsums.proofs.row_sums_into.Tie as tie
+
+sum-rows-requires : tie.Need-sum-rows-requires
+sum-rows-requires c κs =
+    let at-copy = c .before .before .before in
+    let start = at-copy .before .before .before .before in
+    rows-ready (start .pre .0) (start .pre .1) (at-copy .copy .ensures .size)
 
 returns : tie.Need-returns
 returns c =
@@ -13,4 +20,4 @@ returns c =
     sums-done (start .pre .0) (start .pre .1) (at-copy .copy .ensures) (at-rows .sum-rows .ensures)
 
 pub row-sums-into-spec : {M : Type 1} → statement M
-row-sums-into-spec = tie.close (tie.spec (λ c κs. search needs) (λ c κs. search needs) (λ c. search needs) returns)
+row-sums-into-spec = tie.close (tie.spec (λ c κs. search needs) sum-rows-requires (λ c. search needs) returns)

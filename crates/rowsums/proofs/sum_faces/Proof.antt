@@ -1,48 +1,37 @@
--- `rowsums::sum_faces` meets its contract. The loop's invariant: what is left to do from here gives what the whole gives.
+-- `rowsums::sum_faces` meets its contract. The loop's invariant: with what is held laid into the store, what is left to do from here gives
+-- what the whole gives.
 -- Assumes nothing.
-use mathlib.Core.Path.{_≡_, refl}
 use Prim.Native.Nat.{_-_}
-use lib.ListN.{length, length-set}
-use Rattle.store.specs.Loop.{for}
-use Rattle.store.proofs.Loop.{Left, left-start, left-on}
-use Rattle.matrix.specs.Turns.{sumTurn}
-use Rattle.matrix.proofs.Turns.{sum-on, near-of, sum-faced}
+use Rattle.rowsums.proofs.Sums.{Holding, holding-start, holding-on, holding-done}
+use Rattle.matrix.proofs.Turns.{faces-resize}
 use native.Mathlib.Omega.{arith}
 use borrow.Author.Needs.{needs}
 use Rattle.rowsums.proofs.sum_faces.Statement.{statement}
 use Rattle.rowsums.proofs.sum_faces.Tie as tie
 
 abbrev Inv-loop : tie.InvT-loop
-Inv-loop w f₀ rows lo hi neighbors coefficients sums row face₀ f face =
-    (length f ≡ length f₀)
-    × Left (sumTurn w neighbors coefficients sums row) face hi f
-    (for (sumTurn w neighbors coefficients sums row) lo hi f₀)
+Inv-loop w f₀ rows lo hi neighbors coefficients sums row own₀ face₀ f own face = Holding w neighbors coefficients sums row lo hi face f₀ f own
 
 abbrev μ-loop : tie.MeasureT-loop
-μ-loop w f₀ rows lo hi neighbors coefficients sums row face₀ f face = hi - face
+μ-loop w f₀ rows lo hi neighbors coefficients sums row own₀ face₀ f own face = hi - face
 
 loop-holds : tie.Need-loop-holds Inv-loop μ-loop
-loop-holds c = (refl, left-start)
+loop-holds c = holding-start _ _ _ _ _ _ _ _
 
-index-at-requires : tie.Need-index-at-requires Inv-loop μ-loop
-index-at-requires c κs = search (near-of, needs)
-
-slice-read-f-2 : tie.Need-slice-read-f-2 Inv-loop μ-loop
-slice-read-f-2 c = simp length-set (omega arith)
-
-slice-write-f-2 : tie.Need-slice-write-f-2 Inv-loop μ-loop
-slice-write-f-2 c = simp length-set (omega arith)
+sum-face-requires : tie.Need-sum-face-requires Inv-loop μ-loop
+sum-face-requires c κs =
+    let at-loop = c .before .before in
+    let start = at-loop .before .before .before .before in
+    (faces-resize (start .pre .0) (at-loop .loop .inv .size), (c .before .loop-test .taken, (start .pre .1 .0, start .pre .1 .1)))
 
 loop-again : tie.Need-loop-again Inv-loop μ-loop
 loop-again c =
-    let at-index = c .before .before .before in
-    let at-loop = at-index .before .before in (
-      simp length-set (omega arith),
-      left-on (at-loop .loop .inv .1) (omega arith) (sum-on _ _ _ _ _ _ _ _ (at-index .index-at .ensures .0)),
-    )
+    let at-face = c .before .before in
+    let at-test = at-face .before .before in
+    holding-on (at-test .before .loop .inv) (at-test .loop-test .taken) (at-face .sum-face .ensures)
 
 returns : tie.Need-returns Inv-loop μ-loop
-returns c = search (sum-faced)
+returns c = holding-done (c .before .loop .inv) (c .loop-test .left)
 
 pub sum-faces-spec : {M : Type 1} → statement M
 sum-faces-spec =
@@ -50,25 +39,16 @@ sum-faces-spec =
     (tie.spec
     Inv-loop
     μ-loop
+    (λ c. search needs)
+    (λ c. search needs)
+    (λ c. search needs)
     loop-holds
-    index-at-requires
-    (λ c. omega arith)
-    (λ c. omega arith)
-    (λ c. omega arith)
-    (λ c. omega arith)
-    (λ c. omega arith)
-    (λ c. omega arith)
-    (λ c. omega arith)
-    (λ c. omega arith)
-    (λ c. omega arith)
-    (λ c. omega arith)
-    (λ c. omega arith)
-    slice-read-f-2
-    (λ c. omega arith)
-    (λ c. omega arith)
-    slice-write-f-2
+    sum-face-requires
     (λ c. omega arith)
     (λ c. omega arith)
     loop-again
-    (λ c. omega arith)
+    (λ c. search needs)
+    (λ c. search needs)
+    (λ c. search needs)
+    (λ c. search needs)
     returns)

@@ -1,12 +1,15 @@
 -- `rowsums::sum_row` meets its contract.
 -- Assumes nothing.
-use Rattle.matrix.proofs.Turns.{faces-ok, sum-rowed}
+use Rattle.matrix.proofs.Turns.{sum-rowed}
+use Rattle.rowsums.proofs.Sums.{row-ready}
 use borrow.Author.Needs.{needs}
 use Rattle.rowsums.proofs.sum_row.Statement.{statement}
 use Rattle.rowsums.proofs.sum_row.Tie as tie
 
 sum-faces-requires : tie.Need-sum-faces-requires
-sum-faces-requires c κs = search (faces-ok, needs)
+sum-faces-requires c κs =
+    let start = c .before .before .before .before .before .before .before in
+    row-ready (start .pre .0) (start .pre .1 .0) (start .pre .1 .1) (c .before .wide2 .ensures)
 
 returns : tie.Need-returns
 returns c = search (sum-rowed)
