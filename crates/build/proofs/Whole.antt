@@ -19,6 +19,7 @@ use Rattle.refusal.specs.declared.Refusal.{Refusal}
 use Rattle.refusal.specs.Refusal.{unequalMirrors}
 use Rattle.refusal.specs.declared.Verdict.{Verdict}
 use Rattle.refusal.specs.Outcome.{Outcome, accepted, refused, ask, _>>=_}
+use Rattle.refusal.proofs.Outcome.{accepted-one}
 use Rattle.mirrors.specs.Mirrors.{mirrorsEqual}
 use Rattle.pattern.specs.Pattern.{Pattern, entries, Valid, Rising, Mirrored}
 use Rattle.faces.specs.Faces.{facesOf, uppersOf, lowersOf, mirroredOf}
@@ -26,7 +27,6 @@ use Rattle.faces.proofs.Laws.{mirrored-is}
 use Rattle.hierarchy.specs.Level.{Level, Hierarchy}
 use Rattle.hierarchy.specs.Refresh.{withSums}
 use Rattle.hierarchy.specs.Build.{Charge, fixedCharge, andLevel, Mesh, Input, patternIn, meshIn, symmetricOf, growOf, buildOf}
-use Rattle.hierarchy.proofs.Accepted.{accepted-one}
 use Rattle.hierarchy.proofs.Depth as depth
 use Rattle.layout.specs.Layout.{imageEnd, wordsFit, viewOf}
 use Rattle.coarsen.specs.declared.Workspace.{Workspace}

@@ -17,7 +17,7 @@ use Rattle.refusal.specs.declared.Refusal.{Refusal}
 use Rattle.refusal.specs.Refusal.{badCoarseValue}
 use Rattle.refusal.specs.declared.Verdict.{Verdict}
 use Rattle.refusal.specs.Outcome.{accepted, refused}
-use Rattle.refusal.proofs.Outcome.{ask-yes, ask-no, then-accepted, then-refused}
+use Rattle.refusal.proofs.Outcome.{ask-yes, ask-no, then-accepted, then-refused, accepted-one}
 use Rattle.finite.specs.Finite.{allFinite}
 use Rattle.matrix.specs.Kernel.{Kernel}
 use Rattle.dic.specs.Dic.{Settled}
@@ -28,7 +28,6 @@ use Rattle.hierarchy.specs.Level.{Shape, Numbers, kernelOf}
 use Rattle.hierarchy.specs.Refresh.{smootherOf, innerNumbers}
 use Rattle.hierarchy.specs.Proper.{Proper}
 use Rattle.hierarchy.specs.Build.{Mesh, Merged, innerShape, coarsened, coarsenedAsked}
-use Rattle.hierarchy.proofs.Accepted.{accepted-one}
 use Rattle.layout.specs.declared.Place.{Place}
 use Rattle.layout.specs.Layout.{lastAt, coupledAt, entriesAt, locate, shapeAt, numbersAt, levelAt, wordsEnd, floatsEnd}
 use Rattle.layout.specs.Placed.{Shapes, coefficientsAt}

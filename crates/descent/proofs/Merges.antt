@@ -8,13 +8,14 @@ use native.Mathlib.Omega.{arith}
 use lib.Dec.{eqb}
 use Rattle.options.specs.declared.MultigridOptions.{MultigridOptions}
 use Rattle.refusal.specs.Outcome.{accepted, _>>=_}
+use Rattle.refusal.proofs.Outcome.{accepted-one}
 use Rattle.aggregation.specs.Pairs.{Pairing, weighted, strengthsOf}
 use Rattle.aggregation.proofs.Numbers.{count-most}
 use Rattle.pattern.specs.Pattern.{Pattern, Valid, Maps, Onto}
 use Rattle.pattern.proofs.Coarse.{coarse-valid}
 use Rattle.hierarchy.specs.Build.{Mesh, Merged, merged, even, kernelAsked, paired, coarsened, coarsenedAsked, fewCoupled, mergeOf}
 use Rattle.hierarchy.specs.Proper.{Proper, Joined}
-use Rattle.hierarchy.proofs.Accepted.{then-split, accepted-one, coarsened-is, joinedBy, merge-keeps}
+use Rattle.hierarchy.proofs.Accepted.{then-split, coarsened-is, joinedBy, merge-keeps}
 use Rattle.hierarchy.proofs.Proper.{coarse-proper, valid-range, merge-proper}
 use Rattle.descent.specs.Steps.{stepsOf}
 

@@ -16,7 +16,7 @@ use Rattle.options.specs.declared.MultigridOptions.{MultigridOptions}
 use Rattle.refusal.specs.declared.Refusal.{Refusal}
 use Rattle.refusal.specs.Refusal.{storeTooSmall}
 use Rattle.refusal.specs.Outcome.{Outcome, accepted, refused, _>>=_, ask}
-use Rattle.refusal.proofs.Outcome.{ask-yes, ask-no, then-accepted, then-refused}
+use Rattle.refusal.proofs.Outcome.{ask-yes, ask-no, then-accepted, then-refused, accepted-one}
 use Rattle.values.specs.Update.{Coefficients}
 use Rattle.aggregation.specs.Pairs.{Pairing}
 use Rattle.aggregation.proofs.Numbers.{count-most}
@@ -28,7 +28,7 @@ use Rattle.hierarchy.specs.Level.{Numbers, Level}
 use Rattle.hierarchy.specs.Refresh.{innerNumbers}
 use Rattle.hierarchy.specs.Proper.{Proper}
 use Rattle.hierarchy.specs.Build.{Charge, fixedCharge, andLevel, holds, innerShape, Mesh, Merged, merged, kernelAsked, paired, coarsenedAsked, endsAt, lastLevel, mergeOf, innerLevel, growOf}
-use Rattle.hierarchy.proofs.Accepted.{then-split, accepted-one, ends-zero}
+use Rattle.hierarchy.proofs.Accepted.{then-split, ends-zero}
 use Rattle.hierarchy.proofs.Proper.{valid-range, first-joined}
 use Rattle.layout.specs.declared.Place.{Place}
 use Rattle.layout.specs.Layout.{placeOf, levelAt, wordsEnd, floatsEnd, levelsAt, imageEnd, wordsFit}

@@ -13,6 +13,7 @@ use Rattle.refusal.specs.declared.Refusal.{Refusal}
 use Rattle.refusal.specs.Refusal.{invalidControls, notCholesky, noRows, storeTooSmall, unequalMirrors, tooManyCoupled, badCoarseValue}
 use Rattle.options.specs.Options.{validOf, isCholesky, controlsAsked}
 use Rattle.refusal.specs.Outcome.{Outcome, accepted, refused, passed, ask, _>>=_}
+use Rattle.refusal.proofs.Outcome.{accepted-one}
 use Rattle.finite.specs.Finite.{allFinite}
 use Rattle.values.specs.Update.{Coefficients}
 use Rattle.aggregation.specs.Pairs.{Pairing}
@@ -39,10 +40,6 @@ module _ {A : Type 0} where
       → (a : A) × (o ≡ accepted a) × (rest a ≡ accepted b)
   then-split (accepted a) rest e = (a, refl, e)
   then-split (refused q) rest e = absurd (let none : _≡_ {A = ℕ} 0 1 = cc in omega arith)
-
-  -- What is accepted is one thing.
-  pub accepted-one : {a b : A} → accepted a ≡ accepted b → a ≡ b
-  accepted-one e = cc
 
 -- An accepted coarse matrix is the coarse matrix, and its values are finite.
 pub coarsened-is : (given : Bool) (m : Mesh) (map : List ℕ) (count : ℕ) {c : Mesh} → coarsenedAsked given m map count ≡ accepted c

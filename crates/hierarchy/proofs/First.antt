@@ -11,6 +11,7 @@ use lib.ListN.{length}
 use lib.Ieee.{Float}
 use Rattle.options.specs.declared.MultigridOptions.{MultigridOptions}
 use Rattle.refusal.specs.Outcome.{accepted, _>>=_}
+use Rattle.refusal.proofs.Outcome.{accepted-one}
 use Rattle.finite.specs.Finite.{allFinite}
 use Rattle.aggregation.specs.Pairs.{Pairing, strengthsOf}
 use Rattle.pattern.specs.Pattern.{Pattern, entries, coarse, coarsePositions, composeOf}
@@ -22,7 +23,7 @@ use Rattle.hierarchy.specs.Refresh.{numbersOf, coarseValues, refreshOf}
 use Rattle.hierarchy.specs.Build.{Charge, shapeOf, lastShape, innerShape, Mesh, Merged, merged, kernelAsked, paired, coarsenedAsked, fewCoupled, endsAt, joinedStep, mergeOf, growOf, Lent, Input, patternIn, meshIn, buildOf}
 use Rattle.hierarchy.specs.Shapes.{Weights, Traced, pairedBy, coarseWeights, traceJoined, traceOf, tracedFrom, shapesOf, patternOf}
 use Rattle.hierarchy.specs.First.{shapesIn, First}
-use Rattle.hierarchy.proofs.Accepted.{then-split, accepted-one, coarsened-is, Last, onward, Inner, ends-zero, Halts, by-pattern, by-pairs, grow-keeps, joinedBy, chargeIn, build-built}
+use Rattle.hierarchy.proofs.Accepted.{then-split, coarsened-is, Last, onward, Inner, ends-zero, Halts, by-pattern, by-pairs, grow-keeps, joinedBy, chargeIn, build-built}
 
 -- ---- the faces
 

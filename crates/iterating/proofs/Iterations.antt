@@ -15,13 +15,12 @@ use Rattle.solver.specs.declared.LinearSolverStatus.{LinearSolverStatus}
 use Rattle.solver.specs.declared.LinearSolveReport.{LinearSolveReport}
 use Rattle.refusal.specs.declared.Refusal.{Refusal}
 use Rattle.refusal.specs.Outcome.{Outcome, accepted, refused, _>>=_}
-use Rattle.refusal.proofs.Outcome.{then-accepted, then-refused}
+use Rattle.refusal.proofs.Outcome.{then-accepted, then-refused, accepted-one}
 use Rattle.stepping.specs.declared.Regions.{Regions}
 use Rattle.stepping.specs.declared.Step.{Step}
 use Rattle.stepping.specs.Iteration.{State, stepOf}
 use Rattle.stepping.specs.Steps.{systemAt, Ready, StepOk, stateAt, stepAt, StepDone}
 use Rattle.stepping.proofs.Placing.{vectors, system-kept}
-use Rattle.stepping.proofs.Moving.{accepted-one}
 use Rattle.answers.specs.declared.Solved.{Solved}
 use Rattle.solver.specs.Solver.{reportOf}
 use Rattle.iterating.specs.Iterate.{Solution, solution, iterateOf, answerOf}

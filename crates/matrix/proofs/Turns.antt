@@ -10,7 +10,7 @@ use lib.Ieee.{Float}
 use Rattle.float.specs.Float.{add64, mul64}
 use Rattle.store.specs.Loop.{for}
 use Rattle.store.specs.Region.{at, idx}
-use Rattle.store.proofs.Loop.{for-step, for-done, Left, left-end}
+use Rattle.store.proofs.Loop.{for-step, for-done, Left, left-end, for-one}
 use Rattle.matrix.specs.Kernel.{Owned}
 use Rattle.matrix.specs.Turns.{faceTurn, rowTurn, sumTurn, sumRowTurn, Faced, Rowed, RowedTo, Spread, SumFaced, SumRowed, Summed, FacesOk, RowsOk}
 
@@ -43,10 +43,6 @@ module _ (op : Float → Float → Float) (w : List ℕ) where
       ≡ faceTurn op w neighbors coefficients x out own e (record { vector = F; owner = t })
   unfolding faceTurn
   face-on neighbors coefficients x out own e j F t h = rw h
-
--- One turn.
-for-one : {S : Type 0} (f : ℕ → S → S) (k : ℕ) (s : S) → for f k (k + 1) s ≡ f k s
-for-one f k s = for-step f k (k + 1) s (omega arith) ∙ for-done f (k + 1) (k + 1) (f k s) (omega arith)
 
 -- One face, as the code has it.
 pub faced-one : {op : Float → Float → Float} {w : List ℕ} {neighbors coefficients x out e j : ℕ} {own t : Float} {F : List Float}

@@ -17,13 +17,12 @@ use Rattle.options.specs.declared.Handle.{Handle}
 use Rattle.solver.specs.declared.LinearSolverOptions.{LinearSolverOptions}
 use Rattle.refusal.specs.Refusal.{unsoundStores}
 use Rattle.refusal.specs.Outcome.{Outcome, accepted, refused}
-use Rattle.refusal.proofs.Outcome.{ask-yes}
+use Rattle.refusal.proofs.Outcome.{ask-yes, accepted-one}
 use Rattle.hierarchy.specs.Level.{Shape, Level, Hierarchy}
 use Rattle.hierarchy.specs.Refresh.{refreshOf, withSums}
 use Rattle.hierarchy.specs.Build.{Lent, Input, buildOf}
 use Rattle.hierarchy.specs.Shapes.{patternOf}
 use Rattle.hierarchy.specs.First.{shapesIn}
-use Rattle.hierarchy.proofs.Accepted.{accepted-one}
 use Rattle.hierarchy.proofs.First.{build-first}
 use Rattle.layout.specs.Layout.{viewOf}
 use Rattle.answers.specs.declared.Built.{Built}

@@ -9,14 +9,14 @@ use lib.Ieee.{Float}
 use Rattle.options.specs.declared.MultigridOptions.{MultigridOptions}
 use Rattle.refusal.specs.Refusal.{unequalMirrors, badCoarseValue, otherPattern}
 use Rattle.refusal.specs.Outcome.{Outcome, accepted, ask, _>>=_}
-use Rattle.refusal.proofs.Outcome.{ask-yes, then-accepted}
+use Rattle.refusal.proofs.Outcome.{ask-yes, then-accepted, accepted-one}
 use Rattle.finite.specs.Finite.{allFinite}
 use Rattle.mirrors.specs.Mirrors.{mirrorsEqual}
 use Rattle.pattern.specs.Pattern.{entries}
 use Rattle.hierarchy.specs.Level.{Shape, Numbers, Level, Hierarchy}
 use Rattle.hierarchy.specs.First.{shapesIn}
 use Rattle.hierarchy.specs.Refresh.{numbersOf, coarseValues, refreshOf, withSums}
-use Rattle.hierarchy.proofs.Accepted.{ask-split, then-split, accepted-one}
+use Rattle.hierarchy.proofs.Accepted.{ask-split, then-split}
 use Rattle.standing.specs.Standing.{diagonalsStand}
 use Rattle.renewing.specs.Update.{samePattern, renewOf, updateOf}
 use Rattle.standing.proofs.Outcomes.{never}

@@ -25,6 +25,10 @@ module _ {A B : Type 0} (o : Outcome A) (rest : A → Outcome B) where
   pub then-refused : {q : Refusal} → o ≡ refused q → _>>=_ o rest ≡ refused q
   then-refused e = rw e
 
+-- what is accepted is one thing
+pub accepted-one : {A : Type 0} {a b : A} → accepted a ≡ accepted b → a ≡ b
+accepted-one e = cc
+
 module _ {A : Type 0} (row rows : ℕ) (asked : ℕ → Outcome Unit) (rest : Outcome A) where
   -- a row that passes leaves the rows after it
   pub each-step : row < rows → asked row ≡ passed → askFrom row rows asked rest ≡ askFrom (row + 1) rows asked rest
@@ -76,6 +80,11 @@ module _ {A : Type 0} (o : Outcome A) where
 pub passes : {v : Verdict} (o : Outcome Unit) → v ≡ verdictOf o → v ≡ Verdict.Passed → o ≡ passed
 passes (accepted a) e told = refl
 passes (refused q) e told = let none : _≡_ {A = ℕ} 0 1 = cc in absurd (omega arith)
+
+-- what passed was accepted
+pub accepts-it : {A : Type 0} {v : Verdict} (out : Outcome A) → v ≡ verdictOf out → v ≡ Verdict.Passed → (a : A) × (out ≡ accepted a)
+accepts-it (accepted a) e told = (a, refl)
+accepts-it (refused q) e told = let none : _≡_ {A = ℕ} 0 1 = cc in absurd (omega arith)
 
 -- where the verdict is a refusal, the outcome is that refusal
 pub refuses : {A : Type 0} {v : Verdict} {q : Refusal} (o : Outcome A) → v ≡ verdictOf o → v ≡ Verdict.Refused q → o ≡ refused q

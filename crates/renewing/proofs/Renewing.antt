@@ -16,13 +16,13 @@ use Rattle.refusal.specs.declared.Refusal.{Refusal}
 use Rattle.refusal.specs.Refusal.{badCoarseValue}
 use Rattle.refusal.specs.declared.Verdict.{Verdict}
 use Rattle.refusal.specs.Outcome.{Outcome, accepted, refused, ask, verdictOf, isRefused, _>>=_}
-use Rattle.refusal.proofs.Outcome.{then-accepted, then-refused, went-on}
+use Rattle.refusal.proofs.Outcome.{then-accepted, then-refused, went-on, accepted-one}
 use Rattle.finite.specs.Finite.{allFinite}
 use Rattle.pattern.specs.Pattern.{entries}
 use Rattle.packed.specs.Triangle.{tri}
 use Rattle.hierarchy.specs.Level.{Shape, Numbers, Level}
 use Rattle.hierarchy.specs.Refresh.{numbersOf, coarseValues}
-use Rattle.hierarchy.proofs.Accepted.{then-split, accepted-one}
+use Rattle.hierarchy.proofs.Accepted.{then-split}
 use Rattle.layout.specs.declared.Place.{Place}
 use Rattle.layout.specs.Layout.{rowsAt, lastAt, coupledAt, entriesAt, facesAt, locate, numbersAt, levelAt, wordsEnd, floatsEnd, levelsAt}
 use Rattle.layout.proofs.Views.{level-kept}

@@ -12,12 +12,11 @@ use Rattle.options.specs.declared.MultigridOptions.{MultigridOptions}
 use Rattle.refusal.specs.Refusal.{badCoarseValue}
 use Rattle.refusal.specs.declared.Verdict.{Verdict}
 use Rattle.refusal.specs.Outcome.{Outcome, accepted, refused, ask, verdictOf, isRefused}
-use Rattle.refusal.proofs.Outcome.{ask-yes, ask-no, then-accepted, then-refused, went-on}
+use Rattle.refusal.proofs.Outcome.{ask-yes, ask-no, then-accepted, then-refused, went-on, accepted-one}
 use Rattle.finite.specs.Finite.{allFinite}
 use Rattle.galerkin.specs.Values.{galerkinOf}
 use Rattle.packed.specs.Triangle.{tri}
 use Rattle.hierarchy.specs.Level.{Numbers}
-use Rattle.hierarchy.proofs.Accepted.{accepted-one}
 use Rattle.layout.specs.declared.Place.{Place}
 use Rattle.layout.specs.Layout.{numbersAt}
 use Rattle.renewlevel.specs.Level.{LevelOk, LevelReady, levelRenewed, LevelDone, CoarseOk, coarseAt, CoarseDone, FirstOk}

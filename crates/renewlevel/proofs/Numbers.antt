@@ -14,7 +14,7 @@ use Rattle.store.proofs.Region.{length-part, wrote-at, kept-part, kept-wrote, k
 use Rattle.options.specs.declared.MultigridOptions.{MultigridOptions}
 use Rattle.refusal.specs.declared.Verdict.{Verdict}
 use Rattle.refusal.specs.Outcome.{Outcome, accepted, refused, verdictOf, isRefused, _>>=_}
-use Rattle.refusal.proofs.Outcome.{then-accepted, then-refused, verdict-passed}
+use Rattle.refusal.proofs.Outcome.{then-accepted, then-refused, verdict-passed, accepted-one}
 use Rattle.matrix.specs.Kernel.{kernelAt}
 use Rattle.values.specs.Update.{Coefficients, updateOf, updateWith, Updated}
 use Rattle.values.proofs.UpdateLaws.{within-kept}
@@ -23,7 +23,7 @@ use Rattle.packed.specs.Triangle.{tri}
 use Rattle.cholesky.specs.Factor.{choleskyOf}
 use Rattle.hierarchy.specs.Level.{Shape, Numbers, kernelOf, csrOf}
 use Rattle.hierarchy.specs.Refresh.{needsDic, coefficientsOf, smootherOf, innerNumbers, lastNumbers}
-use Rattle.hierarchy.proofs.Accepted.{then-split, accepted-one}
+use Rattle.hierarchy.proofs.Accepted.{then-split}
 use Rattle.layout.specs.declared.Place.{Place}
 use Rattle.layout.specs.Layout.{shapeAt, numbersAt}
 use Rattle.layout.specs.Parts.{kernelIn, entriesIn}

@@ -24,7 +24,7 @@ use Rattle.refusal.specs.declared.Refusal.{Refusal}
 use Rattle.refusal.specs.Refusal.{badNormalization, badResidual}
 use Rattle.refusal.specs.declared.Verdict.{Verdict}
 use Rattle.refusal.specs.Outcome.{Outcome, accepted, refused, verdictOf, _>>=_}
-use Rattle.refusal.proofs.Outcome.{ask-yes, ask-no, refuses}
+use Rattle.refusal.proofs.Outcome.{ask-yes, ask-no, refuses, accepts-it}
 use Rattle.vector.specs.declared.Product.{Product}
 use Rattle.matrix.specs.Kernel.{Kernel, applyOf}
 use Rattle.correction.specs.Correction.{subtractOf}
@@ -320,11 +320,6 @@ opened-of h w size records e =
       },
       leb-true (h .levels) records (t .1),
     )
-
--- What passed was accepted.
-accepts-it : {A : Type 0} {v : Verdict} (out : Outcome A) → v ≡ verdictOf out → v ≡ Verdict.Passed → (a : A) × (out ≡ accepted a)
-accepts-it (accepted a) e told = (a, refl)
-accepts-it (refused q) e told = let none : _≡_ {A = ℕ} 0 1 = cc in absurd (omega arith)
 
 -- What the solve on copies requires.
 pub begin-ok : {h : Handle} {w : List ℕ} {size words : ℕ} (s : LinearSolverOptions) (rhs x : List Float) {r : Verdict} → soundOf h w size (words / 4) ≡ true

@@ -34,7 +34,7 @@ use Rattle.stepping.specs.declared.Regions.{Regions}
 use Rattle.stepping.specs.declared.Step.{Step}
 use Rattle.stepping.specs.Iteration.{System, State, measured, residualOf, measuredOf, movedOf, stepOf}
 use Rattle.stepping.specs.Steps.{systemAt, Ready, StepOk, VectorsOk, Renewed, Moved, MoveOk, moveOf, moveAt, afterOf, afterAt, stateAt, stepAt, AdvanceDone, StepDone}
-use Rattle.stepping.proofs.Moving.{kernel-above, accepted-one, memory-kept}
+use Rattle.stepping.proofs.Moving.{kernel-above, memory-kept}
 use Rattle.stepping.proofs.Placing.{vectors, move-ok, cycle-ok, rows-is, correction-is, system-kept, kernel-is, kernel-rows}
 
 -- ---- after the cycle

@@ -13,6 +13,7 @@ use lib.Ieee.{Float}
 use Rattle.store.specs.Region.{part, Wrote, Kept, CopyOk}
 use Rattle.store.proofs.Region.{wrote-at, wrote-off, kept-wrote, kept-on, kept-less, kept-part}
 use Rattle.refusal.specs.Outcome.{Outcome, accepted}
+use Rattle.refusal.proofs.Outcome.{accepted-one}
 use Rattle.matrix.specs.declared.SymmetricMatrix.{SymmetricMatrix}
 use Rattle.matrix.specs.Kernel.{Kernel, KernelOk, kernelAt, applyOf}
 use Rattle.correction.specs.Correction.{SubtractOk, subtractOf, addPlainOf}
@@ -42,10 +43,6 @@ kernel-above k h =
 take-part : (p : ℕ) (F G : List Float) → part 0 p G ≡ part 0 p F → take p G ≡ take p F
 unfolding part
 take-part p F G e = e
-
--- What is accepted is one thing.
-pub accepted-one : {A : Type 0} {a b : A} → accepted a ≡ accepted b → a ≡ b
-accepted-one e = cc
 
 -- The memory is as it was where nothing below `p` changed.
 pub memory-kept : {F G : List Float} {p : ℕ} (used n directions images : ℕ) → Kept p F G → directions + used * n ≤ p → images + used * n ≤ p

@@ -21,6 +21,10 @@ for-done f lo hi s h =
     let e : hi - lo ≡ 0 = omega arith in
     ap (λ (n : ℕ). iter f n lo s) e
 
+-- One turn.
+pub for-one : {S : Type 0} (f : ℕ → S → S) (k : ℕ) (s : S) → for f k (k + 1) s ≡ f k s
+for-one f k s = for-step f k (k + 1) s (omega arith) ∙ for-done f (k + 1) (k + 1) (f k s) (omega arith)
+
 iter-sim : {S U : Type 0} (R : U → S → Type 0) (g : ℕ → U → U) (f : ℕ → S → S) (n lo : ℕ)
     → ((k : ℕ) → lo ≤ k → k < lo + n → (v : U) (s : S) → R v s → R (g k v) (f k s))
     → (v : U) (s : S) → R v s → R (iter g n lo v) (iter f n lo s)

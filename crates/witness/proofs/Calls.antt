@@ -16,6 +16,7 @@ use Rattle.store.specs.Vector.{tab, each, filled}
 use Rattle.options.specs.Options.{validOf}
 use Rattle.refusal.specs.Refusal.{badDiagonal}
 use Rattle.refusal.specs.Outcome.{Outcome, accepted, refused, askRows}
+use Rattle.refusal.proofs.Outcome.{accepted-one}
 use Rattle.hierarchy.specs.Level.{Hierarchy}
 use Rattle.hierarchy.specs.Build.{Lent, Input, buildOf}
 use Rattle.hierarchy.specs.Build as building
@@ -39,7 +40,6 @@ use Rattle.normalization.specs.Normalization as normalization
 use Rattle.solver.specs.Solver as solver
 use Rattle.cycle.specs.Cycle as cycle
 use Rattle.layout.specs.Layout as layout
-use Rattle.hierarchy.proofs.Accepted.{accepted-one}
 use Rattle.answers.specs.declared.Built.{Built}
 use Rattle.build.specs.Contract.{lentOf}
 use Rattle.statistics.specs.Fresh as fresh
