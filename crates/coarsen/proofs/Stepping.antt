@@ -9,7 +9,7 @@ use lib.ListN.{length}
 use lib.Ieee.{Float}
 use Rattle.store.specs.Region.{part, Wrote, CopyOk}
 use Rattle.store.proofs.Region.{wrote-at, wrote-off, kept-wrote, kept-on, kept-less, kept-part, kept-self}
-use Rattle.pattern.specs.Pattern.{Pattern, entries, coarse}
+use Rattle.pattern.specs.Pattern.{Pattern, entries}
 use Rattle.pattern.proofs.Number.{not-both}
 use Rattle.pattern.proofs.Row.{offset-mono}
 use Rattle.pattern.proofs.Coarse.{coarse-valid}

@@ -1,14 +1,14 @@
 -- Copies between lists: a turn of the loop, and what it leaves.
 -- Assumes nothing.
 use mathlib.Core.Path.{_≡_, refl, sym, ap, _∙_}
-use mathlib.Core.List.{List, [], _∷_, _++_}
-use Prim.Native.Nat.{ℕ, zero, suc, _+_, _≤_, _<_}
+use mathlib.Core.List.{List}
+use Prim.Native.Nat.{ℕ, _+_, _≤_}
 use native.Mathlib.Nat.{zero-add}
 use native.Mathlib.Omega.{arith}
 use lib.ListN.{length, getD, set}
 use lib.Ieee.{Float}
 use Rattle.store.specs.Loop.{for}
-use Rattle.store.specs.Region.{part, splice, Wrote, Kept}
+use Rattle.store.specs.Region.{part, splice, Wrote}
 use Rattle.store.proofs.Loop.{Left, left-end, for-same, for-done}
 use Rattle.store.proofs.Region.{getD-part, length-part, wrote, wrote-at, wrote-off, wrote-whole, kept-wrote, kept-on}
 use Rattle.store.proofs.Vector.{tab-same, tab-getD, for-each}

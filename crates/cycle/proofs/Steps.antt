@@ -1,6 +1,6 @@
 -- What the work at one level does, said of the definitions.
 -- Assumes nothing.
-use mathlib.Core.Path.{_≡_, refl, sym, ap, _∙_, subst}
+use mathlib.Core.Path.{_≡_, refl, sym, ap, _∙_}
 use mathlib.Core.Bool.{Bool, true, false}
 use mathlib.Core.List.{List}
 use Prim.Native.Nat.{ℕ, _+_, _*_, _≤_, _<_, min}
@@ -10,7 +10,6 @@ use lib.Ieee.{Float}
 use Rattle.store.specs.Region.{idx, part, Kept}
 use Rattle.store.proofs.Region.{length-part}
 use Rattle.options.specs.declared.MultigridOptions.{MultigridOptions}
-use Rattle.options.specs.declared.MultigridSmoother.{MultigridSmoother}
 use Rattle.counts.specs.Counts.{preSweepsOf, postSweepsOf}
 use Rattle.refusal.specs.declared.Refusal.{Refusal}
 use Rattle.refusal.specs.Refusal.{badCoarseSolution}
@@ -32,7 +31,7 @@ use Rattle.visit.specs.Visit.{InnerOk, rhsAt, xAt, raisedAt, Moved, Downed}
 use Rattle.visit.proofs.Laws.{accepts, not-both, same-accepted}
 use Rattle.cycle.specs.declared.Way.{Way}
 use Rattle.cycle.specs.Cycle.{Cycled, cycled, countOf, swept, iterated, ended}
-use Rattle.cycle.specs.Contract.{levelIn, nextIn, innerAt, PlaceOk, NextOk, LastOk, EndOk, StepOk, Visited, WentDown, DownDone, endAt, upAt, workOk, workDone}
+use Rattle.cycle.specs.Contract.{levelIn, nextIn, innerAt, PlaceOk, NextOk, EndOk, StepOk, Visited, WentDown, endAt, upAt, workOk, workDone}
 
 -- ---- the place
 

@@ -30,10 +30,10 @@ use Rattle.sound.specs.Sound.{walkOf, scratchEnd}
 use Rattle.sound.proofs.Facts.{Here, Passed, passed, endsOf, targetsOf, sumsOf}
 use Rattle.visit.specs.declared.Inner.{Inner}
 use Rattle.visit.specs.Visit as visit
-use Rattle.visit.specs.Visit.{InnerOk, rhsAt, xAt, residualAt, residualPlace, matrixAt, smoothedAt, broughtAt, raisedAt, Downed}
+use Rattle.visit.specs.Visit.{InnerOk, rhsAt, xAt, residualAt, residualPlace, matrixAt, smoothedAt}
 use Rattle.visit.proofs.Laws.{accepts, not-both, kernel-same, residual-ends}
 use Rattle.cycle.specs.Cycle.{Cycled, cycled, countOf, visited, swept, rowsFirst, residualIn, correctedOf, endOf, upOf, cycleOf}
-use Rattle.cycle.specs.Contract.{cycleAt, CycleOk, CycleDone, levelIn, innerIn, nextIn, innerAt, PlaceOk, NextOk, EndOk, StepOk, LastOk}
+use Rattle.cycle.specs.Contract.{cycleAt, CycleOk, CycleDone, levelIn, innerIn, nextIn, innerAt, PlaceOk, EndOk, StepOk}
 use Rattle.cycle.specs.Contract.{Visited, DownDone, endAt, upAt}
 
 -- ---- the levels, the first apart

@@ -8,7 +8,6 @@ use native.Mathlib.Nat.{add-assoc}
 use native.Mathlib.Numerals.{add-one}
 use native.Mathlib.Omega.{arith}
 use lib.ListN.{length, set, length-set}
-use lib.Seq.{getD-set-other}
 use lib.Ieee.{Float, nan}
 use Rattle.float.specs.Float.{div64, one64, isFinite}
 use Rattle.store.specs.Loop.{for}

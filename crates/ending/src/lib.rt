@@ -1,6 +1,5 @@
 // The last level of `build` of hierarchy.rs: its coupled rows and their factor (`CoarseSystem::new` of coarse.rs).
 ghost use mathlib.Core.Path.{_≡_};
-ghost use Prim.Native.Nat.{_≤_};
 ghost use lib.ListN.{length};
 ghost use Rattle.faces.specs.Faces.{coupledCountOf};
 ghost use Rattle.faces.specs.Contract.{patternAt, CoupledOk};

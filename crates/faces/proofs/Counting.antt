@@ -13,7 +13,7 @@ use Rattle.store.specs.Region.{idx, splice, Kept}
 use Rattle.store.specs.Vector.{tab}
 use Rattle.store.proofs.Region.{splice-nil, wrote, kept-wrote}
 use Rattle.store.proofs.Vector.{length-tab}
-use Rattle.pattern.specs.Pattern.{howMany, Pattern, entries, columnOf, rowOf}
+use Rattle.pattern.specs.Pattern.{howMany, Pattern, columnOf, rowOf}
 use Rattle.pattern.proofs.Number.{many-step, many-zero}
 use Rattle.pattern.proofs.Row.{row-is}
 use Rattle.faces.specs.declared.Faces.{Faces}

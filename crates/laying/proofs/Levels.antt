@@ -12,11 +12,11 @@ use Rattle.store.proofs.Region.{length-part, getD-part, kept-on, kept-less, kep
 use Rattle.options.specs.declared.MultigridOptions.{MultigridOptions}
 use Rattle.refusal.specs.declared.Refusal.{Refusal}
 use Rattle.refusal.specs.declared.Verdict.{Verdict}
-use Rattle.refusal.specs.Outcome.{Outcome, accepted, refused, verdictOf, _>>=_}
+use Rattle.refusal.specs.Outcome.{Outcome, accepted, refused, verdictOf}
 use Rattle.refusal.proofs.Outcome.{passes, refuses}
 use Rattle.values.specs.Update.{Coefficients, UpdateOk, Holds}
 use Rattle.values.proofs.UpdateLaws.{within-kept, within-above}
-use Rattle.pattern.specs.Pattern.{Pattern, entries, Valid}
+use Rattle.pattern.specs.Pattern.{Pattern, Valid}
 use Rattle.faces.specs.Faces.{facesOf, faceOffsetsOf, neighborsOf, uppersOf, lowersOf, diagonalsOf, diagonalsAsked}
 use Rattle.faces.proofs.Laws.{diagonal-is, diagonal-entry, upper-entry, starts-last}
 use Rattle.hierarchy.specs.Proper.{Proper}

@@ -1,7 +1,7 @@
 -- Worked examples, over P = 4, −2; −2, 2. Each holds by computing.
 -- Assumes nothing.
 use mathlib.Core.Path.{_≡_, refl}
-use mathlib.Core.List.{List, [], _∷_}
+use mathlib.Core.List.{[], _∷_}
 use lib.Ieee.{Float, binary64, ofBits, add, sub, mul}
 use Rattle.float.specs.Float.{zero64, one64}
 use Rattle.store.specs.Loop.{iter, for}

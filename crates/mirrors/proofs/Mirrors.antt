@@ -1,6 +1,6 @@
 -- The loops of `equal_mirrors` and of `copy_uppers` as the code has them, and the finiteness of the copies.
 -- Assumes nothing.
-use mathlib.Core.Path.{_≡_, refl, sym, ap, _∙_}
+use mathlib.Core.Path.{_≡_, refl, ap, _∙_}
 use mathlib.Core.Bool.{Bool, true, false, _&&_}
 use mathlib.Core.List.{List}
 use Prim.Native.Nat.{ℕ, zero, suc, _+_, _≤_, _<_}
@@ -8,8 +8,8 @@ use lib.ListN.{length, set}
 use lib.Ieee.{Float, nan, inf, fin, eq}
 use Rattle.float.specs.Float.{isFinite}
 use Rattle.store.specs.Loop.{for}
-use Rattle.store.specs.Region.{at, idx, part, splice, Wrote}
-use Rattle.store.specs.Vector.{tab, each}
+use Rattle.store.specs.Region.{at, idx, part, splice}
+use Rattle.store.specs.Vector.{each}
 use Rattle.store.proofs.Loop.{Left, left-start, left-on, left-end}
 use Rattle.store.proofs.Region.{getD-part, wrote, wrote-at}
 use Rattle.store.proofs.Vector.{length-tab, getD-tab, tab-same, for-each}

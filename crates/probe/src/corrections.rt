@@ -1,5 +1,4 @@
 // The functions of `correction` and `acceleration`.
-ghost use mathlib.Core.Path.{_≡_};
 ghost use Prim.Native.Nat.{_≤_};
 ghost use lib.ListN.{length};
 ghost use Rattle.store.specs.Region.{part, Wrote, CopyOk};

@@ -9,7 +9,7 @@ use Rattle.float.specs.Float.{zero64, one64}
 use Rattle.root.specs.Sqrt.{sqrtOf}
 use Rattle.store.specs.Vector.{filled}
 use Rattle.aggregation.specs.Pairs.{Weighted, weighted, strengthsOf, pairsOf}
-use Rattle.pattern.specs.Pattern.{Pattern, entries, coarse, coarseOffsets, coarseColumns, coarsePositions}
+use Rattle.pattern.specs.Pattern.{Pattern, entries, coarseOffsets, coarseColumns, coarsePositions}
 use Rattle.galerkin.specs.Values.{galerkinOf}
 use Rattle.matrix.specs.Kernel.{Kernel}
 use Rattle.dic.specs.Dic.{dicOf}

@@ -2,7 +2,7 @@
 -- Assumes nothing.
 use mathlib.Core.Path.{_≡_, refl, sym, ap, _∙_}
 use mathlib.Core.List.{List}
-use Prim.Native.Nat.{ℕ, _+_, _*_, _≤_}
+use Prim.Native.Nat.{ℕ, _+_, _≤_}
 use native.Mathlib.Nat.{mul-le-mul-right}
 use native.Mathlib.Omega.{arith}
 use lib.ListN.{length}
@@ -32,8 +32,8 @@ use Rattle.cycle.specs.Cycle.{Cycled, cycleOf}
 use Rattle.cycle.specs.Contract.{cycleAt, CycleOk, CycleDone}
 use Rattle.stepping.specs.declared.Regions.{Regions}
 use Rattle.stepping.specs.declared.Step.{Step}
-use Rattle.stepping.specs.Iteration.{System, State, measured, residualOf, measuredOf, movedOf, stepOf}
-use Rattle.stepping.specs.Steps.{systemAt, Ready, StepOk, VectorsOk, Renewed, Moved, MoveOk, moveOf, moveAt, afterOf, afterAt, stateAt, stepAt, AdvanceDone, StepDone}
+use Rattle.stepping.specs.Iteration.{System, State, measured, residualOf, movedOf, stepOf}
+use Rattle.stepping.specs.Steps.{systemAt, StepOk, VectorsOk, Renewed, Moved, moveOf, moveAt, afterOf, afterAt, stateAt, stepAt, AdvanceDone, StepDone}
 use Rattle.stepping.proofs.Moving.{kernel-above, memory-kept}
 use Rattle.stepping.proofs.Placing.{vectors, move-ok, cycle-ok, rows-is, correction-is, system-kept, kernel-is, kernel-rows}
 

@@ -1,9 +1,9 @@
 -- The residual of the solution, and the solution moved by a correction.
 -- Assumes nothing.
-use mathlib.Core.Path.{_≡_, refl, sym, ap, _∙_, subst}
+use mathlib.Core.Path.{_≡_, sym, ap, _∙_, subst}
 use mathlib.Core.Bool.{true, false}
 use mathlib.Core.List.{List, []}
-use Prim.Native.Nat.{ℕ, _+_, _*_, _≤_, _<_}
+use Prim.Native.Nat.{ℕ, _+_, _*_, _≤_}
 use native.Mathlib.Nat.{mul-le-mul-right}
 use native.Mathlib.Omega.{arith}
 use borrow.Author.Tests.{eq-eqb, ne-eqb}
@@ -12,13 +12,12 @@ use lib.ListN.{length, take}
 use lib.Ieee.{Float}
 use Rattle.store.specs.Region.{part, Wrote, Kept, CopyOk}
 use Rattle.store.proofs.Region.{wrote-at, wrote-off, kept-wrote, kept-on, kept-less, kept-part}
-use Rattle.refusal.specs.Outcome.{Outcome, accepted}
+use Rattle.refusal.specs.Outcome.{accepted}
 use Rattle.refusal.proofs.Outcome.{accepted-one}
 use Rattle.matrix.specs.declared.SymmetricMatrix.{SymmetricMatrix}
-use Rattle.matrix.specs.Kernel.{Kernel, KernelOk, kernelAt, applyOf}
+use Rattle.matrix.specs.Kernel.{KernelOk, kernelAt, applyOf}
 use Rattle.correction.specs.Correction.{SubtractOk, subtractOf, addPlainOf}
 use Rattle.acceleration.specs.declared.Corrected.{Corrected}
-use Rattle.directions.specs.Directions.{Pair}
 use Rattle.acceleration.specs.Gcr.{Corrections, correctOf}
 use Rattle.directions.specs.Contract.{pairAt, memoryAt}
 use Rattle.acceleration.specs.Contract.{CorrectOk, CorrectedBy, correctedOf}

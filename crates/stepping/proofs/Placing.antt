@@ -1,18 +1,17 @@
 -- Where the vectors of a solve stand: what question 19 tells of the finest level and of the scratch, and the hierarchy under writes to it.
 -- Assumes nothing.
 use mathlib.Core.Path.{_≡_, refl, sym, ap, _∙_, subst}
-use mathlib.Core.List.{List, _∷_}
-use Prim.Native.Nat.{ℕ, zero, suc, _+_, _*_, _-_, _/_, _≤_, _<_, zero-le}
-use native.Mathlib.Nat.{add-mul, mul-assoc, mul-le-mul-right}
+use mathlib.Core.List.{List}
+use Prim.Native.Nat.{ℕ, zero, suc, _+_, _*_, _-_, _/_, _≤_, zero-le}
+use native.Mathlib.Nat.{add-mul, mul-assoc}
 use native.Mathlib.Omega.{arith}
 use lib.ListN.{length}
 use lib.Ieee.{Float}
 use Rattle.store.specs.Region.{part, Kept}
-use Rattle.store.proofs.Region.{kept-self, kept-less, kept-part}
+use Rattle.store.proofs.Region.{kept-self, kept-part}
 use Rattle.options.specs.declared.Handle.{Handle}
 use Rattle.matrix.specs.declared.SymmetricMatrix.{SymmetricMatrix}
 use Rattle.matrix.specs.Kernel.{Kernel, KernelOk, kernelAt}
-use Rattle.hierarchy.specs.Level.{Level}
 use Rattle.layout.specs.Layout.{rowsAt, locate, levelAt, levelsAt, wordsEnd, floatsEnd, imageEnd, viewOf}
 use Rattle.layout.specs.Parts as parts
 use Rattle.layout.proofs.Views.{floats-to, wordsTo, levels-kept}
@@ -21,11 +20,10 @@ use Rattle.sound.specs.Sound.{walkOf, scratchStart, scratchEnd, cycleStart}
 use Rattle.sound.specs.Contract as index
 use Rattle.sound.proofs.Facts.{Passed, passed}
 use Rattle.sound.proofs.Sizes.{place-zero, first-head}
-use Rattle.cycle.specs.Cycle as cycle
 use Rattle.cycle.specs.Contract.{CycleOk}
 use Rattle.stepping.specs.declared.Regions.{Regions}
 use Rattle.stepping.specs.Iteration.{kernelFirst}
-use Rattle.stepping.specs.Steps.{systemAt, regionsAt, Opened, Ready, VectorsOk, MoveOk, StepOk}
+use Rattle.stepping.specs.Steps.{systemAt, regionsAt, Opened, Ready, VectorsOk, MoveOk}
 
 -- Scratch ends behind where it starts.
 scratch-to : (k : ℕ) (w : List ℕ) (a s : ℕ) → s ≤ scratchEnd k w a s

@@ -5,7 +5,6 @@ use Prim.Native.Nat.{ℕ}
 use lib.Ieee.{Float}
 use lib.ListN.{set}
 use Rattle.solver.specs.declared.LinearSolverStatus.{LinearSolverStatus}
-use Rattle.solver.specs.declared.LinearSolveReport.{LinearSolveReport}
 use Rattle.refusal.specs.declared.Refusal.{Refusal}
 use Rattle.answers.specs.declared.Built.{Built}
 use Rattle.answers.specs.declared.Solved.{Solved}

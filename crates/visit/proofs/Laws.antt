@@ -17,21 +17,21 @@ use Rattle.options.specs.declared.MultigridSmoother.{MultigridSmoother}
 use Rattle.refusal.specs.declared.Refusal.{Refusal}
 use Rattle.refusal.specs.Refusal.{badSmootherOutput}
 use Rattle.refusal.specs.declared.Verdict.{Verdict}
-use Rattle.refusal.specs.Outcome.{Outcome, accepted, refused, ask, verdictOf, _>>=_}
+use Rattle.refusal.specs.Outcome.{Outcome, accepted, refused, ask, verdictOf}
 use Rattle.refusal.proofs.Outcome.{verdict-passed, verdict-refused, refuses}
 use Rattle.finite.specs.Finite.{allFinite}
 use Rattle.matrix.specs.declared.SymmetricMatrix.{SymmetricMatrix}
 use Rattle.matrix.specs.Kernel.{Kernel, kernelAt, applyOf, KernelOk}
 use Rattle.sweeps.specs.Contract.{SmoothOk}
 use Rattle.smoother.specs.Smooth.{Smoothed, SmoothDone, sweptOf, smoothOf}
-use Rattle.transfer.specs.Transfer.{RestrictOk, ProlongOk, restrictOf, prolongOf}
+use Rattle.transfer.specs.Transfer.{RestrictOk, ProlongOk, restrictOf}
 use Rattle.scaling.specs.declared.Factor.{Factor}
 use Rattle.scaling.specs.Scaling.{ProductsOk, correctionFactorOf, factorOf}
 use Rattle.correction.specs.Correction.{SubtractOk, subtractOf, addPlainOf}
 use Rattle.scaledcorrection.specs.Scaled.{ScaledOk, addScaledOf}
 use Rattle.visit.specs.declared.Inner.{Inner}
-use Rattle.visit.specs.Visit.{residualOf, scaledOf, correctedOf, rhsAt, xAt, correctionAt, residualPlace, residualAt, matrixAt, residualIn}
-use Rattle.visit.specs.Visit.{smoothedIn, smoothedAt, scaledAt, correctedIn, correctedAt, broughtAt, raisedAt}
+use Rattle.visit.specs.Visit.{residualOf, correctedOf, rhsAt, xAt, correctionAt, residualPlace, residualAt, matrixAt, residualIn}
+use Rattle.visit.specs.Visit.{smoothedAt, scaledAt, correctedIn, correctedAt, broughtAt, raisedAt}
 use Rattle.visit.specs.Visit.{InnerOk, Moved, Resided, Left, Restricted, Downed}
 
 -- ---- outcomes

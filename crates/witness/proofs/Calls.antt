@@ -1,13 +1,12 @@
 -- The calls of specs/Calls.antt can be made, one after the other, after a build with face weights, and the book's build is accepted for
 -- each of their solves: the theorem on lists of calls is about something. It holds by computing.
 -- Assumes nothing.
-use mathlib.Core.Path.{_≡_, refl, sym, ap, _∙_}
-use mathlib.Core.Bool.{true, false}
-use mathlib.Core.List.{List, [], _∷_, _++_}
+use mathlib.Core.Path.{_≡_, refl, sym, _∙_}
+use mathlib.Core.Bool.{true}
+use mathlib.Core.List.{List, [], _∷_}
 use Prim.Native.Nat.{ℕ}
-use lib.ListN.{length}
 use native.Mathlib.Omega.{arith}
-use lib.Ieee.{Float, binary64, ofBits, add, sub, mul, div, lt, le, eq, ne}
+use lib.Ieee.{Float, ofBits, add, sub, mul, div, lt, le, eq, ne}
 use Rattle.float.specs.Float.{zero64, one64, isFinite, maxNum}
 use Rattle.root.specs.Sqrt.{sqrtOf}
 use Rattle.store.specs.Loop.{iter, for}
@@ -15,10 +14,10 @@ use Rattle.store.specs.Region.{part, lay, splice}
 use Rattle.store.specs.Vector.{tab, each, filled}
 use Rattle.options.specs.Options.{validOf}
 use Rattle.refusal.specs.Refusal.{badDiagonal}
-use Rattle.refusal.specs.Outcome.{Outcome, accepted, refused, askRows}
+use Rattle.refusal.specs.Outcome.{accepted, askRows}
 use Rattle.refusal.proofs.Outcome.{accepted-one}
 use Rattle.hierarchy.specs.Level.{Hierarchy}
-use Rattle.hierarchy.specs.Build.{Lent, Input, buildOf}
+use Rattle.hierarchy.specs.Build.{buildOf}
 use Rattle.hierarchy.specs.Build as building
 use Rattle.hierarchy.specs.Refresh as refreshing
 use Rattle.mirrors.specs.Mirrors.{mirrorsAgree, mirrorsEqual}
@@ -56,7 +55,7 @@ use Rattle.updatecall.specs.Call.{UpdateCall}
 use Rattle.solvecall.specs.Call.{SolveCall}
 use Rattle.multigrid.specs.Trace.{Trace, withValues, Agrees}
 use Rattle.multigrid.proofs.Trace.{refreshed-is-fresh}
-use Rattle.witness.specs.Calls.{two, half, controls, cell, handle, asked, converged, calls}
+use Rattle.witness.specs.Calls.{two, half, cell, handle, asked, converged, calls}
 
 -- its hierarchy, once the coefficient is d and its reciprocal i
 abbrev oneCell : Float → Float → Hierarchy

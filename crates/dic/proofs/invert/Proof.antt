@@ -2,7 +2,7 @@
 -- Assumes nothing.
 use mathlib.Core.Path.{_≡_, refl}
 use Prim.Native.Nat.{_-_}
-use lib.ListN.{length, length-set}
+use lib.ListN.{length}
 use Rattle.dic.proofs.Dic.{Inverting, inverting-start, invert-on, inverted}
 use native.Mathlib.Omega.{arith}
 use borrow.Author.Needs.{needs}

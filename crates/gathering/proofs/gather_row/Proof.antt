@@ -3,7 +3,6 @@
 use Prim.Native.Nat.{_-_}
 use Rattle.pattern.proofs.Gathering.{RowAt, row-start, row-entries, row-later, row-on, row-end}
 use native.Mathlib.Omega.{arith}
-use borrow.Author.Needs.{needs}
 use Rattle.gathering.proofs.gather_row.Statement.{statement}
 use Rattle.gathering.proofs.gather_row.Tie as tie
 

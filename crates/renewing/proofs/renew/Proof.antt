@@ -2,7 +2,6 @@
 -- Assumes nothing.
 use mathlib.Core.Path.{sym, _∙_}
 use Rattle.renewing.proofs.Renewing.{start-place, load-room, loaded-rest, loaded-done, first-words, first-next, first-ready, faces-ready, first-no, first-rest, first-on}
-use native.Mathlib.Omega.{arith}
 use borrow.Author.Needs.{needs}
 use Rattle.renewing.proofs.renew.Statement.{statement}
 use Rattle.renewing.proofs.renew.Tie as tie

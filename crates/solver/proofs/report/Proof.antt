@@ -1,7 +1,5 @@
 -- `solver::report` meets its contract.
 -- Assumes nothing.
-use mathlib.Core.Path.{ap}
-use Rattle.solver.specs.declared.LinearSolveReport.{LinearSolveReport}
 use borrow.Author.Needs.{needs}
 use Rattle.solver.proofs.report.Statement.{statement}
 use Rattle.solver.proofs.report.Tie as tie

@@ -2,13 +2,10 @@
 -- Assumes nothing.
 use Prim.Native.Nat.{_-_}
 use native.Mathlib.Omega.{arith}
-use borrow.Author.Needs.{needs}
 use Rattle.store.specs.Region.{part}
 use Rattle.vector.proofs.Laws.{Sides, sides-start, sides-on, sides-end}
 use Rattle.vector.proofs.dot_blocks.Statement.{statement}
 use Rattle.vector.proofs.dot_blocks.Tie as tie
-use Rattle.vector.proofs.dot_blocks.Reads as reads
-use Rattle.vector.proofs.dot_blocks.Lts as lts
 
 abbrev Inv-loop : tie.InvT-loop
 Inv-loop f a b n lo hi first₀ second₀ k₀ l₀ first second k l = Sides (part a n f) (part b n f) lo hi k l first second

@@ -10,9 +10,6 @@ use Rattle.vector.specs.Dot.{blockTurn}
 use Rattle.vector.proofs.Laws.{pair-on, pairs-end}
 use Rattle.vector.proofs.dot_pairs.Statement.{statement}
 use Rattle.vector.proofs.dot_pairs.Tie as tie
-use Rattle.vector.proofs.dot_pairs.Reads as reads
-use Rattle.vector.proofs.dot_pairs.Lts as lts
-use Rattle.vector.proofs.dot_blocks.Reads as dot-blocks-reads
 
 abbrev Inv-loop : tie.InvT-loop
 Inv-loop f a b n pairs sum₀ p₀ sum p = Left (blockTurn n (part a n f) (part b n f)) (2 * p) (2 * pairs) sum (for (blockTurn n (part a n f) (part b n f)) 0 (2 * pairs) negZero)

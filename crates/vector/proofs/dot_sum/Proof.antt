@@ -8,11 +8,6 @@ use Rattle.vector.specs.Dot.{blockTurn, dotOf}
 use Rattle.vector.proofs.Laws.{block-on, pairs-left}
 use Rattle.vector.proofs.dot_sum.Statement.{statement}
 use Rattle.vector.proofs.dot_sum.Tie as tie
-use Rattle.vector.proofs.dot_sum.Reads as reads
-use Rattle.vector.proofs.dot_sum.Lts as lts
-use Rattle.vector.proofs.dot_block.Reads as dot-block-reads
-use Rattle.vector.proofs.dot_pairs.Reads as dot-pairs-reads
-use Rattle.vector.proofs.least.Reads as least-reads
 
 abbrev Inv-loop : tie.InvT-loop
 Inv-loop f a b n blocks pairs sum₀ i₀ sum i = Left (blockTurn n (part a n f) (part b n f)) i blocks sum (dotOf n (part a n f) (part b n f))
