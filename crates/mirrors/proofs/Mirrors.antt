@@ -1,21 +1,20 @@
 -- The loops of `equal_mirrors` and of `copy_uppers` as the code has them, and the finiteness of the copies.
 -- Assumes nothing.
 use mathlib.Core.Path.{_≡_, refl, ap, _∙_}
-use mathlib.Core.Bool.{Bool, true, false, _&&_}
+use mathlib.Core.Bool.{Bool, true, _&&_}
 use mathlib.Core.List.{List}
-use Prim.Native.Nat.{ℕ, zero, suc, _+_, _≤_, _<_}
-use lib.ListN.{length, set}
+use Prim.Native.Nat.{ℕ, _+_, _≤_, _<_}
+use lib.ListN.{set}
 use lib.Ieee.{Float, nan, inf, fin, eq}
 use Rattle.float.specs.Float.{isFinite}
 use Rattle.store.specs.Loop.{for}
 use Rattle.store.specs.Region.{at, idx, part, splice}
 use Rattle.store.specs.Vector.{each}
 use Rattle.store.proofs.Loop.{Left, left-start, left-on, left-end}
-use Rattle.store.proofs.Region.{getD-part, wrote, wrote-at}
-use Rattle.store.proofs.Vector.{length-tab, getD-tab, tab-same, for-each}
+use Rattle.store.proofs.Region.{getD-part, wrote}
+use Rattle.store.proofs.Vector.{length-tab, tab-same, for-each}
 use Rattle.store.proofs.Each.{Tested, each-same, tested-start, tested-on, tested-done}
-use Rattle.finite.specs.Finite.{allFinite}
-use Rattle.mirrors.specs.Mirrors.{mirrorsAgree, mirrorsEqual, MirrorsOk, Taken, Copied}
+use Rattle.mirrors.specs.Mirrors.{mirrorsAgree, mirrorsEqual, MirrorsOk, Taken}
 
 -- What equals a finite number is finite.
 pub finite-equal : (a b : Float) → isFinite a && eq a b ≡ mirrorsAgree a b
@@ -65,66 +64,29 @@ agreed-done {w} {values} {upper} {lower} {n} t h = tested-done (t .tested) h ∙
 unfoldable pub takeTurn : List ℕ → List Float → ℕ → ℕ → ℕ → List Float → List Float
 takeTurn w values upper to k F = set F (to + k) (at values (idx w (upper + k)))
 
--- The invariant: what is left to copy gives what the whole gives, and same tells whether the first k pairs are equal as numbers.
-pub record Taking (w : List ℕ) (values F G : List Float) (upper lower to n k : ℕ) (same : Bool) : Type 0 where
+-- The invariant: what is left to copy gives what the whole gives, and ok tells whether the first k pairs agree.
+pub record Taking (w : List ℕ) (values F G : List Float) (upper lower to n k : ℕ) (ok : Bool) : Type 0 where
   pub left : Left (takeTurn w values upper to) k n G (for (takeTurn w values upper to) 0 n F)
-  pub tested : Tested (λ j. eq (at values (idx w (upper + j))) (at values (idx w (lower + j)))) n k same
+  pub agreed : Agreed w values upper lower n k ok
 
 pub taking-start : (w : List ℕ) (values F : List Float) (upper lower to n : ℕ) → Taking w values F F upper lower to n 0 true
-taking-start w values F upper lower to n = record { left = left-start; tested = tested-start _ n }
+taking-start w values F upper lower to n = record { left = left-start; agreed = agreed-start w values upper lower n }
 
 -- A turn: the positions are known by equations.
-pub taking-on : {w : List ℕ} {values F G : List Float} {upper lower to n k a b : ℕ} {same : Bool} → Taking w values F G upper lower to n k same → k < n
-    → a ≡ idx w (upper + k) → b ≡ idx w (lower + k)
-    → Taking w values F (set G (to + k) (at values a)) upper lower to n (k + 1) (same && eq (at values a) (at values b))
+pub taking-on : {w : List ℕ} {values F G : List Float} {upper lower to n k a b : ℕ} {ok r : Bool} → Taking w values F G upper lower to n k ok → k < n
+    → a ≡ idx w (upper + k) → b ≡ idx w (lower + k) → r ≡ mirrorsAgree (at values a) (at values b)
+    → Taking w values F (set G (to + k) (at values a)) upper lower to n (k + 1) (ok && r)
 unfolding takeTurn
-taking-on {w} {values} {F} {G} {upper} {lower} {to} {n} {k} {a} {b} {same} t h i j =
-    record { left = left-on (t .left) h (rw i); tested = tested-on (t .tested) h (rw (i, j)) }
+taking-on t h i j e = record { left = left-on (t .left) h (rw i); agreed = agreed-on (t .agreed) h i j e }
 
 -- It ends with each upper value written.
-pub taking-done : {w : List ℕ} {values F G : List Float} {upper lower to n k : ℕ} {same : Bool} → Taking w values F G upper lower to n k same → n ≤ k
-    → Copied w values F G n upper lower to same
+pub taking-done : {w : List ℕ} {values F G : List Float} {upper lower to n k : ℕ} {ok : Bool} → Taking w values F G upper lower to n k ok → n ≤ k
+    → Taken w values F G n upper lower to ok
 unfolding takeTurn
 taking-done {w} {values} {F} {G} {upper} {lower} {to} {n} t h =
     let start = for-each to n F (λ k I. at values (idx w (upper + k))) (λ k b I same. refl) in
     let regions = tab-same (λ k. at values (idx w (upper + k))) (λ k. at values (idx (part upper n w) k)) n (λ k b. simp getD-part) in
     record {
-      equal = tested-done (t .tested) h;
+      agree = agreed-done (t .agreed) h;
       wrote = wrote (left-end (t .left) h ∙ start ∙ ap (λ (v : List Float). splice to v F) regions) (length-tab _ n);
-    }
-
--- Two tests of every index are one of both.
-four : (a b c d : Bool) → (a && b) && (c && d) ≡ (a && c) && (b && d)
-four true true c d = refl
-four true false true d = refl
-four true false false d = refl
-four false b c d = refl
-
-each-both : (p q : ℕ → Bool) (n : ℕ) → each p n && each q n ≡ each (λ k. p k && q k) n
-unfolding each
-each-both p q zero = refl
-each-both p q (suc n) = four (each p n) (p n) (each q n) (q n) ∙ rw (each-both p q n)
-
-turned : (a b : Bool) → a && b ≡ b && a
-turned true true = refl
-turned true false = refl
-turned false true = refl
-turned false false = refl
-
-equal-finite : (a b : Float) → eq a b && isFinite a ≡ mirrorsAgree a b
-equal-finite a b = turned (eq a b) (isFinite a) ∙ finite-equal a b
-
--- The copies are finite and equal the lower values: the mirrors agree.
-pub taken : {w : List ℕ} {values F G : List Float} {faces upper lower to : ℕ} {same good : Bool} → to + faces ≤ length F
-    → Copied w values F G faces upper lower to same → good ≡ allFinite faces (part to faces G) → Taken w values F G faces upper lower to (same && good)
-unfolding allFinite
-taken {w} {values} {F} {G} {faces} {upper} {lower} {to} {same} {good} room c e =
-    let copies = wrote-at (c .wrote) room in
-    let finite : good ≡ each (λ k. isFinite (at values (idx w (upper + k)))) faces = e ∙ rw copies (each-same _ _ faces (λ k h. simp (getD-tab, getD-part))) in
-    record {
-      agree = rw (c .equal, finite) (
-          each-both _ _ faces
-          ∙ each-same _ (agreeAt w values upper lower) faces (λ k h. equal-finite _ _)
-          ∙ mirrors-part w values upper lower faces);
-      wrote = c .wrote;
     }

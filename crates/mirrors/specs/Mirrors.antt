@@ -28,8 +28,3 @@ pub record MirrorsOk (w : List ℕ) (size faces upper lower : ℕ) : Type 0 wher
 pub record Taken (w : List ℕ) (values F G : List Float) (faces upper lower to : ℕ) (r : Bool) : Type 0 where
   pub agree : r ≡ mirrorsEqual faces (part upper faces w) (part lower faces w) values
   pub wrote : Wrote to faces (tab (λ k. at values (idx (part upper faces w) k)) faces) F G
-
--- the same before finiteness is asked: whether the two values of each face are equal as numbers
-pub record Copied (w : List ℕ) (values F G : List Float) (faces upper lower to : ℕ) (r : Bool) : Type 0 where
-  pub equal : r ≡ each (λ k. eq (at values (idx w (upper + k))) (at values (idx w (lower + k)))) faces
-  pub wrote : Wrote to faces (tab (λ k. at values (idx (part upper faces w) k)) faces) F G

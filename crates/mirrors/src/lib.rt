@@ -3,7 +3,7 @@ ghost use mathlib.Core.Path.{_≡_};
 ghost use Prim.Native.Nat.{_+_, _≤_};
 ghost use lib.ListN.{length};
 ghost use Rattle.store.specs.Region.{part};
-ghost use Rattle.mirrors.specs.Mirrors.{mirrorsAgree, mirrorsEqual, MirrorsOk, Taken, Copied};
+ghost use Rattle.mirrors.specs.Mirrors.{mirrorsAgree, mirrorsEqual, MirrorsOk, Taken};
 
 // Both finite, and equal as numbers: what equals a finite number is finite.
 fn mirrors_agree(a: f64, b: f64) -> bool
@@ -29,37 +29,8 @@ pub fn equal_mirrors(w: &[u32], values: &[f64], faces: usize, upper: usize, lowe
     ok
 }
 
-// The upper value of each face, copied to `to`, and whether it equals the lower one as a number.
-fn copy_uppers(
-    w: &[u32],
-    values: &[f64],
-    f: &mut [f64],
-    faces: usize,
-    upper: usize,
-    lower: usize,
-    to: usize,
-) -> bool
-    requires { ⌜ MirrorsOk (now w) (length (now values)) faces upper lower ⌝ }
-    requires { ⌜ to + faces ≤ length (now f) ⌝ }
-    ensures { λ r. ⌜ Copied (now (w .entry)) (now (values .entry)) (now (f .entry)) (now (f .exit)) faces upper lower to r ⌝ }
-{
-    let count = values.len();
-    let mut same = true;
-    let mut face = 0;
-    while face < faces {
-        let a = store::index_at(w, upper, face, count);
-        let b = store::index_at(w, lower, face, count);
-        let v = values[a];
-        same = same & (v == values[b]);
-        f[to + face] = v;
-        face += 1;
-    }
-    same
-}
-
-// The upper value of each face, copied to `to`, and whether the values at each face's two positions agree: the values are read in one
-// pass, from which no branch leaves. Whether they are finite is asked of the copies, which stand side by side: what equals a finite
-// number is finite.
+// The upper value of each face, copied to `to`, and whether the values at each face's two positions agree: who asks that and needs the
+// values of the faces reads them once. No branch leaves the loop.
 pub fn take_faces(
     w: &[u32],
     values: &[f64],
@@ -73,6 +44,16 @@ pub fn take_faces(
     requires { ⌜ to + faces ≤ length (now f) ⌝ }
     ensures { λ r. ⌜ Taken (now (w .entry)) (now (values .entry)) (now (f .entry)) (now (f .exit)) faces upper lower to r ⌝ }
 {
-    let same = copy_uppers(w, values, f, faces, upper, lower, to);
-    same & finite::all_finite(f, faces, to)
+    let count = values.len();
+    let mut ok = true;
+    let mut face = 0;
+    while face < faces {
+        let a = store::index_at(w, upper, face, count);
+        let b = store::index_at(w, lower, face, count);
+        let v = values[a];
+        ok = ok & mirrors_agree(v, values[b]);
+        f[to + face] = v;
+        face += 1;
+    }
+    ok
 }
