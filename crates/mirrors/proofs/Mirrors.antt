@@ -1,4 +1,4 @@
--- The loops of `equal_mirrors` and of `copy_uppers` as the code has them, and the finiteness of the copies.
+-- The loops of `equal_mirrors` and of `take_faces` as the code has them.
 -- Assumes nothing.
 use mathlib.Core.Path.{_≡_, refl, ap, _∙_}
 use mathlib.Core.Bool.{Bool, true, _&&_}
