@@ -6,9 +6,9 @@ use lib.Dec.{eqb}
 use lib.Ieee.{Float}
 use lib.ListN.{length}
 use Rattle.refusal.specs.Outcome.{Outcome, accepted, _>>=_}
-use Rattle.directions.specs.Directions.{Pair, passOf}
-use Rattle.normalizing.specs.Normal.{normalOf}
-use Rattle.advancing.specs.Advance.{advanceOf}
+use Rattle.acceleration.specs.Directions.{Pair, passOf}
+use Rattle.acceleration.specs.Normal.{normalOf}
+use Rattle.acceleration.specs.Advance.{advanceOf}
 
 -- the stored pairs and the solution, after a correction
 pub record Corrections : Type 0 where

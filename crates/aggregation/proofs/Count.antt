@@ -13,9 +13,9 @@ use lib.Ieee.{Float, lt}
 use Rattle.float.specs.Float.{zero64}
 use Rattle.store.specs.Region.{at, idx}
 use Rattle.store.specs.Vector.{filled}
-use Rattle.store.proofs.Loop.{for-keeps, for-count}
-use Rattle.store.proofs.Region.{le-or-lt}
-use Rattle.store.proofs.Vector.{getD-tab}
+use Rattle.store.proofs.store.Loop.{for-keeps, for-count}
+use Rattle.store.proofs.store.Region.{le-or-lt}
+use Rattle.store.proofs.store.Vector.{getD-tab}
 use Rattle.aggregation.specs.declared.Choice.{Choice}
 use Rattle.aggregation.specs.Pairs.{Weighted, choice, entryOf, strongestOf, Pairing, pairing, rowOf, turnOf, pairsOf, InRange, NoneAbove}
 use Rattle.aggregation.proofs.Steps.{row-in, Considered, own, free, free-no, adjacent, adjacent-no, considered, Placed, assigned, paired, joined, alone, placed, count-next}

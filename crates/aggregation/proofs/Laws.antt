@@ -10,8 +10,8 @@ use lib.Ieee.{Float, nan}
 use Rattle.float.specs.Float.{zero64, absOf}
 use Rattle.store.specs.Region.{at, idx, part, Wrote}
 use Rattle.store.specs.Vector.{filled}
-use Rattle.store.proofs.Loop.{Left, left-start, left-on, left-end}
-use Rattle.store.proofs.Region.{getD-part, length-part, splice-part, set-splice, wrote, wrote-at, wrote-off, wrote-again}
+use Rattle.store.proofs.store.Loop.{Left, left-start, left-on, left-end}
+use Rattle.store.proofs.store.Region.{getD-part, length-part, splice-part, set-splice, wrote, wrote-at, wrote-off, wrote-again}
 use Rattle.aggregation.specs.declared.Choice.{Choice}
 use Rattle.aggregation.specs.declared.Graph.{Graph}
 use Rattle.aggregation.specs.Pairs.{strengthOf, strengthsOf, choice, considerOf, entryOf, strongestOf, Pairing, pairing, pairRowOf, rowOf, turnOf, pairsOf}

@@ -13,9 +13,9 @@ use lib.ListN.{length, set, length-set}
 use lib.Seq.{getD-set-same, getD-set-other}
 use Rattle.store.specs.Region.{idx}
 use Rattle.store.specs.Vector.{filled}
-use Rattle.store.proofs.Loop.{for-count}
-use Rattle.store.proofs.Region.{le-or-lt}
-use Rattle.store.proofs.Vector.{length-tab, getD-tab}
+use Rattle.store.proofs.store.Loop.{for-count}
+use Rattle.store.proofs.store.Region.{le-or-lt}
+use Rattle.store.proofs.store.Vector.{length-tab, getD-tab}
 use Rattle.aggregation.specs.declared.Choice.{Choice}
 use Rattle.aggregation.specs.Pairs.{Weighted, strongestOf, Pairing, pairing, rowOf, turnOf, pairsOf, InRange}
 use Rattle.aggregation.proofs.Steps.{row-in, Placed, assigned, paired, joined, alone, placed, count-next, Sane, strongest-sane}

@@ -12,7 +12,7 @@ use lib.ListN.{set}
 use lib.Ieee.{Float, lt}
 use Rattle.float.specs.Float.{zero64}
 use Rattle.store.specs.Region.{at, idx}
-use Rattle.store.proofs.Loop.{for-keeps}
+use Rattle.store.proofs.store.Loop.{for-keeps}
 use Rattle.aggregation.specs.declared.Choice.{Choice}
 use Rattle.aggregation.specs.Pairs.{Weighted, choice, considerOf, entryOf, strongestOf, Pairing, pairing, placeOf, pairRowOf, rowOf, InRange}
 

@@ -9,9 +9,9 @@ use Rattle.refusal.specs.Refusal.{noRows, storeTooSmall}
 use Rattle.options.specs.Options.{controlsAsked}
 use Rattle.refusal.specs.Outcome.{Outcome, accepted, refused, passed, ask, _>>=_}
 use Rattle.csr.specs.Questions.{matrixAsked}
-use Rattle.checkweights.specs.Weights.{weightsAsked}
+use Rattle.csr.specs.Weights.{weightsAsked}
 use Rattle.hierarchy.specs.Build.{fixedCharge, andLevel, holds, Lent, Input, patternIn, buildOf}
-use Rattle.asking.specs.Asking.{arraysAsked, roomAsked, askedOf}
+use Rattle.build.specs.Asking.{arraysAsked, roomAsked, askedOf}
 use Rattle.build.specs.Steps.{restOf}
 
 chain : {A : Type 0} (m w c : Outcome Unit) (a b d : Bool) (q s t : Refusal) (rest : Outcome A)

@@ -10,17 +10,17 @@ use lib.ListN.{length}
 use lib.Ieee.{Float}
 use borrow.Author.Tests.{leb-true}
 use Rattle.store.specs.Region.{idx, part}
-use Rattle.store.proofs.Region.{getD-part, wrote-at, kept-wrote, kept-self, le-or-lt}
-use Rattle.store.proofs.Each.{both-l}
+use Rattle.store.proofs.store.Region.{getD-part, wrote-at, kept-wrote, kept-self, le-or-lt}
+use Rattle.store.proofs.store.Each.{both-l}
 use mathlib.Core.Logic.{⊎-elim}
 use Rattle.float.specs.Float.{zero64}
 use Rattle.store.specs.Vector.{filled}
-use Rattle.options.specs.declared.MultigridOptions.{MultigridOptions}
+use Rattle.options.specs.declared.options.MultigridOptions.{MultigridOptions}
 use Rattle.refusal.specs.Outcome.{accepted}
 use Rattle.matrix.specs.Kernel.{kernelAt, rowSumsOf, KernelOk}
 use Rattle.pattern.specs.Pattern.{Pattern, entries, Valid}
 use Rattle.faces.specs.Faces.{facesOf, faceOffsetsOf, neighborsOf}
-use Rattle.faces.proofs.Laws.{faces-few, near, starts-rise, starts-last}
+use Rattle.faces.proofs.faces.Laws.{faces-few, near, starts-rise, starts-last}
 use Rattle.hierarchy.specs.Level.{Level, Hierarchy}
 use Rattle.hierarchy.specs.Refresh.{needsSums, sumsOf, withSums}
 use Rattle.hierarchy.specs.Build.{Charge, Mesh, lastShape, innerShape, growOf}
@@ -29,7 +29,7 @@ use Rattle.layout.specs.declared.Place.{Place}
 use Rattle.layout.specs.Layout.{rowsAt, entriesAt, facesAt, lastAt, coupledAt, locate, levelAt, levelsAt, wordsEnd, floatsEnd, imageEnd, wordsFit, viewOf}
 use Rattle.layout.specs.Parts.{kernelIn}
 use Rattle.layout.proofs.Views.{floats-to, levels-kept, fit-to}
-use Rattle.finest.specs.Finest.{SumsOk, Summed}
+use Rattle.build.specs.Finest.{SumsOk, Summed}
 
 -- There is a first level, whose pattern and faces are those of p.
 pub record Leading (p : Pattern) (levels : List Level) : Type 0 where

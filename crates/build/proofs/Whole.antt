@@ -10,37 +10,37 @@ use lib.Ieee.{Float}
 use Rattle.float.specs.Float.{zero64}
 use Rattle.store.specs.Region.{part, Kept}
 use Rattle.store.specs.Vector.{filled}
-use Rattle.store.proofs.Each.{both-l}
-use Rattle.store.proofs.Region.{length-part, kept-part}
-use Rattle.store.proofs.Vector.{length-tab}
-use Rattle.options.specs.declared.MultigridOptions.{MultigridOptions}
-use Rattle.options.specs.declared.Handle.{Handle}
+use Rattle.store.proofs.store.Each.{both-l}
+use Rattle.store.proofs.store.Region.{length-part, kept-part}
+use Rattle.store.proofs.store.Vector.{length-tab}
+use Rattle.options.specs.declared.options.MultigridOptions.{MultigridOptions}
+use Rattle.options.specs.declared.options.Handle.{Handle}
 use Rattle.refusal.specs.declared.Refusal.{Refusal}
 use Rattle.refusal.specs.Refusal.{unequalMirrors}
 use Rattle.refusal.specs.declared.Verdict.{Verdict}
 use Rattle.refusal.specs.Outcome.{Outcome, accepted, refused, ask, _>>=_}
 use Rattle.refusal.proofs.Outcome.{accepted-one}
-use Rattle.mirrors.specs.Mirrors.{mirrorsEqual}
+use Rattle.coefficients.specs.Mirrors.{mirrorsEqual}
 use Rattle.pattern.specs.Pattern.{Pattern, entries, Valid, Rising, Mirrored}
 use Rattle.faces.specs.Faces.{facesOf, uppersOf, lowersOf, mirroredOf}
-use Rattle.faces.proofs.Laws.{mirrored-is}
+use Rattle.faces.proofs.faces.Laws.{mirrored-is}
 use Rattle.hierarchy.specs.Level.{Level, Hierarchy}
 use Rattle.hierarchy.specs.Refresh.{withSums}
 use Rattle.hierarchy.specs.Build.{Charge, fixedCharge, andLevel, Mesh, Input, patternIn, meshIn, symmetricOf, growOf, buildOf}
 use Rattle.hierarchy.proofs.Depth as depth
 use Rattle.layout.specs.Layout.{imageEnd, wordsFit, viewOf}
-use Rattle.coarsen.specs.declared.Workspace.{Workspace}
-use Rattle.coarsen.specs.Contract.{WorkOk}
-use Rattle.laying.specs.declared.Frontier.{Frontier}
-use Rattle.laying.specs.Contract.{frontierAt}
-use Rattle.ending.specs.declared.Growth.{Growth}
-use Rattle.ending.specs.Contract.{Levels}
-use Rattle.answers.specs.declared.Built.{Built}
-use Rattle.growing.specs.Contract.{charge, growAt, Grown}
+use Rattle.coarsening.specs.declared.coarsen.Workspace.{Workspace}
+use Rattle.coarsening.specs.CoarsenContract.{WorkOk}
+use Rattle.build_level.specs.declared.laying.Frontier.{Frontier}
+use Rattle.build_level.specs.LayingContract.{frontierAt}
+use Rattle.build_level.specs.declared.coarsest.Growth.{Growth}
+use Rattle.build_level.specs.CoarsestContract.{Levels}
+use Rattle.solver.specs.declared.answers.Built.{Built}
+use Rattle.build_levels.specs.GrowingContract.{charge, growAt, Grown}
 use Rattle.build.specs.Contract.{lentOf, builtOf, BuildDone}
-use Rattle.asking.specs.Asking.{lending, askedOf, Asked, Fitting, Spaced}
-use Rattle.asking.proofs.Chains.{passed-then, refused-then}
-use Rattle.finest.specs.Finest.{LoadOk, Loaded, finestAt, SymmetricOk, SymmetricDone, finestOf, SumsOk, Summed}
+use Rattle.build.specs.Asking.{lending, askedOf, Asked, Fitting, Spaced}
+use Rattle.build.proofs.questions.Chains.{passed-then, refused-then}
+use Rattle.build.specs.Finest.{LoadOk, Loaded, finestAt, SymmetricOk, SymmetricDone, finestOf, SumsOk, Summed}
 use Rattle.build.specs.Steps.{restOf, LevelsOk, levelsMade, LevelsDone, Tried, Begun, Attempted, Cleared}
 use Rattle.build.proofs.Chain.{build-asked}
 use Rattle.build.proofs.First.{Leading, grow-leading, sums-ok, viewed}

@@ -7,14 +7,14 @@ use lib.ListN.{length}
 use lib.Ieee.{Float}
 use Rattle.float.specs.Float.{zero64}
 use Rattle.store.specs.Vector.{filled}
-use Rattle.options.specs.declared.Handle.{Handle}
+use Rattle.options.specs.declared.options.Handle.{Handle}
 use Rattle.refusal.specs.declared.Refusal.{Refusal}
 use Rattle.refusal.specs.Outcome.{Outcome, accepted, refused}
 use Rattle.hierarchy.specs.Level.{Hierarchy}
 use Rattle.hierarchy.specs.Build.{Lent, Input, buildOf}
 use Rattle.layout.specs.Layout.{viewOf, wordsFit}
-use Rattle.growing.specs.Contract.{charge}
-use Rattle.answers.specs.declared.Built.{Built}
+use Rattle.build_levels.specs.GrowingContract.{charge}
+use Rattle.solver.specs.declared.answers.Built.{Built}
 
 -- the handle of a hierarchy
 abbrev pub handleOf : Input → Hierarchy → Handle

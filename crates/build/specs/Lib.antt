@@ -1,2 +1,4 @@
+pub mod Asking
+pub mod Finest
 pub mod Contract
 pub mod Steps

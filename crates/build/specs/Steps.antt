@@ -7,7 +7,7 @@ use lib.ListN.{length}
 use lib.Ieee.{Float}
 use Rattle.float.specs.Float.{zero64}
 use Rattle.store.specs.Vector.{filled}
-use Rattle.options.specs.declared.MultigridOptions.{MultigridOptions}
+use Rattle.options.specs.declared.options.MultigridOptions.{MultigridOptions}
 use Rattle.refusal.specs.declared.Refusal.{Refusal}
 use Rattle.refusal.specs.Refusal.{unequalMirrors}
 use Rattle.refusal.specs.Outcome.{Outcome, accepted, refused, ask, _>>=_, _>>_}
@@ -15,14 +15,14 @@ use Rattle.hierarchy.specs.Level.{Level, Hierarchy}
 use Rattle.hierarchy.specs.Refresh.{withSums}
 use Rattle.hierarchy.specs.Build.{Charge, fixedCharge, andLevel, Input, patternIn, meshIn, symmetricOf, growOf, buildOf}
 use Rattle.layout.specs.Layout.{viewOf, wordsFit}
-use Rattle.coarsen.specs.declared.Workspace.{Workspace}
-use Rattle.laying.specs.Contract.{FrontierOk}
-use Rattle.answers.specs.declared.Built.{Built}
-use Rattle.growing.specs.Contract.{charge, growAt}
+use Rattle.coarsening.specs.declared.coarsen.Workspace.{Workspace}
+use Rattle.build_level.specs.LayingContract.{FrontierOk}
+use Rattle.solver.specs.declared.answers.Built.{Built}
+use Rattle.build_levels.specs.GrowingContract.{charge, growAt}
 use Rattle.build.specs.Contract.{builtOf, lentOf}
-use Rattle.asking.specs.Asking.{ControlsFit}
-use Rattle.finest.specs.Finest.{finestOf}
-pub use Rattle.asking.specs.Asking.{inputOf}
+use Rattle.build.specs.Asking.{ControlsFit}
+use Rattle.build.specs.Finest.{finestOf}
+pub use Rattle.build.specs.Asking.{inputOf}
 
 -- question 10, the levels and the row sums
 unfoldable pub restOf : Charge → Input → Outcome Hierarchy

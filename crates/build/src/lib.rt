@@ -1,23 +1,26 @@
 // `build` of hierarchy.rs, in lent stores: the questions on the input, and the levels from the finest on.
 ghost use lib.ListN.{length};
 ghost use Rattle.build.specs.Contract.{BuildDone};
-ghost use Rattle.asking.specs.Asking.{inputOf, Fitting};
+ghost use Rattle.build.specs.Asking.{inputOf, Fitting};
 ghost use Rattle.build.specs.Steps.{LevelsOk, LevelsDone, Begun, Attempted, Cleared};
-use answers::Built;
-use asking::space;
-use coarsen::Workspace;
-use ending::Growth;
+use build_level::Growth;
+use coarsening::Workspace;
 use finest::loading;
 use options::Handle;
 use options::MultigridOptions;
+use questions::space;
 use refusal::Verdict;
+use solver::Built;
+
+pub mod finest;
+pub mod questions;
 
 // The levels of the matrix in the temporaries, and behind them the row sums of the finest.
 fn levels(w: &mut [u32], f: &mut [f64], o: MultigridOptions, given: bool, t: Workspace) -> Built
     requires { ⌜ LevelsOk (now w) (length (now f)) o t ⌝ }
     ensures { λ r. ⌜ LevelsDone (now (w .entry)) (now (w .exit)) (now (f .entry)) (now (f .exit)) o given t r ⌝ }
 {
-    match growing::grow(w, f, o, given, t, finest::frontier(o, t)) {
+    match build_levels::grow(w, f, o, given, t, finest::frontier(o, t)) {
         Growth::Made { levels, end } => {
             finest::sums(w, f, o, end, t.rows, t.entries);
             Built::Made(Handle {
@@ -75,7 +78,7 @@ fn attempt(
 ) -> Built
     ensures { λ r. ⌜ Attempted (now (w .entry)) (now (w .exit)) (now (f .entry)) (now (f .exit)) (inputOf rows (now (offsets .entry)) (now (columns .entry)) (now (values .entry)) given (now (weights .entry)) o) records r ⌝ }
 {
-    match asking::asked(
+    match questions::asked(
         rows,
         offsets,
         columns,

@@ -10,7 +10,7 @@ use lib.Ieee.{Float, nan}
 use lib.ListN.{length}
 use Rattle.float.specs.Float.{zero64}
 use Rattle.store.specs.Region.{at, idx, part}
-use Rattle.store.proofs.Region.{getD-part}
+use Rattle.store.proofs.store.Region.{getD-part}
 use Rattle.cholesky.specs.declared.Terminal.{Terminal}
 use Rattle.cholesky.specs.Factor.{Csr, seekOf, getOf}
 use Rattle.cholesky.specs.Contract.{csrAt, coupledAt, entryAt, TerminalOk, SeekOk}

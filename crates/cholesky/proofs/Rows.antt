@@ -9,20 +9,20 @@ use native.Mathlib.Omega.{arith}
 use lib.Ieee.{Float, nan}
 use lib.ListN.{length, set, length-set}
 use Rattle.float.specs.Float.{div64, zero64}
-use Rattle.root.specs.Sqrt.{sqrtOf}
+use Rattle.float.specs.Sqrt.{sqrtOf}
 use Rattle.refusal.specs.Refusal.{badPivot}
 use Rattle.refusal.specs.declared.Verdict.{Verdict}
 use Rattle.refusal.specs.Outcome.{accepted, refused, ask}
 use Rattle.store.specs.Loop.{for}
 use Rattle.store.specs.Region.{at, idx, splice, Wrote}
 use Rattle.store.specs.Vector.{filled}
-use Rattle.store.proofs.Loop.{for-map, for-same, Left, left-end}
-use Rattle.store.proofs.Region.{length-part, getD-part, getD-splice-in, part-splice-below, set-splice, splice-part, wrote, wrote-at, wrote-off, wrote-again}
-use Rattle.packed.specs.Triangle.{tri, RowAt, lessOf, LessOk, Less}
+use Rattle.store.proofs.store.Loop.{for-map, for-same, Left, left-end}
+use Rattle.store.proofs.store.Region.{length-part, getD-part, getD-splice-in, part-splice-below, set-splice, splice-part, wrote, wrote-at, wrote-off, wrote-again}
+use Rattle.cholesky.specs.Triangle.{tri, RowAt, lessOf, LessOk, Less}
 use Rattle.cholesky.specs.declared.Terminal.{Terminal}
 use Rattle.cholesky.specs.Factor.{restOf, columnOf, columnsOf, goodPivot, rowOf, rowsOf, choleskyOf}
 use Rattle.cholesky.specs.Contract.{csrAt, coupledAt, factorAt, entryAt, TerminalOk, PivotOk, RowDone, Factored}
-use Rattle.packed.proofs.Triangles.{tri-zero, tri-on, tri-row, tri-at}
+use Rattle.cholesky.proofs.packed.Triangles.{tri-zero, tri-on, tri-row, tri-at}
 
 -- ---- the running starts
 

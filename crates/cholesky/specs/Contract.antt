@@ -9,7 +9,7 @@ use Rattle.refusal.specs.declared.Refusal.{Refusal}
 use Rattle.refusal.specs.declared.Verdict.{Verdict}
 use Rattle.refusal.specs.Outcome.{Outcome, accepted, ask, verdictOf}
 use Rattle.store.specs.Region.{idx, part, Wrote}
-use Rattle.packed.specs.Triangle.{tri}
+use Rattle.cholesky.specs.Triangle.{tri}
 use Rattle.cholesky.specs.declared.Terminal.{Terminal}
 use Rattle.cholesky.specs.Factor.{Csr, compactOf}
 

@@ -6,13 +6,13 @@ use lib.Dec.{eqb}
 use lib.Ieee.{Float, lt}
 use lib.ListN.{set}
 use Rattle.float.specs.Float.{div64, zero64, isFinite}
-use Rattle.root.specs.Sqrt.{sqrtOf}
+use Rattle.float.specs.Sqrt.{sqrtOf}
 use Rattle.refusal.specs.Refusal.{badPivot}
 use Rattle.refusal.specs.Outcome.{Outcome, accepted, ask, _>>=_}
 use Rattle.store.specs.Loop.{for}
 use Rattle.store.specs.Region.{at, idx}
 use Rattle.store.specs.Vector.{filled}
-use Rattle.packed.specs.Triangle.{tri, lessOf}
+use Rattle.cholesky.specs.Triangle.{tri, lessOf}
 
 -- a matrix by its rows: the entries of row r stand from offsets[r] up to offsets[r + 1]
 pub record Csr : Type 0 where

@@ -1,2 +1,5 @@
+pub mod Triangle
 pub mod Factor
 pub mod Contract
+pub mod TriangularFactor
+pub mod TriangularContract

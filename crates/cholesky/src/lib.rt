@@ -4,7 +4,7 @@ ghost use mathlib.Core.Path.{_≡_};
 ghost use Prim.Native.Nat.{_-_, _<_, _≤_};
 ghost use lib.ListN.{length};
 ghost use Rattle.store.specs.Region.{idx, Wrote};
-ghost use Rattle.packed.specs.Triangle.{tri, RowAt};
+ghost use Rattle.cholesky.specs.Triangle.{tri, RowAt};
 ghost use Rattle.cholesky.specs.Factor.{seekOf, columnsOf, restOf, goodPivot, rowOf, rowsOf, choleskyOf};
 ghost use Rattle.cholesky.specs.Contract.{csrAt, coupledAt, factorAt, entryAt, TerminalOk, SeekOk, PivotOk, RowDone, Factored};
 ghost use Rattle.refusal.specs.declared.Refusal.{Refusal};
@@ -12,6 +12,12 @@ ghost use Rattle.refusal.specs.Refusal.{badPivot};
 ghost use Rattle.refusal.specs.declared.Verdict.{Verdict};
 use refusal::Refusal;
 use refusal::Verdict;
+
+pub mod packed;
+pub mod triangular;
+
+pub use packed::triangle;
+pub use triangular::solve_factor;
 
 // The terminal level in the stores: its matrix of `rows` rows and `entries` entries, its `size` coupled rows, the factor.
 pub struct Terminal {
@@ -114,7 +120,7 @@ fn one_row(w: &[u32], f: &mut [f64], t: Terminal, level: u64, row: usize, start:
     columns(w, f, t, row, start);
     let value = pivot(w, f, t, row, start);
     if good_pivot(value) {
-        let root = root::sqrt(value);
+        let root = float::sqrt(value);
         f[l + start + row] = root;
         true
     } else {

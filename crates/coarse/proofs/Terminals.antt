@@ -12,15 +12,15 @@ use Rattle.refusal.specs.Refusal.{badCoarseSolution}
 use Rattle.refusal.specs.declared.Verdict.{Verdict}
 use Rattle.store.specs.Loop.{for}
 use Rattle.store.specs.Region.{at, idx, part, splice, Wrote}
-use Rattle.store.proofs.Loop.{for-map, Left, left-end}
-use Rattle.store.proofs.Region.{length-part, getD-part, getD-splice-clear, set-splice, splice-part, wrote, wrote-at, wrote-off}
-use Rattle.store.proofs.Vector.{length-tab, tab-same, for-each}
-use Rattle.finite.specs.Finite.{allFinite}
-use Rattle.packed.specs.Triangle.{tri}
+use Rattle.store.proofs.store.Loop.{for-map, Left, left-end}
+use Rattle.store.proofs.store.Region.{length-part, getD-part, getD-splice-clear, set-splice, splice-part, wrote, wrote-at, wrote-off}
+use Rattle.store.proofs.store.Vector.{length-tab, tab-same, for-each}
+use Rattle.vector.specs.Finite.{allFinite}
+use Rattle.cholesky.specs.Triangle.{tri}
 use Rattle.cholesky.specs.declared.Terminal.{Terminal}
 use Rattle.cholesky.specs.Contract.{coupledAt, factorAt}
-use Rattle.triangular.specs.Factor.{solveFactorOf}
-use Rattle.triangular.specs.Contract.{SolveOk}
+use Rattle.cholesky.specs.TriangularFactor.{solveFactorOf}
+use Rattle.cholesky.specs.TriangularContract.{SolveOk}
 use Rattle.coarse.specs.Terminal.{diagonalOf, gatherOf, scatterOf, solutionOf, terminalOf}
 use Rattle.coarse.specs.Contract.{SpreadOk, DiagonalOk, CoupledOk, SolutionOk, Outside, CoupledSolved, Solved}
 

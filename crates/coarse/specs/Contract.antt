@@ -7,10 +7,10 @@ use lib.ListN.{length}
 use Rattle.refusal.specs.declared.Verdict.{Verdict}
 use Rattle.refusal.specs.Outcome.{verdictOf}
 use Rattle.store.specs.Region.{idx, part, Clear}
-use Rattle.packed.specs.Triangle.{tri}
+use Rattle.cholesky.specs.Triangle.{tri}
 use Rattle.cholesky.specs.declared.Terminal.{Terminal}
 use Rattle.cholesky.specs.Contract.{coupledAt, factorAt}
-use Rattle.triangular.specs.Factor.{solveFactorOf}
+use Rattle.cholesky.specs.TriangularFactor.{solveFactorOf}
 use Rattle.coarse.specs.Terminal.{gatherOf, scatterOf, solutionOf, terminalOf}
 
 -- so many coupled rows, each below n, with n elements at x and as many as there are coupled rows at u

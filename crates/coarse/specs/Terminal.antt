@@ -9,8 +9,8 @@ use Rattle.refusal.specs.Outcome.{Outcome, accepted, ask}
 use Rattle.store.specs.Loop.{for}
 use Rattle.store.specs.Region.{at, idx}
 use Rattle.store.specs.Vector.{tab}
-use Rattle.finite.specs.Finite.{allFinite}
-use Rattle.triangular.specs.Factor.{solveFactorOf}
+use Rattle.vector.specs.Finite.{allFinite}
+use Rattle.cholesky.specs.TriangularFactor.{solveFactorOf}
 
 -- `x[row] = rhs[row] * inverse[row]`: what a row without connections needs
 unfoldable pub diagonalOf : ℕ → List Float → List Float → List Float

@@ -4,8 +4,8 @@ ghost use Rattle.store.specs.Region.{part, Wrote};
 ghost use Rattle.coarse.specs.Terminal.{diagonalOf, gatherOf, scatterOf};
 ghost use Rattle.coarse.specs.Contract.{DiagonalOk, SpreadOk, CoupledOk, CoupledSolved, SolutionOk, Solved};
 use cholesky::Terminal;
+use cholesky::solve_factor;
 use refusal::Verdict;
-use triangular::solve_factor;
 
 // x = rhs / diagonal, by the reciprocals.
 fn diagonal(f: &mut [f64], n: usize, inverse: usize, rhs: usize, x: usize)
@@ -86,7 +86,7 @@ pub fn solve(
     let n = t.rows;
     diagonal(f, n, inverse, rhs, x);
     solve_coupled(w, f, t, rhs, x, work);
-    if finite::all_finite(f, n, x) {
+    if vector::all_finite(f, n, x) {
         Verdict::Passed
     } else {
         Verdict::Refused(refusal::BAD_COARSE_SOLUTION)

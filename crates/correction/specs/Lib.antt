@@ -1,1 +1,4 @@
+pub mod Transfer
 pub mod Correction
+pub mod Scaled
+pub mod Scaling

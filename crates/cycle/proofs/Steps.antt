@@ -8,17 +8,17 @@ use native.Mathlib.Omega.{arith}
 use lib.ListN.{length}
 use lib.Ieee.{Float}
 use Rattle.store.specs.Region.{idx, part, Kept}
-use Rattle.store.proofs.Region.{length-part}
-use Rattle.options.specs.declared.MultigridOptions.{MultigridOptions}
-use Rattle.counts.specs.Counts.{preSweepsOf, postSweepsOf}
+use Rattle.store.proofs.store.Region.{length-part}
+use Rattle.options.specs.declared.options.MultigridOptions.{MultigridOptions}
+use Rattle.options.specs.Counts.{preSweepsOf, postSweepsOf}
 use Rattle.refusal.specs.declared.Refusal.{Refusal}
 use Rattle.refusal.specs.Refusal.{badCoarseSolution}
 use Rattle.refusal.specs.declared.Verdict.{Verdict}
 use Rattle.refusal.specs.Outcome.{Outcome, accepted, refused, ask, verdictOf, _>>=_}
 use Rattle.refusal.proofs.Outcome.{then-accepted, verdict-passed, verdict-refused, refuses}
-use Rattle.finite.specs.Finite.{allFinite}
-use Rattle.packed.specs.Triangle.{tri}
-use Rattle.matrix.specs.declared.SymmetricMatrix.{SymmetricMatrix}
+use Rattle.vector.specs.Finite.{allFinite}
+use Rattle.cholesky.specs.Triangle.{tri}
+use Rattle.matrix.specs.declared.matrix.SymmetricMatrix.{SymmetricMatrix}
 use Rattle.cholesky.specs.declared.Terminal.{Terminal}
 use Rattle.coarse.specs.Terminal.{solutionOf, terminalOf}
 use Rattle.coarse.specs.Contract.{SolutionOk, Solved, Outside}
@@ -26,9 +26,9 @@ use Rattle.layout.specs.declared.Place.{Place}
 use Rattle.layout.specs.Layout.{placeOf, rowsAt, coupledAt, locate, floatsEnd}
 use Rattle.layout.specs.Parts as parts
 use Rattle.layout.proofs.Places.{ends-above}
-use Rattle.visit.specs.declared.Inner.{Inner}
-use Rattle.visit.specs.Visit.{InnerOk, rhsAt, xAt, raisedAt, Moved, Downed}
-use Rattle.visit.proofs.Laws.{accepts, not-both, same-accepted}
+use Rattle.cycle.specs.declared.visit.Inner.{Inner}
+use Rattle.cycle.specs.Visit.{InnerOk, rhsAt, xAt, raisedAt, Moved, Downed}
+use Rattle.cycle.proofs.visit.Laws.{accepts, not-both, same-accepted}
 use Rattle.cycle.specs.declared.Way.{Way}
 use Rattle.cycle.specs.Cycle.{Cycled, cycled, countOf, swept, iterated, ended}
 use Rattle.cycle.specs.Contract.{levelIn, nextIn, innerAt, PlaceOk, NextOk, EndOk, StepOk, Visited, WentDown, endAt, upAt, workOk, workDone}

@@ -10,28 +10,28 @@ use lib.Ieee.{Float}
 use Rattle.float.specs.Float.{zero64}
 use Rattle.store.specs.Region.{idx, part, Kept}
 use Rattle.store.specs.Vector.{filled}
-use Rattle.store.proofs.Region.{kept-on, kept-less, kept-self, kept-part}
-use Rattle.options.specs.declared.MultigridOptions.{MultigridOptions}
-use Rattle.counts.specs.Counts.{preSweepsOf, postSweepsOf}
+use Rattle.store.proofs.store.Region.{kept-on, kept-less, kept-self, kept-part}
+use Rattle.options.specs.declared.options.MultigridOptions.{MultigridOptions}
+use Rattle.options.specs.Counts.{preSweepsOf, postSweepsOf}
 use Rattle.refusal.specs.declared.Refusal.{Refusal}
 use Rattle.refusal.specs.declared.Verdict.{Verdict}
 use Rattle.refusal.specs.Outcome.{Outcome, accepted, refused, verdictOf, isRefused, _>>=_}
 use Rattle.refusal.proofs.Outcome.{then-accepted, then-refused, verdict-refused, refuses, went-on, stopped}
-use Rattle.packed.specs.Triangle.{tri}
+use Rattle.cholesky.specs.Triangle.{tri}
 use Rattle.matrix.specs.Kernel.{Kernel, kernelAt}
 use Rattle.smoother.specs.Smooth.{smoothOf}
-use Rattle.transfer.specs.Transfer.{restrictOf, prolongOf}
+use Rattle.correction.specs.Transfer.{restrictOf, prolongOf}
 use Rattle.hierarchy.specs.Level.{Level}
 use Rattle.layout.specs.declared.Place.{Place}
 use Rattle.layout.specs.Layout.{rowsAt, lastAt, entriesAt, facesAt, locate, levelAt, levelsAt, wordsEnd, floatsEnd, imageEnd}
 use Rattle.layout.proofs.Views.{floats-to, wordsTo, levels-kept}
-use Rattle.sound.specs.declared.Walk.{Walk}
-use Rattle.sound.specs.Sound.{walkOf, scratchEnd}
-use Rattle.sound.proofs.Facts.{Here, Passed, passed, endsOf, targetsOf, sumsOf}
-use Rattle.visit.specs.declared.Inner.{Inner}
-use Rattle.visit.specs.Visit as visit
-use Rattle.visit.specs.Visit.{InnerOk, rhsAt, xAt, residualAt, residualPlace, matrixAt, smoothedAt}
-use Rattle.visit.proofs.Laws.{accepts, not-both, kernel-same, residual-ends}
+use Rattle.index_check.specs.declared.sound.Walk.{Walk}
+use Rattle.index_check.specs.Sound.{walkOf, scratchEnd}
+use Rattle.index_check.proofs.sound.Facts.{Here, Passed, passed, endsOf, targetsOf, sumsOf}
+use Rattle.cycle.specs.declared.visit.Inner.{Inner}
+use Rattle.cycle.specs.Visit as visit
+use Rattle.cycle.specs.Visit.{InnerOk, rhsAt, xAt, residualAt, residualPlace, matrixAt, smoothedAt}
+use Rattle.cycle.proofs.visit.Laws.{accepts, not-both, kernel-same, residual-ends}
 use Rattle.cycle.specs.Cycle.{Cycled, cycled, countOf, visited, swept, rowsFirst, residualIn, correctedOf, endOf, upOf, cycleOf}
 use Rattle.cycle.specs.Contract.{cycleAt, CycleOk, CycleDone, levelIn, innerIn, nextIn, innerAt, PlaceOk, EndOk, StepOk}
 use Rattle.cycle.specs.Contract.{Visited, DownDone, endAt, upAt}

@@ -8,19 +8,19 @@ use Prim.Native.Nat.{ℕ, _+_, _*_, _≤_, _<_}
 use lib.ListN.{length}
 use lib.Ieee.{Float}
 use Rattle.store.specs.Region.{idx, part, Kept}
-use Rattle.options.specs.declared.MultigridOptions.{MultigridOptions}
-use Rattle.counts.specs.Counts.{preSweepsOf, postSweepsOf}
+use Rattle.options.specs.declared.options.MultigridOptions.{MultigridOptions}
+use Rattle.options.specs.Counts.{preSweepsOf, postSweepsOf}
 use Rattle.refusal.specs.declared.Verdict.{Verdict}
 use Rattle.refusal.specs.Outcome.{Outcome, accepted, verdictOf, _>>=_}
-use Rattle.packed.specs.Triangle.{tri}
+use Rattle.cholesky.specs.Triangle.{tri}
 use Rattle.hierarchy.specs.Level.{Level}
 use Rattle.layout.specs.declared.Place.{Place}
 use Rattle.layout.specs.Layout.{rowsAt, shapeAt, numbersAt, locate, levelsAt, wordsEnd, floatsEnd, imageEnd}
 use Rattle.layout.specs.Parts.{kernelIn}
-use Rattle.sound.specs.declared.Walk.{Walk}
-use Rattle.sound.specs.Sound.{walkOf, scratchEnd}
-use Rattle.visit.specs.declared.Inner.{Inner}
-use Rattle.visit.specs.Visit.{InnerOk, rhsAt, xAt, raisedAt, Downed}
+use Rattle.index_check.specs.declared.sound.Walk.{Walk}
+use Rattle.index_check.specs.Sound.{walkOf, scratchEnd}
+use Rattle.cycle.specs.declared.visit.Inner.{Inner}
+use Rattle.cycle.specs.Visit.{InnerOk, rhsAt, xAt, raisedAt, Downed}
 use Rattle.cycle.specs.declared.Way.{Way}
 use Rattle.cycle.specs.Cycle.{Cycled, cycled, swept, iterated, ended, cycleOf}
 

@@ -8,16 +8,16 @@ use lib.ListN.{length, set}
 use Rattle.float.specs.Float.{zero64}
 use Rattle.store.specs.Region.{idx}
 use Rattle.store.specs.Vector.{filled}
-use Rattle.options.specs.declared.MultigridOptions.{MultigridOptions}
-use Rattle.counts.specs.Counts.{preSweepsOf, postSweepsOf}
+use Rattle.options.specs.declared.options.MultigridOptions.{MultigridOptions}
+use Rattle.options.specs.Counts.{preSweepsOf, postSweepsOf}
 use Rattle.refusal.specs.Outcome.{Outcome, accepted, _>>=_}
 use Rattle.matrix.specs.Kernel.{Kernel, applyOf}
 use Rattle.smoother.specs.Smooth.{smoothOf}
 use Rattle.coarse.specs.Terminal.{terminalOf}
-use Rattle.transfer.specs.Transfer.{restrictOf, prolongOf}
+use Rattle.correction.specs.Transfer.{restrictOf, prolongOf}
 use Rattle.correction.specs.Correction.{subtractOf, addPlainOf}
-use Rattle.scaledcorrection.specs.Scaled.{addScaledOf}
-use Rattle.scaling.specs.Scaling.{correctionFactorOf}
+use Rattle.correction.specs.Scaled.{addScaledOf}
+use Rattle.correction.specs.Scaling.{correctionFactorOf}
 use Rattle.hierarchy.specs.Level.{Level, kernelOf}
 
 -- ---- counters: four words to a level, its rows, visits, smoothing sweeps and coarse iterations

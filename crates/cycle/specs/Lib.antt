@@ -1,2 +1,3 @@
+pub mod Visit
 pub mod Cycle
 pub mod Contract

@@ -14,6 +14,8 @@ use options::MultigridOptions;
 use refusal::Verdict;
 use visit::Inner;
 
+pub mod visit;
+
 // Which way a cycle goes at a level: the last is solved, another is left downward and entered again upward.
 pub enum Way {
     Last,
@@ -27,7 +29,7 @@ fn count(t: &mut [u64; 512], depth: u64, counter: u64, more: u64)
     ensures { λ _. ⌜ now (t .exit) ≡ countOf (4 * depth + counter) more (now (t .entry)) ⌝ }
 {
     let i = (4 * depth + counter) as usize;
-    t[i] = saturating::saturating_add(t[i], more);
+    t[i] = float::saturating_add(t[i], more);
 }
 
 // The place of the level whose words start at a and whose floats start at b.
@@ -110,7 +112,7 @@ fn down(
 {
     let g = inner_at(w, a, b, s);
     let kind = o.smoother;
-    visit::down(w, f, g, kind, counts::pre_sweeps_at(o, depth))
+    visit::down(w, f, g, kind, options::pre_sweeps_at(o, depth))
 }
 
 // The way up of a level, after which its sweeps are counted.
@@ -129,12 +131,12 @@ fn up(
 {
     let g = inner_at(w, a, b, s);
     let kind = o.smoother;
-    let pre = counts::pre_sweeps_at(o, depth);
-    let post = counts::post_sweeps_at(o, depth);
+    let pre = options::pre_sweeps_at(o, depth);
+    let post = options::post_sweeps_at(o, depth);
     match visit::up(w, f, g, kind, o.scale_correction, pre, post) {
         Verdict::Refused(q) => Verdict::Refused(q),
         Verdict::Passed => {
-            count(t, depth, 2, saturating::saturating_add(pre, post));
+            count(t, depth, 2, float::saturating_add(pre, post));
             Verdict::Passed
         }
     }

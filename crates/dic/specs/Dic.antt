@@ -13,9 +13,9 @@ use Rattle.store.specs.Vector.{tab, each}
 use Rattle.refusal.specs.Refusal.{badDicPivot, badDicReciprocal}
 use Rattle.refusal.specs.declared.Verdict.{Verdict}
 use Rattle.refusal.specs.Outcome.{Outcome, accepted, refused, passed, ask, _>>=_, _>>_, askEach}
-use Rattle.matrix.specs.declared.SymmetricMatrix.{SymmetricMatrix}
+use Rattle.matrix.specs.declared.matrix.SymmetricMatrix.{SymmetricMatrix}
 use Rattle.matrix.specs.Kernel.{Kernel, KernelOk}
-use Rattle.sweeps.specs.Sweep.{eachFace}
+use Rattle.gauss_seidel.specs.Sweep.{eachFace}
 
 -- question 16: `is_finite()`, and not `<= 0.0`
 unfoldable pub isPivot : Float → Bool

@@ -7,7 +7,7 @@ use lib.Ieee.{Float}
 use Rattle.float.specs.Float.{sub64, div64, squareOf}
 use Rattle.store.specs.Loop.{for}
 use Rattle.store.specs.Region.{at, idx}
-use Rattle.matrix.specs.declared.SymmetricMatrix.{SymmetricMatrix}
+use Rattle.matrix.specs.declared.matrix.SymmetricMatrix.{SymmetricMatrix}
 
 -- `pivotFace` in a store
 unfoldable pub pivotTurn : List ℕ → ℕ → ℕ → ℕ → Float → ℕ → List Float → List Float

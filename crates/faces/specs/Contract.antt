@@ -9,7 +9,7 @@ use Rattle.refusal.specs.declared.Verdict.{Verdict}
 use Rattle.refusal.specs.Outcome.{verdictOf}
 use Rattle.store.specs.Region.{part, Wrote, Kept}
 use Rattle.pattern.specs.Pattern.{Pattern, Valid, Rising, Diagonal}
-use Rattle.faces.specs.declared.Faces.{Faces}
+use Rattle.faces.specs.declared.faces.Faces.{Faces}
 use Rattle.faces.specs.Faces.{facesOf, uppersOf, faceOffsetsOf, neighborsOf, mirroredOf, lowersOf}
 use Rattle.faces.specs.Faces.{diagonalsAsked, diagonalsOf, coupledCountOf, coupledRowsOf}
 

@@ -7,7 +7,7 @@ use Prim.Native.Nat.{ℕ, _+_, _≤_, _<_}
 use lib.ListN.{length, set}
 use Rattle.store.specs.Region.{idx}
 use Rattle.pattern.specs.Pattern.{howMany, columnOf, rowOf}
-use Rattle.faces.specs.declared.Faces.{Faces}
+use Rattle.faces.specs.declared.faces.Faces.{Faces}
 use Rattle.faces.specs.Faces.{above, hasEntry, standsAt}
 use Rattle.faces.specs.Contract.{patternAt, Standing, Ordered}
 

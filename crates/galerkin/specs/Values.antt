@@ -10,8 +10,8 @@ use Rattle.float.specs.Float.{add64, mul64, zero64}
 use Rattle.store.specs.Loop.{for}
 use Rattle.store.specs.Region.{at, idx, part}
 use Rattle.store.specs.Vector.{filled}
-use Rattle.finite.specs.Finite.{allFinite}
-use Rattle.exact.specs.Whole.{half}
+use Rattle.vector.specs.Finite.{allFinite}
+use Rattle.galerkin.specs.Whole.{half}
 
 -- ---- the coarse values
 
@@ -40,7 +40,7 @@ symmetrizeOf faces upper lower v = for (averageFace upper lower) 0 faces v
 abbrev pub galerkinOf : ℕ → ℕ → List ℕ → List Float → ℕ → List ℕ → List ℕ → List Float
 galerkinOf total m positions values faces upper lower = symmetrizeOf faces upper lower (sumsOf total m positions values)
 
--- question 18: each coarse value is finite, as `finite::all_finite` tells
+-- question 18: each coarse value is finite, as `vector::all_finite` tells
 abbrev pub galerkinFinite : ℕ → ℕ → List ℕ → List Float → ℕ → List ℕ → List ℕ → Bool
 galerkinFinite total m positions values faces upper lower = allFinite total (galerkinOf total m positions values faces upper lower)
 

@@ -8,20 +8,20 @@ use Prim.Native.Nat.{ℕ, zero, suc, _+_, _-_}
 use native.Mathlib.Omega.{arith}
 use lib.Dec.{eqb, leb}
 use lib.ListN.{length}
-use Rattle.options.specs.declared.MultigridOptions.{MultigridOptions}
+use Rattle.options.specs.declared.options.MultigridOptions.{MultigridOptions}
 use Rattle.refusal.specs.declared.Refusal.{Refusal}
 use Rattle.refusal.specs.Refusal.{invalidControls, notCholesky, noRows, storeTooSmall, unequalMirrors, tooManyCoupled, badCoarseValue}
 use Rattle.options.specs.Options.{validOf, isCholesky, controlsAsked}
 use Rattle.refusal.specs.Outcome.{Outcome, accepted, refused, passed, ask, _>>=_}
 use Rattle.refusal.proofs.Outcome.{accepted-one}
-use Rattle.finite.specs.Finite.{allFinite}
-use Rattle.values.specs.Update.{Coefficients}
+use Rattle.vector.specs.Finite.{allFinite}
+use Rattle.coefficients.specs.Update.{Coefficients}
 use Rattle.aggregation.specs.Pairs.{Pairing}
 use Rattle.pattern.specs.Pattern.{Pattern, entries, composeOf}
-use Rattle.pattern.proofs.Number.{not-both}
+use Rattle.pattern.proofs.pattern.Number.{not-both}
 use Rattle.faces.specs.Faces.{facesOf, diagonalsAsked}
 use Rattle.csr.specs.Questions.{matrixAsked}
-use Rattle.checkweights.specs.Weights.{weightsAsked}
+use Rattle.csr.specs.Weights.{weightsAsked}
 use Rattle.hierarchy.specs.Level.{Numbers, Level, Hierarchy}
 use Rattle.hierarchy.specs.Refresh.{innerNumbers, lastNumbers, withSums}
 use Rattle.hierarchy.specs.Build.{Charge, fixedCharge, andLevel, holds, lastShape, innerShape, Mesh, Merged, merged, kernelAsked, paired, coarsened, coarsenedAsked, fewCoupled, endsAt, lastLevel, mergeOf, innerLevel, levelStep, growOf, Lent, Input, patternIn, meshIn, symmetricOf, buildOf}

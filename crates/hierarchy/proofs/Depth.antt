@@ -8,8 +8,8 @@ use native.Mathlib.Omega.{arith}
 use lib.Dec.{eqb, leb}
 use lib.ListN.{length}
 use borrow.Author.Tests.{leb-true, le-leb}
-use Rattle.store.proofs.Each.{both-l, both-r}
-use Rattle.options.specs.declared.MultigridOptions.{MultigridOptions}
+use Rattle.store.proofs.store.Each.{both-l, both-r}
+use Rattle.options.specs.declared.options.MultigridOptions.{MultigridOptions}
 use Rattle.refusal.specs.declared.Refusal.{Refusal}
 use Rattle.refusal.specs.Refusal.{noRows, storeTooSmall, unequalMirrors}
 use Rattle.options.specs.Options.{within, validOf, controlsAsked, tolerable}
@@ -17,7 +17,7 @@ use Rattle.refusal.specs.Outcome.{Outcome, accepted, passed, ask, _>>=_}
 use Rattle.pattern.specs.Pattern.{entries}
 use Rattle.faces.specs.Faces.{diagonalsAsked}
 use Rattle.csr.specs.Questions.{matrixAsked}
-use Rattle.checkweights.specs.Weights.{weightsAsked}
+use Rattle.csr.specs.Weights.{weightsAsked}
 use Rattle.hierarchy.specs.Level.{Level, Hierarchy}
 use Rattle.hierarchy.specs.Refresh.{innerNumbers, withSums}
 use Rattle.hierarchy.specs.Build.{Charge, andLevel, holds, innerShape, Mesh, merged, kernelAsked, paired, coarsenedAsked, endsAt, lastLevel, mergeOf, levelStep, growOf, Lent, Input, patternIn, meshIn, symmetricOf, buildOf}

@@ -7,21 +7,21 @@ use mathlib.Core.List.{List, [], _∷_, _++_, map}
 use Prim.Native.Nat.{ℕ}
 use lib.Ieee.{Float, binary64, ofBits, add, sub, mul, div, lt, le, eq}
 use Rattle.float.specs.Float.{zero64, one64, isFinite, absOf}
-use Rattle.root.specs.Sqrt.{sqrtOf}
+use Rattle.float.specs.Sqrt.{sqrtOf}
 use Rattle.store.specs.Loop.{iter, for}
 use Rattle.store.specs.Vector.{tab, each}
-use Rattle.options.specs.declared.MultigridOptions.{MultigridOptions}
-use Rattle.options.specs.declared.MultigridSmoother.{MultigridSmoother}
-use Rattle.options.specs.declared.MultigridResidualNorm.{MultigridResidualNorm}
-use Rattle.options.specs.declared.MultigridCoarseSolver.{MultigridCoarseSolver}
+use Rattle.options.specs.declared.options.MultigridOptions.{MultigridOptions}
+use Rattle.options.specs.declared.options.MultigridSmoother.{MultigridSmoother}
+use Rattle.options.specs.declared.options.MultigridResidualNorm.{MultigridResidualNorm}
+use Rattle.options.specs.declared.options.MultigridCoarseSolver.{MultigridCoarseSolver}
 use Rattle.refusal.specs.Refusal.{badOffsets, badColumns, invalidControls, noRows, storeTooSmall, unequalMirrors, missingDiagonal, badDiagonal, badReciprocal, tooManyCoupled, badPivot}
 use Rattle.options.specs.Options.{validOf}
 use Rattle.refusal.specs.Outcome.{Outcome, accepted, refused, askRows}
-use Rattle.finite.specs.Finite.{allFinite}
+use Rattle.vector.specs.Finite.{allFinite}
 use Rattle.matrix.specs.Kernel.{sumFace, sumRow, rowSumsOf}
-use Rattle.mirrors.specs.Mirrors.{mirrorsAgree, mirrorsEqual}
-use Rattle.values.specs.Update.{isPositive, diagonalAsked, updateOf}
-use Rattle.packed.specs.Triangle.{tri, lessOf}
+use Rattle.coefficients.specs.Mirrors.{mirrorsAgree, mirrorsEqual}
+use Rattle.coefficients.specs.Update.{isPositive, diagonalAsked, updateOf}
+use Rattle.cholesky.specs.Triangle.{tri, lessOf}
 use Rattle.cholesky.specs.Factor as factor
 use Rattle.dic.specs.Dic.{isPivot, pivotFace, pivotRow, pivotsOf, reciprocalsOf, dicOf}
 use Rattle.aggregation.specs.Pairs.{strengthsOf, considerOf, entryOf, strongestOf, placeOf, pairRowOf, turnOf, pairsOf}

@@ -8,13 +8,13 @@ use Prim.Native.Nat.{ℕ, zero, suc, _+_, _-_}
 use lib.Dec.{eqb}
 use lib.ListN.{length}
 use lib.Ieee.{Float}
-use Rattle.options.specs.declared.MultigridOptions.{MultigridOptions}
+use Rattle.options.specs.declared.options.MultigridOptions.{MultigridOptions}
 use Rattle.refusal.specs.Outcome.{accepted, _>>=_}
 use Rattle.refusal.proofs.Outcome.{accepted-one}
-use Rattle.finite.specs.Finite.{allFinite}
+use Rattle.vector.specs.Finite.{allFinite}
 use Rattle.aggregation.specs.Pairs.{Pairing, strengthsOf}
 use Rattle.pattern.specs.Pattern.{Pattern, entries, coarse, coarsePositions, composeOf}
-use Rattle.pattern.proofs.Place.{length-those}
+use Rattle.pattern.proofs.pattern.Place.{length-those}
 use Rattle.galerkin.specs.Values.{galerkinOf}
 use Rattle.faces.specs.Faces.{above, facesOf, uppersOf, lowersOf}
 use Rattle.hierarchy.specs.Level.{Shape, Numbers, Level, Hierarchy}

@@ -12,15 +12,15 @@ use lib.Ieee.{Float}
 use Rattle.float.specs.Float.{add64, zero64}
 use Rattle.store.specs.Region.{at, idx}
 use Rattle.store.specs.Vector.{filled}
-use Rattle.store.proofs.Loop.{for-keeps}
-use Rattle.store.proofs.Vector.{length-tab}
-use Rattle.options.specs.declared.MultigridOptions.{MultigridOptions}
+use Rattle.store.proofs.store.Loop.{for-keeps}
+use Rattle.store.proofs.store.Vector.{length-tab}
+use Rattle.options.specs.declared.options.MultigridOptions.{MultigridOptions}
 use Rattle.refusal.specs.Outcome.{Outcome, accepted}
 use Rattle.aggregation.specs.Pairs.{Weighted, weighted, strengthsOf, pairsOf, InRange}
 use Rattle.aggregation.proofs.Numbers.{map-length, map-below, all-used}
 use Rattle.pattern.specs.Pattern.{Pattern, entries, Valid, coarse, coarsePositions, Maps, Onto}
-use Rattle.pattern.proofs.Row.{offset-mono}
-use Rattle.pattern.proofs.Coarse.{coarse-valid, coarse-rising, coarse-mirrored, coarse-diagonal}
+use Rattle.pattern.proofs.pattern.Row.{offset-mono}
+use Rattle.pattern.proofs.pattern.Coarse.{coarse-valid, coarse-rising, coarse-mirrored, coarse-diagonal}
 use Rattle.galerkin.specs.Values.{addEntry, sumsOf, meanOf, averageFace, symmetrizeOf, galerkinOf, zeroEntry, zeroEntries, zeroRow, zeroDiagonalOf, restrictWeightsOf}
 use Rattle.faces.specs.Faces.{facesOf, uppersOf, lowersOf}
 use Rattle.hierarchy.specs.Level.{Level}

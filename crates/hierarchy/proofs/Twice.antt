@@ -7,11 +7,11 @@ use mathlib.Core.List.{List}
 use Prim.Native.Nat.{ℕ, _+_, _<_}
 use Rattle.store.specs.Region.{idx}
 use Rattle.store.specs.Vector.{tab}
-use Rattle.store.proofs.Vector.{length-tab, getD-tab}
+use Rattle.store.proofs.store.Vector.{length-tab, getD-tab}
 use Rattle.pattern.specs.Pattern.{Pattern, entries, columnOf, rowOf, Valid, those, flat, startOf, joins, coarseOffsets, coarseColumns, coarsePositions, coarse, Maps, Onto, composeOf}
-use Rattle.pattern.proofs.Number.{both-ways}
-use Rattle.pattern.proofs.Row.{row-in, joins-at, joins-which, joins-below}
-use Rattle.pattern.proofs.Coarse.{coarse-row, coarse-column, coarse-joined, position-is, position-below}
+use Rattle.pattern.proofs.pattern.Number.{both-ways}
+use Rattle.pattern.proofs.pattern.Row.{row-in, joins-at, joins-which, joins-below}
+use Rattle.pattern.proofs.pattern.Coarse.{coarse-row, coarse-column, coarse-joined, position-is, position-below}
 
 -- ---- the composed map
 

@@ -5,19 +5,19 @@ use Prim.Native.Nat.{ℕ, zero, suc, _+_, _-_, _*_, _%_}
 use lib.Dec.{eqb, leb}
 use lib.ListN.{length}
 use lib.Ieee.{Float}
-use Rattle.options.specs.declared.MultigridOptions.{MultigridOptions}
+use Rattle.options.specs.declared.options.MultigridOptions.{MultigridOptions}
 use Rattle.refusal.specs.Refusal.{noRows, storeTooSmall, unequalMirrors, tooManyCoupled, badCoarseValue}
 use Rattle.options.specs.Options.{controlsAsked}
 use Rattle.refusal.specs.Outcome.{Outcome, accepted, passed, ask, _>>=_, _>>_}
-use Rattle.finite.specs.Finite.{allFinite}
-use Rattle.values.specs.Update.{Coefficients, updateOf}
-use Rattle.mirrors.specs.Mirrors.{mirrorsEqual}
+use Rattle.vector.specs.Finite.{allFinite}
+use Rattle.coefficients.specs.Update.{Coefficients, updateOf}
+use Rattle.coefficients.specs.Mirrors.{mirrorsEqual}
 use Rattle.aggregation.specs.Pairs.{Pairing, weighted, strengthsOf, pairsOf}
 use Rattle.pattern.specs.Pattern.{Pattern, entries, coarse, coarsePositions, composeOf}
 use Rattle.galerkin.specs.Values.{galerkinOf, restrictWeightsOf}
 use Rattle.faces.specs.Faces.{facesOf, faceOffsetsOf, neighborsOf, uppersOf, lowersOf, mirroredOf, diagonalsOf, diagonalsAsked, coupledCountOf, coupledRowsOf}
 use Rattle.csr.specs.Questions.{matrixAsked}
-use Rattle.checkweights.specs.Weights.{weightsAsked}
+use Rattle.csr.specs.Weights.{weightsAsked}
 use Rattle.hierarchy.specs.Level.{Shape, Level, Hierarchy}
 use Rattle.hierarchy.specs.Refresh.{innerNumbers, lastNumbers, withSums}
 

@@ -6,14 +6,14 @@ use lib.ListN.{length}
 use lib.Ieee.{Float}
 use Rattle.float.specs.Float.{zero64}
 use Rattle.store.specs.Vector.{filled}
-use Rattle.options.specs.declared.MultigridOptions.{MultigridOptions}
-use Rattle.options.specs.declared.MultigridSmoother.{MultigridSmoother}
-use Rattle.options.specs.declared.MultigridResidualNorm.{MultigridResidualNorm}
+use Rattle.options.specs.declared.options.MultigridOptions.{MultigridOptions}
+use Rattle.options.specs.declared.options.MultigridSmoother.{MultigridSmoother}
+use Rattle.options.specs.declared.options.MultigridResidualNorm.{MultigridResidualNorm}
 use Rattle.refusal.specs.Refusal.{badCoarseValue}
 use Rattle.refusal.specs.Outcome.{Outcome, accepted, ask, _>>=_, _>>_}
-use Rattle.finite.specs.Finite.{allFinite}
+use Rattle.vector.specs.Finite.{allFinite}
 use Rattle.matrix.specs.Kernel.{Kernel, rowSumsOf}
-use Rattle.values.specs.Update.{Coefficients, updateOf}
+use Rattle.coefficients.specs.Update.{Coefficients, updateOf}
 use Rattle.dic.specs.Dic.{dicOf}
 use Rattle.cholesky.specs.Factor.{choleskyOf}
 use Rattle.pattern.specs.Pattern.{entries}

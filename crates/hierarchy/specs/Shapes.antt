@@ -6,7 +6,7 @@ use Prim.Native.Nat.{ℕ, zero, suc, _+_, _-_}
 use lib.Dec.{eqb}
 use lib.ListN.{length}
 use lib.Ieee.{Float}
-use Rattle.options.specs.declared.MultigridOptions.{MultigridOptions}
+use Rattle.options.specs.declared.options.MultigridOptions.{MultigridOptions}
 use Rattle.aggregation.specs.Pairs.{Pairing, weighted, pairsOf}
 use Rattle.pattern.specs.Pattern.{Pattern, entries, coarse, coarsePositions, composeOf}
 use Rattle.galerkin.specs.Values.{restrictWeightsOf}

@@ -7,10 +7,10 @@ use Prim.Native.Nat.{ℕ, _+_, _*_, _≤_}
 use native.Mathlib.Omega.{arith}
 use borrow.Author.Tests.{eq-eqb, ne-eqb}
 use Rattle.store.specs.Region.{idx}
-use Rattle.store.proofs.Region.{getD-part}
+use Rattle.store.proofs.store.Region.{getD-part}
 use Rattle.pattern.specs.Pattern.{Pattern, Valid}
 use Rattle.faces.specs.Faces.{faceOffsetsOf}
-use Rattle.faces.proofs.Laws.{starts-last}
+use Rattle.faces.proofs.faces.Laws.{starts-last}
 use Rattle.layout.specs.declared.Place.{Place}
 use Rattle.layout.specs.Layout.{placeOf, rowsAt, lastAt, coupledAt, locate, wordsEnd}
 use Rattle.layout.specs.Placed.{Placed, Shapes}

@@ -10,9 +10,9 @@ use lib.ListN.{length}
 use lib.Ieee.{Float}
 use borrow.Author.Tests.{leb-true}
 use Rattle.store.specs.Region.{idx, part, Kept}
-use Rattle.store.proofs.Each.{both-l, both-r}
-use Rattle.store.proofs.Region.{kept-part, kept-get}
-use Rattle.packed.specs.Triangle.{tri}
+use Rattle.store.proofs.store.Each.{both-l, both-r}
+use Rattle.store.proofs.store.Region.{kept-part, kept-get}
+use Rattle.cholesky.specs.Triangle.{tri}
 use Rattle.layout.specs.declared.Place.{Place}
 use Rattle.layout.specs.Layout.{rowsAt, lastAt, coupledAt, entriesAt, facesAt, locate, shapeAt, numbersAt, levelAt, wordsEnd, floatsEnd, levelsAt, imageEnd, wordsFit}
 

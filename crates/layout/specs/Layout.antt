@@ -10,7 +10,7 @@ use lib.Dec.{eqb, leb}
 use lib.ListN.{length}
 use lib.Ieee.{Float}
 use Rattle.store.specs.Region.{idx, part}
-use Rattle.packed.specs.Triangle.{tri}
+use Rattle.cholesky.specs.Triangle.{tri}
 use Rattle.hierarchy.specs.Level.{Shape, Numbers, Level, Hierarchy}
 use Rattle.layout.specs.declared.Place.{Place}
 

@@ -1,9 +1,9 @@
 -- A level's place as the float kernels, the faces and the terminal solve take it. Definitions only.
 use Prim.Native.Nat.{ℕ}
-use Rattle.matrix.specs.declared.SymmetricMatrix.{SymmetricMatrix}
-use Rattle.values.specs.declared.entries.Entries.{Entries}
+use Rattle.matrix.specs.declared.matrix.SymmetricMatrix.{SymmetricMatrix}
+use Rattle.coefficients.specs.declared.values.entries.Entries.{Entries}
 use Rattle.cholesky.specs.declared.Terminal.{Terminal}
-use Rattle.faces.specs.declared.Faces.{Faces}
+use Rattle.faces.specs.declared.faces.Faces.{Faces}
 use Rattle.layout.specs.declared.Place.{Place}
 
 -- the kernel

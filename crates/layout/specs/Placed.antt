@@ -4,7 +4,7 @@ use mathlib.Core.List.{List}
 use Prim.Native.Nat.{ℕ, _+_}
 use lib.Ieee.{Float}
 use Rattle.store.specs.Region.{idx, part}
-use Rattle.values.specs.Update.{Coefficients}
+use Rattle.coefficients.specs.Update.{Coefficients}
 use Rattle.pattern.specs.Pattern.{Pattern, entries}
 use Rattle.faces.specs.Faces.{facesOf, faceOffsetsOf, neighborsOf, uppersOf, lowersOf, diagonalsOf}
 use Rattle.layout.specs.declared.Place.{Place}

@@ -4,9 +4,9 @@ ghost use Prim.Native.Nat.{_+_, _*_, _≤_};
 ghost use lib.ListN.{length};
 ghost use Rattle.layout.specs.Layout.{placeOf, wordsEnd};
 ghost use Rattle.layout.specs.Parts.{kernelIn, entriesIn, facesIn};
+use coefficients::Entries;
 use faces::Faces;
 use matrix::SymmetricMatrix;
-use values::Entries;
 
 // A level's sizes, its regions in the words, and its regions in the floats.
 pub struct Place {

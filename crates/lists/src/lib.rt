@@ -4,7 +4,11 @@ ghost use Prim.Native.Nat.{_≤_};
 
 pub mod kinds;
 pub mod reading;
+pub mod rebuild;
 pub mod stores;
+
+pub use rebuild::Problem;
+pub use rebuild::from_text;
 
 // The smaller of two lengths.
 pub fn least(a: usize, b: usize) -> usize

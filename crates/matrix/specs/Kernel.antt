@@ -8,7 +8,7 @@ use Rattle.float.specs.Float.{add64, sub64, mul64}
 use Rattle.store.specs.Loop.{for}
 use Rattle.store.specs.Region.{at, idx, part}
 use Rattle.store.specs.Vector.{tab}
-use Rattle.matrix.specs.declared.SymmetricMatrix.{SymmetricMatrix}
+use Rattle.matrix.specs.declared.matrix.SymmetricMatrix.{SymmetricMatrix}
 
 -- a symmetric matrix by its faces: those of row r stand from offsets[r] up to offsets[r + 1]
 pub record Kernel : Type 0 where

@@ -1,10 +1,10 @@
 -- How the places of a pattern cross the boundary: as numbers. Definitions only.
 use Prim.Native.Nat.{ℕ}
-use Rattle.flat.specs.Flat.{isSet}
+use Rattle.export.specs.Flat.{isSet}
 use Rattle.aggregation.specs.declared.Graph.{Graph}
-use Rattle.pattern.specs.declared.Coarsening.{Coarsening}
-use Rattle.faces.specs.declared.Faces.{Faces}
-pub use Rattle.telling.specs.Telling.{flag, flagOf, writtenOf, answerOf, Told}
+use Rattle.pattern.specs.declared.pattern.Coarsening.{Coarsening}
+use Rattle.faces.specs.declared.faces.Faces.{Faces}
+pub use Rattle.meshprobe.specs.Telling.{flag, flagOf, writtenOf, answerOf, Told}
 
 -- the places of a matrix and its map, as numbers
 abbrev pub graphOf : ℕ → ℕ → ℕ → ℕ → ℕ → ℕ → ℕ → Graph

@@ -2,7 +2,7 @@
 ghost use mathlib.Core.Path.{_≡_};
 ghost use Rattle.refusal.specs.Outcome.{verdictOf};
 ghost use Rattle.csr.specs.Questions.{matrixAsked};
-ghost use Rattle.checkweights.specs.Weights.{weightsAsked};
+ghost use Rattle.csr.specs.Weights.{weightsAsked};
 ghost use Rattle.meshprobe.specs.Mesh.{answerOf};
 use refusal::Verdict;
 
@@ -32,5 +32,5 @@ pub extern "C" fn probe_check_matrix(
 pub extern "C" fn probe_check_weights(weights: &[f64], entries: usize) -> u64
     ensures { λ r. ⌜ r ≡ answerOf (verdictOf (weightsAsked entries (now (weights .entry)))) ⌝ }
 {
-    unplaced(checkweights::check_weights(weights, entries))
+    unplaced(csr::check_weights(weights, entries))
 }

@@ -7,7 +7,7 @@ ghost use Rattle.aggregation.specs.Layout.{weightedAt, GraphOk, Paired};
 ghost use Rattle.pattern.specs.Pattern.{composeOf};
 ghost use Rattle.pattern.specs.Coarsening.{PatternOk, Patterned, ComposeOk};
 ghost use Rattle.galerkin.specs.Values.{sumsOf, symmetrizeOf, restrictWeightsOf, SumsOk, GivenOk, FacesOk, WeightsOk};
-ghost use Rattle.flat.specs.Flat.{isSet};
+ghost use Rattle.export.specs.Flat.{isSet};
 ghost use Rattle.meshprobe.specs.Mesh.{graphOf, coarseningOf};
 use aggregation::Graph;
 use pattern::Coarsening;
@@ -73,7 +73,7 @@ pub extern "C" fn probe_coarse_pattern(
         coarse_columns: coarse_columns,
         scratch: scratch,
     };
-    positions::coarse_pattern(w, c)
+    pattern::coarse_pattern(w, c)
 }
 
 #[no_mangle]
@@ -160,7 +160,7 @@ pub extern "C" fn probe_restrict_weights(
         count (part offsets (count + 1) (now (w .entry))) (part columns total (now (w .entry))))
         (now (f .entry)) (now (f .exit)) ⌝ }
 {
-    weights::restrict_weights(
+    galerkin::restrict_weights(
         w,
         f,
         count,

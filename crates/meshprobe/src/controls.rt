@@ -1,9 +1,9 @@
 // `validate` of `options`, of controls as numbers.
 ghost use mathlib.Core.Path.{_≡_};
 ghost use Rattle.options.specs.Options.{validOf};
-ghost use Rattle.flat.specs.Flat.{optionsOf};
+ghost use Rattle.export.specs.Flat.{optionsOf};
 ghost use Rattle.meshprobe.specs.Mesh.{flag};
-use telling::number;
+use crate::telling::number;
 
 #[no_mangle]
 pub extern "C" fn probe_validate(
@@ -29,7 +29,7 @@ pub extern "C" fn probe_validate(
         «coarsest_cells» «max_levels» «merge_levels» «krylov_dimension» «coarse_solver» «coarse_absolute_tolerance»
         «coarse_relative_tolerance» «coarse_max_iterations» «scale_correction»)) ⌝ }
 {
-    let options = flat::options_of(
+    let options = export::options_of(
         smoother,
         residual_norm,
         pre_sweeps,

@@ -4,5 +4,10 @@ mod arrays;
 mod coarsening;
 mod controls;
 mod numbers;
+pub mod telling;
 mod topology;
 mod vectors;
+
+pub use telling::answer;
+pub use telling::number;
+pub use telling::tell;

@@ -3,9 +3,9 @@ ghost use mathlib.Core.Path.{_≡_};
 ghost use Prim.Native.Nat.{_+_, _*_, min};
 ghost use lib.Ieee.{binary64, toBits, ofBits};
 ghost use Rattle.float.specs.Float.{isFinite, absOf, maxNum, squareOf};
-ghost use Rattle.root.specs.Sqrt.{sqrtOf};
+ghost use Rattle.float.specs.Sqrt.{sqrtOf};
 ghost use Rattle.meshprobe.specs.Mesh.{flag};
-use telling::number;
+use crate::telling::number;
 
 #[no_mangle]
 pub extern "C" fn probe_is_finite(x: f64) -> u8
@@ -39,7 +39,7 @@ pub extern "C" fn probe_square(x: f64) -> f64
 pub extern "C" fn probe_sqrt(x: f64) -> f64
     ensures { λ r. ⌜ r ≡ sqrtOf x ⌝ }
 {
-    root::sqrt(x)
+    float::sqrt(x)
 }
 
 #[no_mangle]
@@ -60,12 +60,12 @@ pub extern "C" fn probe_of_bits(bits: u64) -> f64
 pub extern "C" fn probe_saturating_add(a: u64, b: u64) -> u64
     ensures { λ r. ⌜ r ≡ min (a + b) 18446744073709551615 ⌝ }
 {
-    saturating::saturating_add(a, b)
+    float::saturating_add(a, b)
 }
 
 #[no_mangle]
 pub extern "C" fn probe_saturating_mul(a: u64, b: u64) -> u64
     ensures { λ r. ⌜ r ≡ min (a * b) 18446744073709551615 ⌝ }
 {
-    saturating::saturating_mul(a, b)
+    float::saturating_mul(a, b)
 }

@@ -7,9 +7,11 @@ ghost use Rattle.faces.specs.Faces.{mirroredOf, diagonalsAsked};
 ghost use Rattle.faces.specs.Contract.{patternAt, OffsetsOk, OffsetsDone, FillOk, Filled, MirrorsOk, MirrorsDone};
 ghost use Rattle.faces.specs.Contract.{DiagonalsOk, DiagonalsDone, CoupledOk, CoupledCount, CoupledRowsOk, CoupledRows};
 ghost use Rattle.meshprobe.specs.Mesh.{flag, topologyOf, Told};
+use crate::telling::answer;
+use crate::telling::number;
 use faces::Faces;
-use telling::answer;
-use telling::number;
+use faces::diagonals;
+use faces::mirrors;
 
 #[no_mangle]
 pub extern "C" fn probe_face_offsets(
@@ -110,7 +112,7 @@ pub extern "C" fn probe_mirrors(
         uppers: uppers,
         lowers: lowers,
     };
-    number(mirroring::mirrors(w, s))
+    number(mirrors::mirrors(w, s))
 }
 
 #[no_mangle]
@@ -185,7 +187,7 @@ pub extern "C" fn probe_coupled_count(
         uppers: uppers,
         lowers: lowers,
     };
-    coupling::coupled_count(w, s)
+    faces::coupled_count(w, s)
 }
 
 #[no_mangle]
@@ -219,5 +221,5 @@ pub extern "C" fn probe_coupled_rows(
         uppers: uppers,
         lowers: lowers,
     };
-    coupling::coupled_rows(w, s, to);
+    faces::coupled_rows(w, s, to);
 }

@@ -4,10 +4,10 @@ ghost use Prim.Native.Nat.{_+_, _≤_};
 ghost use lib.ListN.{length};
 ghost use Rattle.store.specs.Region.{part};
 ghost use Rattle.vector.specs.Dot.{dotOf, productOf, normOf};
-ghost use Rattle.finite.specs.Finite.{allFinite};
+ghost use Rattle.vector.specs.Finite.{allFinite};
 ghost use Rattle.meshprobe.specs.Mesh.{flag, flagOf, writtenOf};
-use telling::number;
-use telling::tell;
+use crate::telling::number;
+use crate::telling::tell;
 
 #[no_mangle]
 pub extern "C" fn probe_dot(f: &[f64], a: usize, b: usize, n: usize, out: &mut [f64]) -> u8
@@ -35,5 +35,5 @@ pub extern "C" fn probe_all_finite(f: &[f64], n: usize, x: usize) -> u8
     requires { ⌜ x + n ≤ length (now f) ⌝ }
     ensures { λ r. ⌜ r ≡ flag (allFinite n (part x n (now (f .entry)))) ⌝ }
 {
-    number(finite::all_finite(f, n, x))
+    number(vector::all_finite(f, n, x))
 }

@@ -10,11 +10,11 @@ use lib.ListN.{length}
 use lib.Ieee.{Float}
 use Rattle.store.specs.Region.{part, lay, splice}
 use Rattle.store.specs.Vector.{filled}
-use Rattle.store.proofs.Region.{length-splice}
-use Rattle.store.proofs.Vector.{length-tab}
-use Rattle.options.specs.declared.MultigridOptions.{MultigridOptions}
-use Rattle.options.specs.declared.Handle.{Handle}
-use Rattle.solver.specs.declared.LinearSolverOptions.{LinearSolverOptions}
+use Rattle.store.proofs.store.Region.{length-splice}
+use Rattle.store.proofs.store.Vector.{length-tab}
+use Rattle.options.specs.declared.options.MultigridOptions.{MultigridOptions}
+use Rattle.options.specs.declared.options.Handle.{Handle}
+use Rattle.solver.specs.declared.solver.LinearSolverOptions.{LinearSolverOptions}
 use Rattle.refusal.specs.Refusal.{unsoundStores}
 use Rattle.refusal.specs.Outcome.{Outcome, accepted, refused}
 use Rattle.refusal.proofs.Outcome.{ask-yes, accepted-one}
@@ -25,27 +25,27 @@ use Rattle.hierarchy.specs.Shapes.{patternOf}
 use Rattle.hierarchy.specs.First.{shapesIn}
 use Rattle.hierarchy.proofs.First.{build-first}
 use Rattle.layout.specs.Layout.{viewOf}
-use Rattle.answers.specs.declared.Built.{Built}
+use Rattle.solver.specs.declared.answers.Built.{Built}
 use Rattle.build.specs.Contract.{lentOf}
-use Rattle.sound.specs.Sound.{soundOf}
-use Rattle.built.proofs.Sound.{built-sound}
+use Rattle.index_check.specs.Sound.{soundOf}
+use Rattle.build_sound.proofs.Sound.{built-sound}
 use Rattle.statistics.specs.Fresh.{freshOf}
-use Rattle.stepping.specs.Iteration.{systemOf}
-use Rattle.answers.specs.declared.Solved.{Solved}
-use Rattle.iterating.specs.Iterate.{Solution, answerOf}
+use Rattle.iterations.specs.Iteration.{systemOf}
+use Rattle.solver.specs.declared.answers.Solved.{Solved}
+use Rattle.iterations.specs.Iterate.{Solution, answerOf}
 use Rattle.solve.specs.Solve.{solveOf}
 use Rattle.solve.specs.Contract.{countersOf, solvedAt, solutionOf}
 use Rattle.solve.specs.Contract as solving
-use Rattle.answers.specs.declared.Updated.{Updated}
-use Rattle.refresh.specs.Contract.{updatedAt, hierarchyOf}
-use Rattle.refresh.specs.Contract as refreshing
-use Rattle.making.specs.New.{statisticsOf, NewDone}
-use Rattle.making.proofs.Builds.{made-is}
-use Rattle.updatecall.specs.Call.{updatedOf, UpdateCall}
-use Rattle.solvecall.specs.Call.{solvedOf, SolveCall}
+use Rattle.solver.specs.declared.answers.Updated.{Updated}
+use Rattle.update.specs.Contract.{updatedAt, hierarchyOf}
+use Rattle.update.specs.Contract as refreshing
+use Rattle.multigrid.specs.New.{statisticsOf, NewDone}
+use Rattle.multigrid.proofs.building.Builds.{made-is}
+use Rattle.multigrid.specs.UpdatingCall.{updatedOf, UpdateCall}
+use Rattle.multigrid.specs.SolvingCall.{solvedOf, SolveCall}
 use Rattle.multigrid.specs.Trace.{Event, Trace, withValues, booked, Fresh, Agrees}
 use Rattle.solve.proofs.Counters.{same-answer, same-solution}
-use Rattle.refresh.proofs.First.{update-first}
+use Rattle.update.proofs.refresh.First.{update-first}
 
 -- ---- lengths
 

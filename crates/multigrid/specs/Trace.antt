@@ -3,19 +3,19 @@ use mathlib.Core.Path.{_≡_}
 use mathlib.Core.List.{List, [], _∷_}
 use Prim.Native.Nat.{ℕ}
 use lib.Ieee.{Float}
-use Rattle.options.specs.declared.Handle.{Handle}
-use Rattle.solver.specs.declared.LinearSolverOptions.{LinearSolverOptions}
+use Rattle.options.specs.declared.options.Handle.{Handle}
+use Rattle.solver.specs.declared.solver.LinearSolverOptions.{LinearSolverOptions}
 use Rattle.refusal.specs.Outcome.{accepted}
 use Rattle.hierarchy.specs.Level.{Hierarchy}
 use Rattle.hierarchy.specs.Build.{Lent, Input, buildOf}
-use Rattle.stepping.specs.Iteration.{systemOf}
-use Rattle.answers.specs.declared.Solved.{Solved}
+use Rattle.iterations.specs.Iteration.{systemOf}
+use Rattle.solver.specs.declared.answers.Solved.{Solved}
 use Rattle.solve.specs.Solve.{solveOf}
-use Rattle.iterating.specs.Iterate.{answerOf}
+use Rattle.iterations.specs.Iterate.{answerOf}
 use Rattle.solve.specs.Contract.{solutionOf}
-use Rattle.answers.specs.declared.Updated.{Updated}
-use Rattle.updatecall.specs.Call.{UpdateCall}
-use Rattle.solvecall.specs.Call.{SolveCall}
+use Rattle.solver.specs.declared.answers.Updated.{Updated}
+use Rattle.multigrid.specs.UpdatingCall.{UpdateCall}
+use Rattle.multigrid.specs.SolvingCall.{SolveCall}
 
 -- ---- the calls
 

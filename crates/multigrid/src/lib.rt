@@ -1,7 +1,12 @@
 // mod.rs: the calls of the solver.
-pub use answers::Counted;
-pub use countcall::statistics;
-pub use making::new;
-pub use making::new_with_face_weights;
-pub use solvecall::solve;
-pub use updatecall::update_values;
+pub mod building;
+pub mod counting;
+pub mod solving;
+pub mod updating;
+
+pub use building::new;
+pub use building::new_with_face_weights;
+pub use counting::statistics;
+pub use solver::Counted;
+pub use solving::solve;
+pub use updating::update_values;

@@ -3,15 +3,15 @@ use mathlib.Core.List.{List}
 use Prim.Native.Nat.{ℕ}
 use lib.Ieee.{Float}
 use Rattle.hierarchy.specs.Build.{Input}
-use Rattle.answers.specs.declared.Built.{Built}
-use Rattle.making.specs.New.{NewDone}
-use Rattle.options.specs.declared.Handle.{Handle}
-use Rattle.solver.specs.declared.LinearSolverOptions.{LinearSolverOptions}
-use Rattle.answers.specs.declared.Solved.{Solved}
-use Rattle.answers.specs.declared.Updated.{Updated}
-use Rattle.told.specs.Told.{Told, ToldUpdate, ToldSolve}
-use Rattle.updatecall.specs.Call.{UpdateCall}
-use Rattle.solvecall.specs.Call.{SolveCall}
+use Rattle.solver.specs.declared.answers.Built.{Built}
+use Rattle.multigrid.specs.New.{NewDone}
+use Rattle.options.specs.declared.options.Handle.{Handle}
+use Rattle.solver.specs.declared.solver.LinearSolverOptions.{LinearSolverOptions}
+use Rattle.solver.specs.declared.answers.Solved.{Solved}
+use Rattle.solver.specs.declared.answers.Updated.{Updated}
+use Rattle.export.specs.Told.{Told, ToldUpdate, ToldSolve}
+use Rattle.multigrid.specs.UpdatingCall.{UpdateCall}
+use Rattle.multigrid.specs.SolvingCall.{SolveCall}
 use Rattle.multigrid_c.specs.Exported.{Exported, ExportedUpdate, ExportedSolve}
 
 -- A build and its answer told in numbers are an export.

@@ -4,18 +4,18 @@ use Prim.Native.Nat.{ℕ, _/_}
 use lib.Ieee.{Float}
 use lib.ListN.{length}
 use Rattle.hierarchy.specs.Build.{Input, buildOf}
-use Rattle.answers.specs.declared.Built.{Built}
+use Rattle.solver.specs.declared.answers.Built.{Built}
 use Rattle.build.specs.Contract.{lentOf, builtOf}
-use Rattle.options.specs.declared.Handle.{Handle}
-use Rattle.options.specs.declared.MultigridOptions.{MultigridOptions}
-use Rattle.solver.specs.declared.LinearSolverOptions.{LinearSolverOptions}
-use Rattle.iterating.specs.Iterate as iterating
-use Rattle.refresh.specs.Contract as refresh
-use Rattle.told.specs.Told.{Told, ToldUpdate, ToldSolve, ToldCount}
-use Rattle.making.specs.New.{NewDone}
-use Rattle.updatecall.specs.Call.{UpdateCall, updatedOf}
-use Rattle.solvecall.specs.Call.{SolveCall, solvedOf}
-use Rattle.countcall.specs.Call.{countedOf}
+use Rattle.options.specs.declared.options.Handle.{Handle}
+use Rattle.options.specs.declared.options.MultigridOptions.{MultigridOptions}
+use Rattle.solver.specs.declared.solver.LinearSolverOptions.{LinearSolverOptions}
+use Rattle.iterations.specs.Iterate as iterating
+use Rattle.update.specs.Contract as refresh
+use Rattle.export.specs.Told.{Told, ToldUpdate, ToldSolve, ToldCount}
+use Rattle.multigrid.specs.New.{NewDone}
+use Rattle.multigrid.specs.UpdatingCall.{UpdateCall, updatedOf}
+use Rattle.multigrid.specs.SolvingCall.{SolveCall, solvedOf}
+use Rattle.multigrid.specs.CountingCall.{countedOf}
 
 -- the answer to a build in stores w and F with the words of statistics s
 abbrev pub dueOf : List ℕ → List Float → List ℕ → Input → Built

@@ -1,7 +1,7 @@
 // `update_values` and `solve` for C. The handle crosses as its levels, rows and entries, and its controls.
 ghost use Prim.Native.Nat.{_≤_};
 ghost use lib.ListN.{length};
-ghost use Rattle.flat.specs.Flat.{optionsOf};
+ghost use Rattle.export.specs.Flat.{optionsOf};
 ghost use Rattle.multigrid_c.specs.Exported.{handleIn, solverIn, ExportedUpdate, ExportedSolve};
 use options::Handle;
 use solver::LinearSolverOptions;
@@ -40,7 +40,7 @@ pub extern "C" fn multigrid_update_values(
         (now (words .entry)) (now (floats .entry)) (now (floats .exit)) (now (statistics .entry))
         (now (offsets .entry)) (now (columns .entry)) (now (values .entry)) (now (place .entry)) (now (place .exit)) r ⌝ }
 {
-    let options = flat::options_of(
+    let options = export::options_of(
         smoother,
         residual_norm,
         pre_sweeps,
@@ -64,7 +64,7 @@ pub extern "C" fn multigrid_update_values(
         rows: rows,
         entries: entries,
     };
-    told::tell_update(
+    export::tell_update(
         multigrid::update_values(handle, offsets, columns, values, words, floats, statistics),
         place,
     )
@@ -110,7 +110,7 @@ pub extern "C" fn multigrid_solve(
         (solverIn «absolute_tolerance» «relative_tolerance» «max_iterations»)
         (now (place .entry)) (now (place .exit)) (now (residuals .entry)) (now (residuals .exit)) r ⌝ }
 {
-    let options = flat::options_of(
+    let options = export::options_of(
         smoother,
         residual_norm,
         pre_sweeps,
@@ -139,7 +139,7 @@ pub extern "C" fn multigrid_solve(
         relative_tolerance: relative_tolerance,
         max_iterations: max_iterations,
     };
-    told::tell_solve(
+    export::tell_solve(
         multigrid::solve(handle, words, floats, statistics, rhs, x, solver),
         place,
         residuals,

@@ -1,7 +1,7 @@
 // `statistics` for C. The handle crosses as it does in the other calls.
 ghost use Prim.Native.Nat.{_≤_};
 ghost use lib.ListN.{length};
-ghost use Rattle.flat.specs.Flat.{optionsOf};
+ghost use Rattle.export.specs.Flat.{optionsOf};
 ghost use Rattle.multigrid_c.specs.Exported.{handleIn, ExportedCount};
 use options::Handle;
 
@@ -35,7 +35,7 @@ pub extern "C" fn multigrid_statistics(
     ensures { λ r. ⌜ ExportedCount (handleIn levels rows entries (optionsOf smoother «residual_norm» «pre_sweeps» «post_sweeps» «finest_sweeps» «sweep_level_multiplier» «max_sweeps» «coarsest_cells» «max_levels» «merge_levels» «krylov_dimension» «coarse_solver» «coarse_absolute_tolerance» «coarse_relative_tolerance» «coarse_max_iterations» «scale_correction»))
         (now (words .entry)) (now (floats .entry)) (now (statistics .entry)) (now (place .entry)) (now (place .exit)) r ⌝ }
 {
-    let options = flat::options_of(
+    let options = export::options_of(
         smoother,
         residual_norm,
         pre_sweeps,
@@ -59,7 +59,7 @@ pub extern "C" fn multigrid_statistics(
         rows: rows,
         entries: entries,
     };
-    told::tell_count(
+    export::tell_count(
         multigrid::statistics(handle, words, floats, statistics),
         place,
     )

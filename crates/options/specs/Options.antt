@@ -4,10 +4,10 @@ use Prim.Native.Nat.{ℕ, _^_}
 use lib.Dec.{leb}
 use lib.Ieee.{Float, binary64, ofBits, lt}
 use Rattle.float.specs.Float.{ratio, isFinite}
-use Rattle.options.specs.declared.MultigridSmoother.{MultigridSmoother}
-use Rattle.options.specs.declared.MultigridResidualNorm.{MultigridResidualNorm}
-use Rattle.options.specs.declared.MultigridCoarseSolver.{MultigridCoarseSolver}
-use Rattle.options.specs.declared.MultigridOptions.{MultigridOptions}
+use Rattle.options.specs.declared.options.MultigridSmoother.{MultigridSmoother}
+use Rattle.options.specs.declared.options.MultigridResidualNorm.{MultigridResidualNorm}
+use Rattle.options.specs.declared.options.MultigridCoarseSolver.{MultigridCoarseSolver}
+use Rattle.options.specs.declared.options.MultigridOptions.{MultigridOptions}
 use Rattle.refusal.specs.Refusal.{invalidControls, notCholesky}
 use Rattle.refusal.specs.Outcome.{Outcome, passed, ask, _>>_}
 

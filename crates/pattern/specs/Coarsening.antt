@@ -5,7 +5,7 @@ use mathlib.Core.List.{List}
 use Prim.Native.Nat.{ℕ, _+_, _≤_}
 use lib.ListN.{length}
 use Rattle.store.specs.Region.{part, Clear, Kept}
-use Rattle.pattern.specs.declared.Coarsening.{Coarsening}
+use Rattle.pattern.specs.declared.pattern.Coarsening.{Coarsening}
 use Rattle.pattern.specs.Pattern.{Pattern, entries, Valid, Mirrored, coarse, coarseOffsets, coarseColumns, coarsePositions, Maps}
 
 -- The sizes, and the regions of the store: what is read, then positions, coarse offsets, coarse columns and scratch.

@@ -4,12 +4,12 @@ use mathlib.Core.Path.{_≡_}
 use Prim.Native.Nat.{ℕ}
 use lib.Ieee.{Float}
 use lib.ListN.{set}
-use Rattle.matrix.specs.declared.SymmetricMatrix.{SymmetricMatrix}
-use Rattle.values.specs.declared.entries.Entries.{Entries}
+use Rattle.matrix.specs.declared.matrix.SymmetricMatrix.{SymmetricMatrix}
+use Rattle.coefficients.specs.declared.values.entries.Entries.{Entries}
 use Rattle.cholesky.specs.declared.Terminal.{Terminal}
-use Rattle.scaling.specs.declared.Factor.{Factor}
-use Rattle.acceleration.specs.declared.Corrected.{Corrected}
-pub use Rattle.telling.specs.Telling.{flag, flagOf, writtenOf, answerOf, Told}
+use Rattle.correction.specs.declared.scaling.Factor.{Factor}
+use Rattle.acceleration.specs.declared.acceleration.Corrected.{Corrected}
+pub use Rattle.meshprobe.specs.Telling.{flag, flagOf, writtenOf, answerOf, Told}
 
 -- the places of a kernel, as numbers
 abbrev pub symmetricOf : ℕ → ℕ → ℕ → ℕ → ℕ → ℕ → SymmetricMatrix

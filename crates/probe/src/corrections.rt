@@ -2,16 +2,16 @@
 ghost use Prim.Native.Nat.{_≤_};
 ghost use lib.ListN.{length};
 ghost use Rattle.store.specs.Region.{part, Wrote, CopyOk};
-ghost use Rattle.transfer.specs.Transfer.{RestrictOk, ProlongOk, restrictOf, prolongOf};
+ghost use Rattle.correction.specs.Transfer.{RestrictOk, ProlongOk, restrictOf, prolongOf};
 ghost use Rattle.correction.specs.Correction.{SubtractOk, subtractOf, addPlainOf};
-ghost use Rattle.scaledcorrection.specs.Scaled.{ScaledOk, addScaledOf};
-ghost use Rattle.scaling.specs.Scaling.{ProductsOk, correctionFactorOf, factorOf};
+ghost use Rattle.correction.specs.Scaled.{ScaledOk, addScaledOf};
+ghost use Rattle.correction.specs.Scaling.{ProductsOk, correctionFactorOf, factorOf};
 ghost use Rattle.acceleration.specs.Gcr.{correctOf};
-ghost use Rattle.directions.specs.Contract.{pairAt, memoryAt};
-ghost use Rattle.acceleration.specs.Contract.{correctedOf, CorrectOk, CorrectedBy};
+ghost use Rattle.acceleration.specs.DirectionsContract.{pairAt, memoryAt};
+ghost use Rattle.acceleration.specs.AccelerationContract.{correctedOf, CorrectOk, CorrectedBy};
 ghost use Rattle.probe.specs.Probe.{Scaled, Counted};
 use acceleration::Corrected;
-use scaling::Factor;
+use correction::Factor;
 
 #[no_mangle]
 pub extern "C" fn probe_restrict(
@@ -28,7 +28,7 @@ pub extern "C" fn probe_restrict(
         (restrictOf count n (part map n (now (w .entry))) (part residual n (now (f .entry))))
         (now (f .entry)) (now (f .exit)) ⌝ }
 {
-    transfer::restrict(w, f, n, count, map, residual, out);
+    correction::restrict(w, f, n, count, map, residual, out);
 }
 
 #[no_mangle]
@@ -46,7 +46,7 @@ pub extern "C" fn probe_prolong(
         (prolongOf n (part map n (now (w .entry))) (part coarse count (now (f .entry))))
         (now (f .entry)) (now (f .exit)) ⌝ }
 {
-    transfer::prolong(w, f, n, count, map, coarse, out);
+    correction::prolong(w, f, n, count, map, coarse, out);
 }
 
 #[no_mangle]
@@ -90,7 +90,7 @@ pub extern "C" fn probe_correction_factor(
         (now (out .entry)) (now (out .exit)) r ⌝ }
 {
     scaled(
-        scaling::correction_factor(f, n, correction, residual, product),
+        correction::correction_factor(f, n, correction, residual, product),
         out,
     )
 }
@@ -112,7 +112,7 @@ pub extern "C" fn probe_add_scaled(
         (part product n (now (f .entry))) (part inverse n (now (f .entry))) (part x n (now (f .entry))))
         (now (f .entry)) (now (f .exit)) ⌝ }
 {
-    scaledcorrection::add_scaled(f, n, factor, correction, residual, product, inverse, x);
+    correction::add_scaled(f, n, factor, correction, residual, product, inverse, x);
 }
 
 #[no_mangle]

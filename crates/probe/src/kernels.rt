@@ -6,13 +6,14 @@ ghost use Rattle.refusal.specs.Outcome.{verdictOf};
 ghost use Rattle.store.specs.Region.{at, idx, part, Wrote};
 ghost use Rattle.store.specs.Vector.{tab};
 ghost use Rattle.matrix.specs.Kernel.{kernelAt, applyOf, residualOf, rowSumsOf, KernelOk};
-ghost use Rattle.values.specs.Update.{updateAt, updateWith, UpdateOk, Updated};
-ghost use Rattle.mirrors.specs.Mirrors.{mirrorsEqual, MirrorsOk};
+ghost use Rattle.coefficients.specs.Update.{updateAt, updateWith, UpdateOk, Updated};
+ghost use Rattle.coefficients.specs.Mirrors.{mirrorsEqual, MirrorsOk};
 ghost use Rattle.probe.specs.Probe.{flag, symmetricOf, entriesOf, Told};
+use coefficients::Entries;
 use matrix::SymmetricMatrix;
-use telling::answer;
-use telling::number;
-use values::Entries;
+use matrix::residual;
+use meshprobe::answer;
+use meshprobe::number;
 
 #[no_mangle]
 pub extern "C" fn probe_apply(
@@ -106,7 +107,7 @@ pub extern "C" fn probe_row_sums_into(
         neighbors: neighbors,
         coefficients: coefficients,
     };
-    rowsums::row_sums_into(w, f, s, sums);
+    matrix::row_sums_into(w, f, s, sums);
 }
 
 #[no_mangle]
@@ -154,7 +155,7 @@ pub extern "C" fn probe_update(
         faces: faces,
         values: values,
     };
-    answer(values::update(w, f, s, e, level), place)
+    answer(coefficients::update(w, f, s, e, level), place)
 }
 
 #[no_mangle]
@@ -205,8 +206,8 @@ pub extern "C" fn probe_update_given(
         values: values,
     };
     let count = store::wide(w[offsets + rows]);
-    values::pick_given(w, given, f, count, faces, coefficients);
-    answer(values::update_given(w, given, f, s, e, level), place)
+    coefficients::pick_given(w, given, f, count, faces, coefficients);
+    answer(coefficients::update_given(w, given, f, s, e, level), place)
 }
 
 #[no_mangle]
@@ -221,7 +222,7 @@ pub extern "C" fn probe_equal_mirrors(
     ensures { λ r. ⌜ r ≡ flag (mirrorsEqual faces (part upper faces (now (w .entry)))
         (part lower faces (now (w .entry))) (now (values .entry))) ⌝ }
 {
-    number(mirrors::equal_mirrors(w, values, faces, upper, lower))
+    number(coefficients::equal_mirrors(w, values, faces, upper, lower))
 }
 
 #[no_mangle]
@@ -242,5 +243,5 @@ pub extern "C" fn probe_take_faces(
         (tab (λ k. at (now (values .entry)) (idx (part upper faces (now (w .entry))) k)) faces)
         (now (f .entry)) (now (f .exit)) ⌝ }
 {
-    number(mirrors::take_faces(w, values, f, faces, upper, lower, to))
+    number(coefficients::take_faces(w, values, f, faces, upper, lower, to))
 }

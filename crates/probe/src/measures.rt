@@ -3,13 +3,15 @@ ghost use mathlib.Core.Path.{_≡_};
 ghost use Prim.Native.Nat.{_+_, _≤_};
 ghost use lib.ListN.{length};
 ghost use Rattle.store.specs.Region.{part};
-ghost use Rattle.measure.specs.Measure.{measureOf};
-ghost use Rattle.normalization.specs.Normalization.{normalizationOf, NormalizationOk};
+ghost use Rattle.residual_norm.specs.Measure.{measureOf};
+ghost use Rattle.residual_norm.specs.Normalization.{normalizationOf, NormalizationOk};
 ghost use Rattle.solver.specs.Solver.{thresholdOf, relativeOf};
-ghost use Rattle.flat.specs.Flat.{residualNormOf};
+ghost use Rattle.export.specs.Flat.{residualNormOf};
 ghost use Rattle.probe.specs.Probe.{flagOf, writtenOf};
-use flat::residual_norm_of;
-use telling::tell;
+use export::residual_norm_of;
+use meshprobe::tell;
+use residual_norm::measure;
+use residual_norm::normalization;
 
 #[no_mangle]
 pub extern "C" fn probe_measure(

@@ -4,15 +4,15 @@ ghost use lib.ListN.{length};
 ghost use Rattle.refusal.specs.Outcome.{verdictOf};
 ghost use Rattle.store.specs.Region.{part};
 ghost use Rattle.matrix.specs.Kernel.{kernelAt};
-ghost use Rattle.sweeps.specs.Sweep.{gaussSeidelOf, dicSweepOf};
-ghost use Rattle.sweeps.specs.Contract.{GaussSeidelOk, SmoothOk, Both};
+ghost use Rattle.gauss_seidel.specs.Sweep.{gaussSeidelOf, dicSweepOf};
+ghost use Rattle.gauss_seidel.specs.Contract.{GaussSeidelOk, SmoothOk, Both};
 ghost use Rattle.dic.specs.Dic.{dicOf, DicOk, Settled};
 ghost use Rattle.smoother.specs.Smooth.{sweptOf, smoothOf, SmoothDone};
-ghost use Rattle.flat.specs.Flat.{isSet, smootherOf};
+ghost use Rattle.export.specs.Flat.{isSet, smootherOf};
 ghost use Rattle.probe.specs.Probe.{symmetricOf, Told};
-use flat::smoother_of;
+use export::smoother_of;
 use matrix::SymmetricMatrix;
-use telling::answer;
+use meshprobe::answer;
 
 #[no_mangle]
 pub extern "C" fn probe_update_dic_diagonal(
@@ -78,7 +78,7 @@ pub extern "C" fn probe_gauss_seidel(
         neighbors: neighbors,
         coefficients: coefficients,
     };
-    sweeps::gauss_seidel(w, f, s, rhs, x, work, symmetric != 0);
+    gauss_seidel::gauss_seidel(w, f, s, rhs, x, work, symmetric != 0);
 }
 
 #[no_mangle]
@@ -111,7 +111,7 @@ pub extern "C" fn probe_dic_sweep(
         neighbors: neighbors,
         coefficients: coefficients,
     };
-    dicsweep::dic_sweep(w, f, s, dic, rhs, x, work, correction);
+    dic::dic_sweep(w, f, s, dic, rhs, x, work, correction);
 }
 
 #[no_mangle]

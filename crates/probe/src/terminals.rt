@@ -3,16 +3,16 @@ ghost use Prim.Native.Nat.{_+_, _≤_};
 ghost use lib.ListN.{length};
 ghost use Rattle.refusal.specs.Outcome.{verdictOf};
 ghost use Rattle.store.specs.Region.{part, Wrote};
-ghost use Rattle.packed.specs.Triangle.{tri};
+ghost use Rattle.cholesky.specs.Triangle.{tri};
 ghost use Rattle.cholesky.specs.Factor.{choleskyOf};
 ghost use Rattle.cholesky.specs.Contract.{csrAt, coupledAt, factorAt, TerminalOk, Factored};
-ghost use Rattle.triangular.specs.Factor.{solveFactorOf};
+ghost use Rattle.cholesky.specs.TriangularFactor.{solveFactorOf};
 ghost use Rattle.coarse.specs.Terminal.{terminalOf};
 ghost use Rattle.coarse.specs.Contract.{SolutionOk, Solved};
-ghost use Rattle.triangular.specs.Contract.{SolveOk};
+ghost use Rattle.cholesky.specs.TriangularContract.{SolveOk};
 ghost use Rattle.probe.specs.Probe.{systemOf, Told};
 use cholesky::Terminal;
-use telling::answer;
+use meshprobe::answer;
 
 #[no_mangle]
 pub extern "C" fn probe_cholesky(
@@ -65,7 +65,7 @@ pub extern "C" fn probe_solve_factor(f: &mut [f64], n: usize, l: usize, rhs: usi
     ensures { λ _. ⌜ Wrote x n (solveFactorOf n (part l (tri n) (now (f .entry))) (part rhs n (now (f .entry))))
         (now (f .entry)) (now (f .exit)) ⌝ }
 {
-    triangular::solve_factor(f, n, l, rhs, x);
+    cholesky::solve_factor(f, n, l, rhs, x);
 }
 
 #[no_mangle]

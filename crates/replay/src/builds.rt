@@ -1,11 +1,11 @@
 // A list of builds beside the Rust's answers.
-use answers::Built;
+use lists::Problem;
 use lists::kinds;
 use lists::kinds::Answer;
 use lists::reading;
 use lists::stores;
 use lists::stores::Extent;
-use rebuild::Problem;
+use solver::Built;
 
 // The answer of a build in numbers.
 fn told(built: Built) -> Answer {
@@ -114,7 +114,7 @@ fn compare(
     statistics: &mut [u64],
     counts: &mut [u64; 193],
 ) -> bool {
-    let r = rebuild::from_text(text, words, floats, statistics);
+    let r = lists::from_text(text, words, floats, statistics);
     let p = r.problem;
     let built = r.built;
     let a = told(built);

@@ -11,7 +11,7 @@ use lib.ListN.{getD, length}
 use lib.Pow.{pow-add, pow-pos, pow-mono}
 use lib.Ieee.{Float, binary64, ofBits, toBits}
 use borrow.Author.Tests.{eq-eqb, ne-eqb}
-use Rattle.root.specs.Sqrt.{sqrtOf}
+use Rattle.float.specs.Sqrt.{sqrtOf}
 use Rattle.roots.specs.Replay.{digitOf, wordOf, differsOf, differencesOf}
 
 -- After i turns of `word`, `value` is the number that the first i digits write.

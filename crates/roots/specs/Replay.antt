@@ -5,7 +5,7 @@ use Prim.Native.Nat.{ℕ, zero, suc, _+_, _*_, _/_, _%_}
 use lib.Dec.{eqb}
 use lib.ListN.{getD}
 use lib.Ieee.{binary64, ofBits, toBits}
-use Rattle.root.specs.Sqrt.{sqrtOf}
+use Rattle.float.specs.Sqrt.{sqrtOf}
 
 -- the value of a digit `0` to `9` or `a` to `f`: the last four bits of its code, and nine more for a letter
 abbrev pub digitOf : ℕ → ℕ

@@ -1,4 +1,4 @@
-// Replays a list of square roots through `root::sqrt`, and writes how many there are and how many differ.
+// Replays a list of square roots through `float::sqrt`, and writes how many there are and how many differ.
 //
 // `stdin` has a line for each: the bits of an argument, then those of its root, 16 hexadecimal digits each. The roots
 // were computed in whole numbers of any length (Python's `math.isqrt`, then rounding to 53 digits, ties to even), and
@@ -38,7 +38,7 @@ fn word(s: &[u8], at: usize) -> u64
 fn differs(b: u64, e: u64) -> u64
     ensures { λ r. ⌜ r ≡ differsOf b e ⌝ }
 {
-    if float::to_bits(root::sqrt(float::of_bits(b))) == e {
+    if float::to_bits(float::sqrt(float::of_bits(b))) == e {
         0
     } else {
         1
@@ -63,9 +63,9 @@ fn differences(s: &[u8]) -> u64
 
 // The roots of 2, of the smallest f64 above zero and of −0: proved as well as run.
 fn worked() {
-    check::expect(float::to_bits(root::sqrt(2.0)) == 0x3ff6_a09e_667f_3bcd);
-    check::expect(float::to_bits(root::sqrt(float::of_bits(1))) == 0x1e60_0000_0000_0000);
-    check::expect(float::to_bits(root::sqrt(-0.0)) == 0x8000_0000_0000_0000);
+    check::expect(float::to_bits(float::sqrt(2.0)) == 0x3ff6_a09e_667f_3bcd);
+    check::expect(float::to_bits(float::sqrt(float::of_bits(1))) == 0x1e60_0000_0000_0000);
+    check::expect(float::to_bits(float::sqrt(-0.0)) == 0x8000_0000_0000_0000);
 }
 
 fn main() {

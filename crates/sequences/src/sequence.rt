@@ -1,11 +1,11 @@
 // A list of sequences beside the Rust's answers.
 use crate::outcomes;
 use crate::recall;
-use answers::Built;
+use lists::Problem;
 use lists::least;
 use lists::reading;
 use options::Handle;
-use rebuild::Problem;
+use solver::Built;
 
 // How many calls were made, and how often something differs.
 struct Tally {
@@ -23,8 +23,8 @@ fn counted(calls: u64, same: bool) -> Tally {
 
 fn sum(a: Tally, b: Tally) -> Tally {
     Tally {
-        calls: saturating::saturating_add(a.calls, b.calls),
-        differences: saturating::saturating_add(a.differences, b.differences),
+        calls: float::saturating_add(a.calls, b.calls),
+        differences: float::saturating_add(a.differences, b.differences),
     }
 }
 
@@ -90,7 +90,7 @@ fn compare(
     statistics: &mut [u64],
     counts: &mut [u64; 98],
 ) -> Tally {
-    let r = rebuild::from_text(text, words, floats, statistics);
+    let r = lists::from_text(text, words, floats, statistics);
     let built = r.built;
     match built {
         Built::Made(handle) => {

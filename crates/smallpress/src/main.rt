@@ -1,7 +1,5 @@
 // Document 01's small press: the matrix 4, -2; -2, 2 with the right-hand side 2, 0, solved from zero. It writes the levels and rows, the
 // report, the solution and the statistics, floats by their bits.
-use answers::Built;
-use answers::Solved;
 use libc::STDOUT_FILENO;
 use multigrid::Counted;
 use options::Handle;
@@ -10,9 +8,11 @@ use options::MultigridOptions;
 use options::MultigridResidualNorm;
 use options::MultigridSmoother;
 use refusal::Refusal;
+use solver::Built;
 use solver::LinearSolveReport;
 use solver::LinearSolverOptions;
 use solver::LinearSolverStatus;
+use solver::Solved;
 
 // The defaults but Cholesky, AbsoluteL2 and plain cycles.
 fn controls() -> MultigridOptions {

@@ -10,16 +10,16 @@ use lib.Ieee.{Float}
 use borrow.Author.Tests.{ne-eqb}
 use Rattle.store.specs.Loop.{for}
 use Rattle.store.specs.Region.{Clear, idx, part, splice}
-use Rattle.store.proofs.Loop.{for-done, Left, left-start, left-on, left-end}
-use Rattle.store.proofs.Region.{length-splice, part-splice, part-splice-below, part-splice-clear}
-use Rattle.options.specs.declared.MultigridSmoother.{MultigridSmoother}
+use Rattle.store.proofs.store.Loop.{for-done, Left, left-start, left-on, left-end}
+use Rattle.store.proofs.store.Region.{length-splice, part-splice, part-splice-below, part-splice-clear}
+use Rattle.options.specs.declared.options.MultigridSmoother.{MultigridSmoother}
 use Rattle.refusal.specs.Refusal.{badSmootherOutput}
 use Rattle.refusal.specs.declared.Verdict.{Verdict}
-use Rattle.finite.specs.Finite.{allFinite}
-use Rattle.matrix.specs.declared.SymmetricMatrix.{SymmetricMatrix}
+use Rattle.vector.specs.Finite.{allFinite}
+use Rattle.matrix.specs.declared.matrix.SymmetricMatrix.{SymmetricMatrix}
 use Rattle.matrix.specs.Kernel.{Kernel, kernelAt}
-use Rattle.sweeps.specs.Sweep.{Swept, gaussSeidelOf, dicSweepOf}
-use Rattle.sweeps.specs.Contract.{GaussSeidelOk, SmoothOk, Both}
+use Rattle.gauss_seidel.specs.Sweep.{Swept, gaussSeidelOf, dicSweepOf}
+use Rattle.gauss_seidel.specs.Contract.{GaussSeidelOk, SmoothOk, Both}
 use Rattle.smoother.specs.Smooth.{isDic, isSymmetric, dicSweepsOf, gaussSeidelsOf, sweptOf, smoothOf, Smoothed, SmoothDone}
 
 -- The layout holds in a store of the same size.

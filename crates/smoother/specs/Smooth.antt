@@ -8,13 +8,13 @@ use lib.Ieee.{Float}
 use lib.ListN.{length}
 use Rattle.store.specs.Loop.{for}
 use Rattle.store.specs.Region.{Clear, part}
-use Rattle.options.specs.declared.MultigridSmoother.{MultigridSmoother}
+use Rattle.options.specs.declared.options.MultigridSmoother.{MultigridSmoother}
 use Rattle.refusal.specs.Refusal.{badSmootherOutput}
 use Rattle.refusal.specs.declared.Verdict.{Verdict}
 use Rattle.refusal.specs.Outcome.{Outcome, accepted, ask, verdictOf}
-use Rattle.finite.specs.Finite.{allFinite}
+use Rattle.vector.specs.Finite.{allFinite}
 use Rattle.matrix.specs.Kernel.{Kernel}
-use Rattle.sweeps.specs.Sweep.{gaussSeidelOf, dicSweepOf}
+use Rattle.gauss_seidel.specs.Sweep.{gaussSeidelOf, dicSweepOf}
 
 -- whether DIC sweeps come first
 abbrev pub isDic : MultigridSmoother → Bool

@@ -3,7 +3,7 @@ ghost use mathlib.Core.Path.{_≡_};
 ghost use lib.ListN.{length};
 ghost use Rattle.store.specs.Region.{part};
 ghost use Rattle.matrix.specs.Kernel.{kernelAt};
-ghost use Rattle.sweeps.specs.Contract.{SmoothOk};
+ghost use Rattle.gauss_seidel.specs.Contract.{SmoothOk};
 ghost use Rattle.smoother.specs.Smooth.{isDic, isSymmetric, dicSweepsOf, gaussSeidelsOf, sweptOf, smoothOf, Smoothed, SmoothDone};
 use matrix::SymmetricMatrix;
 use options::MultigridSmoother;
@@ -48,7 +48,7 @@ fn dic_sweeps(
 {
     let mut i = 0;
     while i < sweeps {
-        dicsweep::dic_sweep(w, f, s, dic, rhs, x, work, correction);
+        dic::dic_sweep(w, f, s, dic, rhs, x, work, correction);
         i += 1;
     }
 }
@@ -71,7 +71,7 @@ fn gauss_seidels(
 {
     let mut i = 0;
     while i < sweeps {
-        sweeps::gauss_seidel(w, f, s, rhs, x, work, symmetric);
+        gauss_seidel::gauss_seidel(w, f, s, rhs, x, work, symmetric);
         i += 1;
     }
 }
@@ -121,7 +121,7 @@ pub fn smooth(
         return Verdict::Passed;
     }
     sweep(w, f, s, dic, kind, rhs, x, work, correction, sweeps);
-    if finite::all_finite(f, s.rows, x) {
+    if vector::all_finite(f, s.rows, x) {
         Verdict::Passed
     } else {
         Verdict::Refused(refusal::BAD_SMOOTHER_OUTPUT)

@@ -8,19 +8,19 @@ use native.Mathlib.Omega.{arith}
 use lib.Ieee.{Float, le}
 use Rattle.float.specs.Float.{zero64, isFinite}
 use Rattle.store.specs.Vector.{filled}
-use Rattle.options.specs.declared.MultigridOptions.{MultigridOptions}
-use Rattle.solver.specs.declared.LinearSolverOptions.{LinearSolverOptions}
-use Rattle.solver.specs.declared.LinearSolverStatus.{LinearSolverStatus}
-use Rattle.counts.specs.Counts.{preSweepsOf, postSweepsOf}
+use Rattle.options.specs.declared.options.MultigridOptions.{MultigridOptions}
+use Rattle.solver.specs.declared.solver.LinearSolverOptions.{LinearSolverOptions}
+use Rattle.solver.specs.declared.solver.LinearSolverStatus.{LinearSolverStatus}
+use Rattle.options.specs.Counts.{preSweepsOf, postSweepsOf}
 use Rattle.refusal.specs.declared.Refusal.{Refusal}
 use Rattle.refusal.specs.Outcome.{Outcome, accepted, refused, ask, _>>=_}
 use Rattle.solver.specs.Solver.{thresholdOf}
-use Rattle.transfer.specs.Transfer.{restrictOf, prolongOf}
+use Rattle.correction.specs.Transfer.{restrictOf, prolongOf}
 use Rattle.hierarchy.specs.Level.{Level}
 use Rattle.cycle.specs.Cycle.{Cycled, cycled, visited, iterated, rowsIn, rowsFirst, smoothed, ended, residualIn, correctedOf, endOf, upOf, cycleOf}
-use Rattle.stepping.specs.Iteration.{State, System, residualOf, measuredOf, movedOf, stepOf}
-use Rattle.input.specs.Input.{lengthsOk, inputOk}
-use Rattle.iterating.specs.Iterate.{Solution, solution, iterateOf, answerOf}
+use Rattle.iterations.specs.Iteration.{State, System, residualOf, measuredOf, movedOf, stepOf}
+use Rattle.solve.specs.Input.{lengthsOk, inputOk}
+use Rattle.iterations.specs.Iterate.{Solution, solution, iterateOf, answerOf}
 use Rattle.solve.specs.Solve.{begun, runOf, factorOf, solveOf}
 use Rattle.solve.specs.Contract.{solutionOf}
 

@@ -6,31 +6,31 @@ use mathlib.Core.List.{[], _∷_}
 use Prim.Native.Nat.{ℕ}
 use lib.Ieee.{Float, binary64, ofBits, add, sub, mul, div, lt, le, eq, ne}
 use Rattle.float.specs.Float.{zero64, one64, isFinite, maxNum}
-use Rattle.root.specs.Sqrt.{sqrtOf}
+use Rattle.float.specs.Sqrt.{sqrtOf}
 use Rattle.store.specs.Loop.{iter, for}
 use Rattle.store.specs.Vector.{tab, each}
-use Rattle.options.specs.declared.MultigridOptions.{MultigridOptions}
-use Rattle.options.specs.declared.MultigridSmoother.{MultigridSmoother}
-use Rattle.options.specs.declared.MultigridResidualNorm.{MultigridResidualNorm}
-use Rattle.options.specs.declared.MultigridCoarseSolver.{MultigridCoarseSolver}
-use Rattle.solver.specs.declared.LinearSolverOptions.{LinearSolverOptions}
-use Rattle.solver.specs.declared.LinearSolverStatus.{LinearSolverStatus}
+use Rattle.options.specs.declared.options.MultigridOptions.{MultigridOptions}
+use Rattle.options.specs.declared.options.MultigridSmoother.{MultigridSmoother}
+use Rattle.options.specs.declared.options.MultigridResidualNorm.{MultigridResidualNorm}
+use Rattle.options.specs.declared.options.MultigridCoarseSolver.{MultigridCoarseSolver}
+use Rattle.solver.specs.declared.solver.LinearSolverOptions.{LinearSolverOptions}
+use Rattle.solver.specs.declared.solver.LinearSolverStatus.{LinearSolverStatus}
 use Rattle.refusal.specs.Outcome.{accepted}
 use Rattle.vector.specs.Dot as dot
-use Rattle.finite.specs.Finite as finite
+use Rattle.vector.specs.Finite as finite
 use Rattle.matrix.specs.Kernel as matrix
-use Rattle.triangular.specs.Factor as factor
+use Rattle.cholesky.specs.TriangularFactor as factor
 use Rattle.coarse.specs.Terminal as terminal
-use Rattle.packed.specs.Triangle.{tri}
+use Rattle.cholesky.specs.Triangle.{tri}
 use Rattle.correction.specs.Correction as correction
-use Rattle.measure.specs.Measure as measure
-use Rattle.normalization.specs.Normalization as normalization
+use Rattle.residual_norm.specs.Measure as measure
+use Rattle.residual_norm.specs.Normalization as normalization
 use Rattle.solver.specs.Solver as solver
 use Rattle.hierarchy.specs.Level.{Hierarchy}
 use Rattle.cycle.specs.Cycle as cycle
-use Rattle.stepping.specs.Iteration as iteration
-use Rattle.input.specs.Input as input
-use Rattle.iterating.specs.Iterate as iterating
+use Rattle.iterations.specs.Iteration as iteration
+use Rattle.solve.specs.Input as input
+use Rattle.iterations.specs.Iterate as iterating
 use Rattle.solve.specs.Solve as solve
 
 abbrev two : Float

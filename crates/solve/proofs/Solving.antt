@@ -13,40 +13,40 @@ use lib.Ieee.{Float, le}
 use Rattle.float.specs.Float.{isFinite}
 use Rattle.store.specs.Region.{part, lay, splice, Kept}
 use Rattle.store.specs.Vector.{filled}
-use Rattle.store.proofs.Region.{kept-on, kept-less, kept-self, kept-part}
-use Rattle.store.proofs.Vector.{length-tab, getD-tab}
-use Rattle.store.proofs.Each.{both-l, both-r}
-use Rattle.options.specs.declared.Handle.{Handle}
-use Rattle.solver.specs.declared.LinearSolverOptions.{LinearSolverOptions}
-use Rattle.solver.specs.declared.LinearSolverStatus.{LinearSolverStatus}
-use Rattle.solver.specs.declared.LinearSolveReport.{LinearSolveReport}
+use Rattle.store.proofs.store.Region.{kept-on, kept-less, kept-self, kept-part}
+use Rattle.store.proofs.store.Vector.{length-tab, getD-tab}
+use Rattle.store.proofs.store.Each.{both-l, both-r}
+use Rattle.options.specs.declared.options.Handle.{Handle}
+use Rattle.solver.specs.declared.solver.LinearSolverOptions.{LinearSolverOptions}
+use Rattle.solver.specs.declared.solver.LinearSolverStatus.{LinearSolverStatus}
+use Rattle.solver.specs.declared.solver.LinearSolveReport.{LinearSolveReport}
 use Rattle.refusal.specs.declared.Refusal.{Refusal}
 use Rattle.refusal.specs.Refusal.{badNormalization, badResidual}
 use Rattle.refusal.specs.declared.Verdict.{Verdict}
 use Rattle.refusal.specs.Outcome.{Outcome, accepted, refused, verdictOf, _>>=_}
 use Rattle.refusal.proofs.Outcome.{ask-yes, ask-no, refuses, accepts-it}
-use Rattle.vector.specs.declared.Product.{Product}
+use Rattle.vector.specs.declared.vector.Product.{Product}
 use Rattle.matrix.specs.Kernel.{Kernel, applyOf}
 use Rattle.correction.specs.Correction.{subtractOf}
-use Rattle.directions.specs.Contract.{memoryAt}
-use Rattle.measure.specs.Measure.{measureOf}
-use Rattle.normalization.specs.Normalization.{normalizationOf, NormalizationOk}
+use Rattle.acceleration.specs.DirectionsContract.{memoryAt}
+use Rattle.residual_norm.specs.Measure.{measureOf}
+use Rattle.residual_norm.specs.Normalization.{normalizationOf, NormalizationOk}
 use Rattle.solver.specs.Solver.{thresholdOf, reportOf}
 use Rattle.layout.specs.Layout.{rowsAt, entriesAt}
-use Rattle.sound.specs.declared.Walk.{Walk}
-use Rattle.sound.specs.Sound.{walkOf, isSound, handleSound, scratchStart, scratchEnd, cycleStart, soundOf}
-use Rattle.sound.proofs.Question.{handle-few}
-use Rattle.copies.specs.Copies.{EnterOk, Entered, LeaveOk, Taken}
-use Rattle.stepping.specs.declared.Regions.{Regions}
-use Rattle.stepping.specs.Iteration.{System, measured, residualOf}
-use Rattle.stepping.specs.Steps.{systemAt, regionsAt, Opened, Ready, Renewed, productAt}
-use Rattle.stepping.proofs.Placing.{vectors, rows-is, system-kept, sums-is, kernel-is, kernel-rows}
-use Rattle.answers.specs.declared.Solved.{Solved}
-use Rattle.input.specs.Input.{lengthsOk, inputOk, askedOf}
-use Rattle.input.proofs.Asked.{asked-no, both-asked, asked-yes}
-use Rattle.iterating.specs.Iterate.{Solution, answerOf}
-use Rattle.iterating.specs.Contract.{Ran, iterateAt}
-use Rattle.iterating.proofs.Iterations.{ran-accepted, ran-refused}
+use Rattle.index_check.specs.declared.sound.Walk.{Walk}
+use Rattle.index_check.specs.Sound.{walkOf, isSound, handleSound, scratchStart, scratchEnd, cycleStart, soundOf}
+use Rattle.index_check.proofs.sound.Question.{handle-few}
+use Rattle.solve.specs.Copies.{EnterOk, Entered, LeaveOk, Taken}
+use Rattle.iterations.specs.declared.stepping.Regions.{Regions}
+use Rattle.iterations.specs.Iteration.{System, measured, residualOf}
+use Rattle.iterations.specs.Steps.{systemAt, regionsAt, Opened, Ready, Renewed, productAt}
+use Rattle.iterations.proofs.stepping.Placing.{vectors, rows-is, system-kept, sums-is, kernel-is, kernel-rows}
+use Rattle.solver.specs.declared.answers.Solved.{Solved}
+use Rattle.solve.specs.Input.{lengthsOk, inputOk, askedOf}
+use Rattle.solve.proofs.input.Asked.{asked-no, both-asked, asked-yes}
+use Rattle.iterations.specs.Iterate.{Solution, answerOf}
+use Rattle.iterations.specs.Contract.{Ran, iterateAt}
+use Rattle.iterations.proofs.iterating.Iterations.{ran-accepted, ran-refused}
 use Rattle.solve.specs.Solve.{factorOf, runOf, solveOf}
 use Rattle.solve.specs.Contract.{solvedAt, countersOf, solutionOf, statisticsOf, SolveDone}
 use Rattle.solve.specs.Steps.{attemptOf, attemptAt, begunAt, BeginOk}

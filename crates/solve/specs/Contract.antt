@@ -5,13 +5,13 @@ use Prim.Native.Nat.{ℕ, _*_}
 use lib.Ieee.{Float}
 use Rattle.store.specs.Region.{part, lay, Kept}
 use Rattle.store.specs.Vector.{filled}
-use Rattle.options.specs.declared.Handle.{Handle}
-use Rattle.solver.specs.declared.LinearSolverOptions.{LinearSolverOptions}
+use Rattle.options.specs.declared.options.Handle.{Handle}
+use Rattle.solver.specs.declared.solver.LinearSolverOptions.{LinearSolverOptions}
 use Rattle.refusal.specs.Outcome.{Outcome, accepted, refused}
-use Rattle.sound.specs.Sound.{scratchStart}
-use Rattle.stepping.specs.Steps.{systemAt}
-use Rattle.answers.specs.declared.Solved.{Solved}
-use Rattle.iterating.specs.Iterate.{Solution, answerOf}
+use Rattle.index_check.specs.Sound.{scratchStart}
+use Rattle.iterations.specs.Steps.{systemAt}
+use Rattle.solver.specs.declared.answers.Solved.{Solved}
+use Rattle.iterations.specs.Iterate.{Solution, answerOf}
 use Rattle.solve.specs.Solve.{solveOf}
 
 -- the counters that a solve starts from: the statistics of its levels, in a table with room for 128 levels, the most that there are

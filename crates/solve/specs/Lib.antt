@@ -1,3 +1,5 @@
+pub mod Input
+pub mod Copies
 pub mod Solve
 pub mod Contract
 pub mod Steps

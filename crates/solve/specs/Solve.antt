@@ -4,16 +4,16 @@ use mathlib.Core.List.{List, []}
 use Prim.Native.Nat.{ℕ}
 use lib.Ieee.{Float, le}
 use Rattle.float.specs.Float.{isFinite}
-use Rattle.solver.specs.declared.LinearSolverOptions.{LinearSolverOptions}
-use Rattle.solver.specs.declared.LinearSolverStatus.{LinearSolverStatus}
+use Rattle.solver.specs.declared.solver.LinearSolverOptions.{LinearSolverOptions}
+use Rattle.solver.specs.declared.solver.LinearSolverStatus.{LinearSolverStatus}
 use Rattle.refusal.specs.Refusal.{wrongLength, badInput, badNormalization}
 use Rattle.refusal.specs.Outcome.{Outcome, accepted, ask, _>>=_, _>>_}
 use Rattle.matrix.specs.Kernel.{applyOf}
 use Rattle.solver.specs.Solver.{thresholdOf}
-use Rattle.normalization.specs.Normalization.{normalizationOf}
-use Rattle.stepping.specs.Iteration.{State, System, residualOf, measuredOf}
-use Rattle.input.specs.Input.{lengthsOk, inputOk}
-use Rattle.iterating.specs.Iterate.{Solution, solution, iterateOf}
+use Rattle.residual_norm.specs.Normalization.{normalizationOf}
+use Rattle.iterations.specs.Iteration.{State, System, residualOf, measuredOf}
+use Rattle.solve.specs.Input.{lengthsOk, inputOk}
+use Rattle.iterations.specs.Iterate.{Solution, solution, iterateOf}
 
 -- the state before the first iteration
 abbrev pub begun : List Float → List Float → List ℕ → Float → State

@@ -5,14 +5,14 @@ use Prim.Native.Nat.{ℕ, _*_, _≤_}
 use lib.Ieee.{Float}
 use Rattle.float.specs.Float.{isFinite}
 use Rattle.store.specs.Region.{part}
-use Rattle.options.specs.declared.Handle.{Handle}
-use Rattle.solver.specs.declared.LinearSolverOptions.{LinearSolverOptions}
+use Rattle.options.specs.declared.options.Handle.{Handle}
+use Rattle.solver.specs.declared.solver.LinearSolverOptions.{LinearSolverOptions}
 use Rattle.refusal.specs.Refusal.{badNormalization}
 use Rattle.refusal.specs.Outcome.{Outcome, ask}
-use Rattle.stepping.specs.declared.Regions.{Regions}
-use Rattle.stepping.specs.Iteration.{System}
-use Rattle.stepping.specs.Steps.{systemAt, Opened}
-use Rattle.iterating.specs.Iterate.{Solution}
+use Rattle.iterations.specs.declared.stepping.Regions.{Regions}
+use Rattle.iterations.specs.Iteration.{System}
+use Rattle.iterations.specs.Steps.{systemAt, Opened}
+use Rattle.iterations.specs.Iterate.{Solution}
 use Rattle.solve.specs.Solve.{factorOf, runOf}
 use Rattle.solve.specs.Contract.{countersOf}
 

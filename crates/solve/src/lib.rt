@@ -3,20 +3,25 @@ ghost use mathlib.Core.Path.{_≡_};
 ghost use mathlib.Core.Bool.{true};
 ghost use Prim.Native.Nat.{_/_};
 ghost use lib.ListN.{length};
-ghost use Rattle.sound.specs.Sound.{soundOf};
-ghost use Rattle.stepping.specs.Steps.{Ready};
+ghost use Rattle.index_check.specs.Sound.{soundOf};
+ghost use Rattle.iterations.specs.Steps.{Ready};
 ghost use Rattle.solve.specs.Contract.{solvedAt, SolveDone};
-ghost use Rattle.iterating.specs.Contract.{Ran};
+ghost use Rattle.iterations.specs.Contract.{Ran};
 ghost use Rattle.solve.specs.Steps.{BeginOk, begunAt, attemptAt};
-use answers::Solved;
+use iterations::Regions;
+use iterations::iteration;
+use iterations::places;
 use options::Handle;
 use refusal::Verdict;
+use residual_norm::measure;
+use residual_norm::normalization;
 use solver::LinearSolverOptions;
 use solver::LinearSolverStatus;
-use stepping::Regions;
-use stepping::iteration;
-use stepping::places;
+use solver::Solved;
 use vector::Product;
+
+pub mod copies;
+pub mod input;
 
 // Questions 22 and 23 on the right-hand side and the start in the store, and the iterations unless the start is good enough.
 fn attempt(
@@ -56,7 +61,7 @@ fn attempt(
                     initial,
                 ));
             }
-            iterating::iterate(h, w, f, t, g, factor, initial, threshold, s.max_iterations)
+            iterations::iterate(h, w, f, t, g, factor, initial, threshold, s.max_iterations)
         }
         Product::NotFinite => Solved::Refused(refusal::BAD_RESIDUAL),
     }

@@ -3,9 +3,9 @@ use mathlib.Core.Bool.{Bool, true, false, cond}
 use Prim.Native.Nat.{ℕ, _^_}
 use lib.Ieee.{Float, lt}
 use Rattle.float.specs.Float.{ratio, maxNum, mul64, div64, zero64}
-use Rattle.solver.specs.declared.LinearSolverOptions.{LinearSolverOptions}
-use Rattle.solver.specs.declared.LinearSolverStatus.{LinearSolverStatus}
-use Rattle.solver.specs.declared.LinearSolveReport.{LinearSolveReport}
+use Rattle.solver.specs.declared.solver.LinearSolverOptions.{LinearSolverOptions}
+use Rattle.solver.specs.declared.solver.LinearSolverStatus.{LinearSolverStatus}
+use Rattle.solver.specs.declared.solver.LinearSolveReport.{LinearSolveReport}
 
 -- `Default` of solver.rs
 unfoldable pub defaultSolver : LinearSolverOptions

@@ -1,3 +1,4 @@
 pub mod Loop
 pub mod Region
 pub mod Vector
+pub mod Held

@@ -4,12 +4,12 @@ use mathlib.Core.List.{List}
 use Prim.Native.Nat.{ℕ, _+_, _*_, _/_, min}
 use lib.Ieee.{Float}
 use Rattle.float.specs.Float.{add64, mul64, negZero, isFinite}
-use Rattle.root.specs.Sqrt.{sqrtOf}
+use Rattle.float.specs.Sqrt.{sqrtOf}
 use Rattle.store.specs.Loop.{for}
 use Rattle.store.specs.Region.{at}
-use Rattle.vector.specs.declared.Product.{Product}
-use Rattle.vector.specs.declared.Sums.{Sums}
-use Rattle.vector.specs.declared.Product.the-variants.{Finite, NotFinite}
+use Rattle.vector.specs.declared.vector.Product.{Product}
+use Rattle.vector.specs.declared.vector.Sums.{Sums}
+use Rattle.vector.specs.declared.vector.Product.the-variants.{Finite, NotFinite}
 
 -- one product more
 unfoldable pub termOf : List Float → List Float → ℕ → Float → Float

@@ -1,7 +1,7 @@
 -- `build::attempt` asks questions 1 to 9, and goes on where they passed.
 -- Assumes nothing.
 use Rattle.build.proofs.Whole.{attempt-on, attempt-no}
-use Rattle.asking.proofs.Passing.{fitting}
+use Rattle.build.proofs.questions.Passing.{fitting}
 use borrow.Author.Needs.{needs}
 use Rattle.build.proofs.attempt.Statement.{statement}
 use Rattle.build.proofs.attempt.Tie as tie

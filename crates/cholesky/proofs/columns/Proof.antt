@@ -5,7 +5,7 @@ use mathlib.Core.Path.{_≡_, refl}
 use Prim.Native.Nat.{_-_}
 use lib.ListN.{length, length-set}
 use Rattle.store.specs.Loop.{for}
-use Rattle.store.proofs.Loop.{Left, left-start, left-on}
+use Rattle.store.proofs.store.Loop.{Left, left-start, left-on}
 use Rattle.cholesky.proofs.Rows.{ColAt, col-start, col-on, ok-resize, less-ok, columnTurn, column-on, columns-done}
 use Rattle.cholesky.proofs.columns.Statement.{statement}
 use Rattle.cholesky.proofs.columns.Tie as tie

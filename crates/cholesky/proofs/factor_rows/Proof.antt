@@ -3,7 +3,7 @@
 use borrow.Author.Needs.{needs}
 use native.Mathlib.Omega.{arith}
 use Prim.Native.Nat.{_-_}
-use Rattle.packed.proofs.Triangles.{UpAt, up-start, up-on, up-row}
+use Rattle.cholesky.proofs.packed.Triangles.{UpAt, up-start, up-on, up-row}
 use Rattle.cholesky.proofs.Rows.{Factoring, factoring-start, factoring-ok, factoring-on, factoring-no, factoring-end, pivot-ok}
 use Rattle.cholesky.proofs.factor_rows.Statement.{statement}
 use Rattle.cholesky.proofs.factor_rows.Tie as tie

@@ -4,7 +4,7 @@ use mathlib.Core.Path.{ap, _∙_}
 use lib.Ieee.{binary64, ofBits, toBits, neg}
 use borrow.Author.Needs.{needs}
 use borrow.Author.Tests.{eq-eqb}
-use Rattle.root.specs.Sqrt.{sqrtOf}
+use Rattle.float.specs.Sqrt.{sqrtOf}
 use Rattle.roots.proofs.worked.Statement.{statement}
 use Rattle.roots.proofs.worked.Tie as tie
 

@@ -1,12 +1,12 @@
 // A solve of a list: its arguments, the call, and its answer with what it leaves beside those that are due.
 use crate::recall::Agreed;
-use answers::Solved;
 use lists::least;
 use lists::reading;
 use lists::stores;
 use options::Handle;
 use solver::LinearSolverOptions;
 use solver::LinearSolverStatus;
+use solver::Solved;
 
 // How much of right-hand side and start a solve gets, its controls, and where its answer starts in the text.
 struct SolveCall {

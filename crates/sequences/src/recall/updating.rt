@@ -1,9 +1,9 @@
 // An update of a list: its arguments, the call, and its answer beside the one that is due.
 use crate::recall::Agreed;
-use answers::Updated;
 use lists::least;
 use lists::reading;
 use options::Handle;
+use solver::Updated;
 
 // How much of each array an update gets, and where its answer starts in the text.
 struct UpdateCall {

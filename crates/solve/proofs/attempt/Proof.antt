@@ -2,7 +2,7 @@
 -- Assumes nothing.
 use mathlib.Core.Path.{_∙_, sym}
 use borrow.Author.Tests.{not-true, not-false}
-use Rattle.stepping.proofs.Placing.{vectors}
+use Rattle.iterations.proofs.stepping.Placing.{vectors}
 use Rattle.solve.proofs.Solving.{factor-ok, norm-ok, iterate-ok, attempt-none, attempt-bad, attempt-done, attempt-on}
 use borrow.Author.Needs.{needs}
 use Rattle.solve.proofs.attempt.Statement.{statement}

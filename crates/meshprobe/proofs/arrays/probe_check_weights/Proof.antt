@@ -1,4 +1,4 @@
--- `probe_check_weights` gives the verdict of `checkweights::check_weights` as a number.
+-- `probe_check_weights` gives the verdict of `csr::check_weights` as a number.
 -- Assumes nothing.
 use mathlib.Core.Path.{ap, _∙_}
 use borrow.Author.Needs.{needs}

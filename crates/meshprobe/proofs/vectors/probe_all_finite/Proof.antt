@@ -1,4 +1,4 @@
--- `probe_all_finite` gives the answer of `finite::all_finite` as a number.
+-- `probe_all_finite` gives the answer of `vector::all_finite` as a number.
 -- Assumes nothing.
 use mathlib.Core.Path.{ap, _∙_}
 use borrow.Author.Needs.{needs}

@@ -1,4 +1,4 @@
--- `probe_correction_factor` tells the answer of `scaling::correction_factor`.
+-- `probe_correction_factor` tells the answer of `correction::correction_factor`.
 -- Assumes nothing.
 use borrow.Author.Needs.{needs}
 use Rattle.probe.proofs.corrections.probe_correction_factor.Statement.{statement}

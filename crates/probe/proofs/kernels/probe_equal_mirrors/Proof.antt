@@ -1,4 +1,4 @@
--- `probe_equal_mirrors` gives the answer of `mirrors::equal_mirrors` as a number.
+-- `probe_equal_mirrors` gives the answer of `coefficients::equal_mirrors` as a number.
 -- Assumes nothing.
 use mathlib.Core.Path.{ap, _∙_}
 use Rattle.probe.specs.Probe.{flag}

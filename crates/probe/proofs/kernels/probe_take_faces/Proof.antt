@@ -1,4 +1,4 @@
--- `probe_take_faces` gives the answer of `mirrors::take_faces` as a number.
+-- `probe_take_faces` gives the answer of `coefficients::take_faces` as a number.
 -- Assumes nothing.
 use borrow.Author.Needs.{needs}
 use Rattle.probe.proofs.kernels.probe_take_faces.Statement.{statement}

@@ -1,4 +1,4 @@
--- `probe_update` tells the verdict of `values::update`.
+-- `probe_update` tells the verdict of `coefficients::update`.
 -- Assumes nothing.
 use borrow.Author.Needs.{needs}
 use Rattle.probe.proofs.kernels.probe_update.Statement.{statement}

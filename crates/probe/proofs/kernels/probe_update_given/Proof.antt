@@ -1,6 +1,6 @@
--- `probe_update_given` tells the verdict of `values::update_given`, after the faces' values were picked.
+-- `probe_update_given` tells the verdict of `coefficients::update_given`, after the faces' values were picked.
 -- Assumes nothing.
-use Rattle.values.proofs.UpdateLaws.{faces-given, faces-stand, stand-ok, stand-updated}
+use Rattle.coefficients.proofs.values.UpdateLaws.{faces-given, faces-stand, stand-ok, stand-updated}
 use borrow.Author.Needs.{needs}
 use Rattle.probe.proofs.kernels.probe_update_given.Statement.{statement}
 use Rattle.probe.proofs.kernels.probe_update_given.Tie as tie

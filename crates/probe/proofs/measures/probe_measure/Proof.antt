@@ -1,4 +1,4 @@
--- `probe_measure` tells the answer of `measure::measure`.
+-- `probe_measure` tells the answer of `residual_norm::measure::measure`.
 -- Assumes nothing.
 use borrow.Author.Needs.{needs}
 use Rattle.probe.proofs.measures.probe_measure.Statement.{statement}

@@ -1,4 +1,4 @@
--- `probe_normalization` gives the answer of `normalization::normalization`.
+-- `probe_normalization` gives the answer of `residual_norm::normalization::normalization`.
 -- Assumes nothing.
 use borrow.Author.Needs.{needs}
 use Rattle.probe.proofs.measures.probe_normalization.Statement.{statement}

@@ -1,0 +1,20 @@
+-- acceleration.rs: the step along a new direction, over lists. Definitions only.
+use mathlib.Core.List.{List}
+use Prim.Native.Nat.{ℕ}
+use lib.Ieee.{Float}
+use Rattle.float.specs.Float.{add64, mul64}
+use Rattle.refusal.specs.Outcome.{Outcome, accepted, _>>=_}
+use Rattle.store.specs.Region.{at}
+use Rattle.store.specs.Vector.{tab}
+use Rattle.vector.specs.Dot.{dotOf, productOf}
+use Rattle.acceleration.specs.Directions.{Pair, finiteOf}
+
+-- `y[row] += a * x[row]`
+unfoldable pub moreOf : ℕ → Float → List Float → List Float → List Float
+moreOf n a x y = tab (λ row. add64 (at y row) (mul64 a (at x row))) n
+
+-- the solution, moved along the new direction by `alpha`
+unfoldable pub advanceOf : ℕ → List Float → Pair → List Float → Outcome (List Float)
+advanceOf n residual new solution = do
+  alpha ← finiteOf (productOf (dotOf n residual (new .image)))
+  accepted (moreOf n alpha (new .direction) solution)

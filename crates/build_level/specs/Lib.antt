@@ -1,0 +1,4 @@
+pub mod LayingContract
+pub mod Inner
+pub mod Steps
+pub mod CoarsestContract

@@ -1,0 +1,4 @@
+pub mod DescentContract
+pub mod Steps
+pub mod GrowingContract
+pub mod Ahead

@@ -1,0 +1,176 @@
+-- What a build left passes question 19.
+-- Assumes nothing.
+use mathlib.Core.Path.{_≡_, refl, sym, ap, _∙_, subst}
+use mathlib.Core.Bool.{Bool, true, false, not, _&&_}
+use mathlib.Core.List.{List}
+use Prim.Native.Nat.{ℕ, zero, suc, _+_, _-_, _≤_}
+use native.Mathlib.Omega.{arith}
+use lib.ListN.{length}
+use lib.Ieee.{Float}
+use borrow.Author.Tests.{leb-true, le-leb, eq-eqb}
+use Rattle.store.proofs.store.Each.{both-l, both-r}
+use Rattle.refusal.specs.Outcome.{accepted}
+use Rattle.refusal.proofs.Outcome.{verdict-passed}
+use Rattle.pattern.specs.Pattern.{Pattern, entries}
+use Rattle.faces.specs.Faces.{mirroredOf}
+use Rattle.faces.proofs.faces.Laws.{coupled-few, mirrored-is, diagonal-is}
+use Rattle.csr.specs.Questions.{matrixAsked}
+use Rattle.csr.proofs.csr.Laws.{matrix-valid, matrix-rising, matrix-sizes}
+use Rattle.hierarchy.specs.Level.{Level, Hierarchy}
+use Rattle.hierarchy.specs.Build.{holds, Lent, Input, patternIn, meshIn, buildOf, symmetricOf}
+use Rattle.hierarchy.proofs.Accepted.{fixedIn, chargeIn, Built, build-built}
+use Rattle.hierarchy.proofs.Depth.{levels-kept, build-levels}
+use Rattle.layout.specs.Layout.{rowsAt, lastAt, entriesAt, wordsEnd, floatsEnd, levelsAt, wordsFit, viewOf}
+use Rattle.build.specs.Contract.{handleOf}
+use Rattle.index_check.specs.declared.sound.Walk.{Walk}
+use Rattle.index_check.specs.Sound.{headSound, shapeIn, arraysSound, goOn, andThen, rowsWalked, linked, walkOf, isSound, scratchEnd, cycleStart, handleSound, soundOf}
+use Rattle.build_sound.specs.Laid.{Small, Laid, last, inner, chargesOf}
+use Rattle.build_sound.proofs.Growth.{grow-diagonal, grow-laid, held, grow-paid}
+use Rattle.build_sound.proofs.Reading.{last-arrays, inner-arrays, rows-told, last-told, entries-told, head-told, rows-sound, coupled-told, coupled-none, view-first, shape-told, fit-split}
+use Rattle.build_sound.proofs.Charges.{solve-fits}
+
+-- ---- the walk
+
+-- So many levels from a on, the first of pattern p, have a sound first head and are walked.
+record Walked (w : List ℕ) (a level k : ℕ) (p : Pattern) : Type 0 where
+  rows : rowsAt w a ≡ p .rows
+  long : entriesAt w a ≡ entries p
+  head : headSound w a ≡ true
+  walk : walkOf k w level a ≡ Walk.Sound
+
+-- Two tests that hold hold together.
+both : {a b : Bool} → a ≡ true → b ≡ true → (a && b) ≡ true
+both e f = rw (e, f) refl
+
+-- Where the head and the links of a level are sound, its rows walked and the rest too, all is walked.
+gone : {head links : Bool} {rows rest : Walk} (stop : Walk) → head ≡ true → links ≡ true → rows ≡ Walk.Sound → rest ≡ Walk.Sound
+    → goOn (head && links) stop (andThen rows rest) ≡ Walk.Sound
+gone stop h l r e = rw (h, l, r, e) refl
+
+-- A level is walked with those after it.
+walked-on : (k : ℕ) (w : List ℕ) (level a : ℕ) → headSound w a ≡ true → linked k w a ≡ true
+    → rowsWalked (shapeIn w a) level (rowsAt w a) 0 ≡ Walk.Sound → walkOf k w (level + 1) (wordsEnd w a) ≡ Walk.Sound
+    → walkOf (suc k) w level a ≡ Walk.Sound
+unfolding walkOf
+walked-on k w level a h l r e = gone (Walk.Stopped level 0) h l r e
+
+-- No level is walked.
+walked-none : (w : List ℕ) (level a : ℕ) → walkOf 0 w level a ≡ Walk.Sound
+unfolding walkOf
+walked-none w level a = refl
+
+-- A level with aggregates is linked to the next.
+linked-inner : (k : ℕ) (w : List ℕ) (a : ℕ) → 1 ≤ k → lastAt w a ≡ false → headSound w (wordsEnd w a) ≡ true
+    → arraysSound (rowsAt w (wordsEnd w a)) (entriesAt w (wordsEnd w a)) (shapeIn w a) ≡ true → linked k w a ≡ true
+linked-inner zero w a some l h s = absurd (omega arith)
+linked-inner (suc k) w a some l h s = both (both (ap not l) h) s
+
+-- There is a level.
+laid-some : {most : ℕ} {p : Pattern} {levels : List Level} → Laid most p levels → 1 ≤ length levels
+laid-some (last small few is) = omega arith
+laid-some (inner small maps is on) = omega arith
+
+-- Laid levels are walked.
+walk-laid : {most : ℕ} {p : Pattern} {levels : List Level} → Laid most p levels → (w : List ℕ) (F : List Float) (a b level : ℕ)
+    → levelsAt (length levels) w F a b ≡ levels → wordsFit (length levels) w a ≡ true → Walked w a level (length levels) p
+walk-laid {most} {p} (last small few is) w F a b level view fits =
+    let here = shape-told w F a b (view-first w F a b 0 view .0) is in
+    let ends = fit-split 0 w a fits .0 in
+    let r = rows-told w a small here in
+    let c = coupled-told w a small here ends in
+    let head = head-told w a small here ends (omega (arith, coupled-few p)) in
+    let arrays : arraysSound (rowsAt w a) 0 (shapeIn w a) ≡ true = rw (here, r) (last-arrays (small .proper)) in
+    record {
+      rows = r;
+      long = entries-told w a small here;
+      head = head;
+      walk = walked-on 0 w level a head (both (last-told w a small here) arrays) (rows-sound w a small here level)
+          (walked-none w (level + 1) (wordsEnd w a));
+    }
+walk-laid {most} {p} (inner {rest = rest} {map = map} {count = count} small maps is on) w F a b level view fits =
+    let v = view-first w F a b (length rest) view in
+    let here = shape-told w F a b (v .0) is in
+    let f = fit-split (length rest) w a fits in
+    let next = walk-laid on w F (wordsEnd w a) (floatsEnd w a b) (level + 1) (v .1) (f .1) in
+    let c = coupled-none w a small here in
+    let head = head-told w a small here (f .0) (omega arith) in
+    let arrays : arraysSound (rowsAt w (wordsEnd w a)) (entriesAt w (wordsEnd w a)) (shapeIn w a) ≡ true =
+    rw (here, next .long, next .rows) (inner-arrays (small .proper) maps) in
+    record {
+      rows = rows-told w a small here;
+      long = entries-told w a small here;
+      head = head;
+      walk = walked-on (length rest) w level a head
+          (linked-inner (length rest) w a (laid-some on) (last-told w a small here) (next .head) arrays) (rows-sound w a small here level) (next .walk);
+    }
+
+-- ---- the build
+
+module _ (l : Lent) (x : Input) {h : Hierarchy} (b : Built l x h) where
+  -- The finest pattern is proper and small.
+  finest-small : Small (patternIn x)
+  unfolding symmetricOf
+  finest-small =
+      let p = patternIn x in
+      let asked = verdict-passed (matrixAsked (x .rows) (x .offsets) (x .columns) (x .values)) (b .matrix) in
+      let valid = matrix-valid (x .rows) (x .offsets) (x .columns) (x .values) asked in
+      let rising = matrix-rising (x .rows) (x .offsets) (x .columns) (x .values) asked in
+      let sizes = matrix-sizes (x .rows) (x .offsets) (x .columns) (x .values) asked in
+      let o = x .options in
+      record {
+        proper = record {
+          valid = valid;
+          rising = rising;
+          mirrored = mirrored-is valid rising (both-l (mirroredOf p) _ (b .symmetric));
+          diagonal = diagonal-is 0 valid
+              (grow-diagonal o (x .given) (l .stores) (o .«max_levels» - 1) 0 0 (chargeIn x) (meshIn x) (b .grown));
+        };
+        few = omega (arith, sizes .few);
+        short = omega (arith, sizes .short);
+      }
+
+  -- The levels of the hierarchy are those that were grown.
+  levels-are : b .levels ≡ h .levels
+  levels-are = sym (levels-kept (x .options) (b .levels)) ∙ ap (λ (k : Hierarchy). k .levels) (b .is)
+
+  -- Its levels are laid,
+  levels-laid : Laid (x .options .«coarsest_cells») (patternIn x) (h .levels)
+  levels-laid =
+      let o = x .options in
+      subst (Laid (o .«coarsest_cells») (patternIn x)) levels-are
+      (grow-laid o (x .given) (l .stores) (o .«max_levels» - 1) 0 0 (chargeIn x) (meshIn x) (b .grown) finest-small)
+
+  -- and the stores hold the charges of all.
+  levels-paid : fixedIn x .floats + chargesOf (h .levels) ≤ l .stores .floats
+  levels-paid =
+      let o = x .options in
+      let paid = grow-paid o (x .given) (l .stores) (o .«max_levels» - 1) 0 0 (chargeIn x) (meshIn x) (b .grown) in
+      rw (← levels-are) (paid .all (fixedIn x .floats) refl (held (l .stores) (chargeIn x) (b .paid)))
+
+-- An accepted build's hierarchy, in stores of the sizes lent, passes question 19.
+pub built-sound : (l : Lent) (x : Input) {h : Hierarchy} → buildOf l x ≡ accepted h → (w : List ℕ) (F : List Float)
+    → viewOf (length (h .levels)) w F 0 ≡ h → wordsFit (length (h .levels)) w 0 ≡ true
+    → length w ≡ l .stores .words → length F ≡ l .stores .floats
+    → soundOf (handleOf x h) w (length F) (l .records) ≡ true
+unfolding soundOf handleSound viewOf
+built-sound l x {h} e w F view fits words floats =
+    let o = x .options in
+    let b = build-built l x e in
+    let d = build-levels l x e in
+    let k = length (h .levels) in
+    let krylov = o .«krylov_dimension» in
+    let levels : levelsAt k w F 0 0 ≡ h .levels = ap (λ (g : Hierarchy). g .levels) view in
+    let laid = levels-laid l x b in
+    let walked = walk-laid laid w F 0 0 0 levels fits in
+    let tall : rowsAt w 0 ≡ x .rows = walked .rows in
+    let records : o .«max_levels» ≤ l .records = leb-true _ _ (both-r (holds (l .stores) (fixedIn x)) _ (b .room)) in
+    let paid = levels-paid l x b in
+    let few = d .few in
+    let size : scratchEnd k w 0 (cycleStart krylov k w) ≤ length F = solve-fits laid w F krylov levels fits tall (omega arith) in
+    both (both (both (both (both
+    (both (both (both (both (b .controls) (b .solver)) (b .rows)) (le-leb 1 k (d .some))) (le-leb k (o .«max_levels») few))
+    (le-leb k (l .records) (omega arith)))
+    (ap isSound (walked .walk)))
+    (eq-eqb (rowsAt w 0) (x .rows) tall))
+    (eq-eqb (entriesAt w 0) (length (x .columns)) (walked .long)))
+    (le-leb (scratchEnd k w 0 (cycleStart krylov k w)) (length F) size)

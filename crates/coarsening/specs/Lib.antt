@@ -1,0 +1,3 @@
+pub mod CoarsenContract
+pub mod MergingContract
+pub mod Steps

@@ -1,0 +1,22 @@
+-- `sweep::dic_sweep` meets its contract.
+-- Assumes nothing.
+use Rattle.gauss_seidel.proofs.Sweeps.{residual-room, lower-ok, upper-ok, dic-swept}
+use borrow.Author.Needs.{needs}
+use Rattle.dic.proofs.sweep.dic_sweep.Statement.{statement}
+use Rattle.dic.proofs.sweep.dic_sweep.Tie as tie
+
+residual-requires : tie.Need-residual-requires
+residual-requires c κs = search (residual-room, needs)
+
+lower-requires : tie.Need-lower-requires
+lower-requires c κs = search (lower-ok)
+
+upper-requires : tie.Need-upper-requires
+upper-requires c κs = upper-ok (c .before .before .before .before .before .before .before .before .before .before .before .pre) (c .before .before .before .before .before .before .before .residual .ensures) (c .before .before .before .lower .ensures)
+
+returns : tie.Need-returns
+returns c = search (dic-swept)
+
+pub dic-sweep-spec : {M : Type 1} → statement M
+dic-sweep-spec =
+    tie.close (tie.spec residual-requires lower-requires upper-requires (λ c. search needs) returns)

@@ -1,0 +1,4 @@
+pub mod Sound
+pub mod SoundContract
+pub mod LevelContract
+pub mod CheckContract

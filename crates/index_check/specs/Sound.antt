@@ -1,0 +1,123 @@
+-- Question 19: what the index check asks of a handle and of stores that anybody may have written. Definitions only.
+use mathlib.Core.Bool.{Bool, true, false, not, _&&_}
+use mathlib.Core.List.{List}
+use Prim.Native.Nat.{ℕ, zero, suc, _+_, _*_}
+use lib.Dec.{eqb, leb, ltb}
+use lib.ListN.{length}
+use Rattle.store.specs.Region.{idx}
+use Rattle.store.specs.Vector.{each}
+use Rattle.options.specs.declared.options.Handle.{Handle}
+use Rattle.options.specs.Options.{validOf, isCholesky}
+use Rattle.pattern.specs.Pattern.{entries}
+use Rattle.hierarchy.specs.Level.{Shape}
+use Rattle.layout.specs.Layout.{rowsAt, lastAt, coupledAt, entriesAt, facesAt, locate, shapeAt, wordsEnd, imageEnd}
+use Rattle.index_check.specs.declared.sound.Walk.{Walk}
+
+-- ---- one level
+
+-- whether each number of a list is below the bound
+unfoldable pub allBelow : ℕ → List ℕ → Bool
+allBelow bound v = each (λ k. ltb (idx v k) bound) (length v)
+
+-- the level whose words start at a: its sizes are those of a matrix that question 1 passes, and its words end in the store
+unfoldable pub headSound : List ℕ → ℕ → Bool
+headSound w a =
+    leb (wordsEnd w a) (length w)
+    && leb (rowsAt w a) 65536
+    && leb (entriesAt w a) 1048576
+    && leb (facesAt w a) (entriesAt w a)
+    && leb (coupledAt w a) (rowsAt w a)
+
+-- its shape
+abbrev pub shapeIn : List ℕ → ℕ → Shape
+shapeIn w a = shapeAt w (locate w a 0) (lastAt w a) (coupledAt w a)
+
+-- the columns and positions of a shape whose links lead to so many rows, and its positions to so many entries
+unfoldable pub arraysSound : ℕ → ℕ → Shape → Bool
+arraysSound targets sums s =
+    allBelow (s .pattern .rows) (s .pattern .columns)
+    && allBelow (s .pattern .rows) (s .neighbors)
+    && allBelow (entries (s .pattern)) (s .uppers)
+    && allBelow (entries (s .pattern)) (s .lowers)
+    && allBelow targets (s .links)
+    && allBelow sums (s .positions)
+
+-- a row: neither its entries nor its faces end before they start, and its diagonal entry is an entry
+unfoldable pub rowSound : Shape → ℕ → Bool
+rowSound s row =
+    leb (idx (s .pattern .offsets) row) (idx (s .pattern .offsets) (row + 1))
+    && leb (idx (s .starts) row) (idx (s .starts) (row + 1))
+    && ltb (idx (s .diagonals) row) (entries (s .pattern))
+
+-- ---- the walk over levels and rows
+
+-- where a test ends it, else the rest
+abbrev pub goOn : Bool → Walk → Walk → Walk
+goOn true stop rest = rest
+goOn false stop rest = stop
+
+-- a walk, and then another
+abbrev pub andThen : Walk → Walk → Walk
+andThen Walk.Sound rest = rest
+andThen (Walk.Stopped level row) rest = Walk.Stopped level row
+
+-- so many rows of a level from `row` on
+unfoldable pub rowsWalked : Shape → ℕ → ℕ → ℕ → Walk
+rowsWalked s level zero row = Walk.Sound
+rowsWalked s level (suc more) row = goOn (rowSound s row) (Walk.Stopped level row) (rowsWalked s level more (row + 1))
+
+-- the level at a, after which so many come: the last one alone is terminal, and its links are rows of its own; those of another lead to
+-- the next level, whose head must be sound for that
+abbrev pub linked : ℕ → List ℕ → ℕ → Bool
+linked zero w a = lastAt w a && arraysSound (rowsAt w a) 0 (shapeIn w a)
+linked (suc more) w a =
+    let b = wordsEnd w a in
+    not (lastAt w a) && headSound w b && arraysSound (rowsAt w b) (entriesAt w b) (shapeIn w a)
+
+-- so many levels, the first of which is `level` and starts at a
+unfoldable pub walkOf : ℕ → List ℕ → ℕ → ℕ → Walk
+walkOf zero w level a = Walk.Sound
+walkOf (suc more) w level a =
+    goOn (headSound w a && linked more w a) (Walk.Stopped level 0)
+    (andThen (rowsWalked (shapeIn w a) level (rowsAt w a) 0) (walkOf more w (level + 1) (wordsEnd w a)))
+
+-- whether a walk went through
+abbrev pub isSound : Walk → Bool
+isSound Walk.Sound = true
+isSound (Walk.Stopped level row) = false
+
+-- ---- sizes
+
+-- where the scratch of a solve starts: after the image, which the row sums of the finest level end, and its shadow
+abbrev pub scratchStart : ℕ → List ℕ → ℕ
+scratchStart levels w = 2 * (imageEnd levels w 0 0 + rowsAt w 0)
+
+-- where the scratch of so many levels ends that starts at s: five vectors to a level
+unfoldable pub scratchEnd : ℕ → List ℕ → ℕ → ℕ → ℕ
+scratchEnd zero w a s = s
+scratchEnd (suc more) w a s = scratchEnd more w (wordsEnd w a) (s + 5 * rowsAt w a)
+
+-- where the cycle's scratch starts: after right-hand side, solution and the directions and images of GCR
+abbrev pub cycleStart : ℕ → ℕ → List ℕ → ℕ
+cycleStart krylov levels w = scratchStart levels w + (2 + 2 * krylov) * rowsAt w 0
+
+-- ---- the question
+
+-- the handle: its controls pass 6 and 7, it has a row, a level, and no more levels than its controls allow
+unfoldable pub handleSound : Handle → Bool
+handleSound h =
+    validOf (h .options)
+    && isCholesky (h .options .«coarse_solver»)
+    && leb 1 (h .rows)
+    && leb 1 (h .levels)
+    && leb (h .levels) (h .options .«max_levels»)
+
+-- question 19, of a handle, the words, the size of the floats and the records of statistics
+unfoldable pub soundOf : Handle → List ℕ → ℕ → ℕ → Bool
+soundOf h w size records =
+    handleSound h
+    && leb (h .levels) records
+    && isSound (walkOf (h .levels) w 0 0)
+    && eqb (rowsAt w 0) (h .rows)
+    && eqb (entriesAt w 0) (h .entries)
+    && leb (scratchEnd (h .levels) w 0 (cycleStart (h .options .«krylov_dimension») (h .levels) w)) size

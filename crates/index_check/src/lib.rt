@@ -1,0 +1,8 @@
+// Question 19, the index check that solve, update and statistics make before they read a store.
+pub mod check;
+pub mod level;
+pub mod sound;
+
+pub use sound::cycle_start;
+pub use sound::place_at;
+pub use sound::scratch_start;

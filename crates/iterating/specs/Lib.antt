@@ -1,2 +1,0 @@
-pub mod Iterate
-pub mod Contract

@@ -1,0 +1,4 @@
+pub mod Iteration
+pub mod Steps
+pub mod Iterate
+pub mod Contract

@@ -1,0 +1,21 @@
+-- `update_values` of mod.rs: what it ensures of any handle and any stores. Definitions only.
+use mathlib.Core.List.{List}
+use Prim.Native.Nat.{ℕ, _/_}
+use lib.ListN.{length}
+use lib.Ieee.{Float}
+use Rattle.options.specs.declared.options.Handle.{Handle}
+use Rattle.refusal.specs.Refusal.{unsoundStores}
+use Rattle.refusal.specs.Outcome.{Outcome, ask}
+use Rattle.hierarchy.specs.Level.{Hierarchy}
+use Rattle.index_check.specs.Sound.{soundOf}
+use Rattle.solver.specs.declared.answers.Updated.{Updated}
+use Rattle.update.specs.Contract.{updatedAt, UpdateDone}
+
+-- an update: question 19, and then that of the hierarchy in the stores
+abbrev pub updatedOf : Handle → List ℕ → List Float → List ℕ → List ℕ → List ℕ → List Float → Outcome Hierarchy
+updatedOf h w F t offsets columns values =
+    ask (soundOf h w (length F) (length t / 4)) unsoundStores (updatedAt h w F offsets columns values)
+
+-- What an update with the stores w and F and the statistics t leaves: G, and its answer r.
+pub record UpdateCall (h : Handle) (w : List ℕ) (F G : List Float) (t : List ℕ) (offsets columns : List ℕ) (values : List Float) (r : Updated) : Type 0 where
+  pub done : UpdateDone h w F G (updatedOf h w F t offsets columns values) r

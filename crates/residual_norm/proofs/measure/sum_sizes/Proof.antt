@@ -1,0 +1,43 @@
+-- `measure::sum_sizes` meets its contract. The loop's invariant: what is left to do from here gives the whole sum.
+-- Assumes nothing.
+use Prim.Native.Nat.{_-_}
+use Rattle.store.specs.Region.{part}
+use Rattle.store.proofs.store.Loop.{Left, left-start, left-on, left-end}
+use Rattle.residual_norm.specs.Measure.{sumTurn, sumOf, sizeAt, sizesOf}
+use Rattle.residual_norm.proofs.measure.Laws.{size-on}
+use native.Mathlib.Omega.{arith}
+use borrow.Author.Needs.{needs}
+use Rattle.residual_norm.proofs.measure.sum_sizes.Statement.{statement}
+use Rattle.residual_norm.proofs.measure.sum_sizes.Tie as tie
+
+abbrev Inv-loop : tie.InvT-loop
+Inv-loop f n x sum₀ row₀ sum row = Left (sumTurn (sizeAt (part x n f))) row n sum (sizesOf n (part x n f))
+
+abbrev μ-loop : tie.MeasureT-loop
+μ-loop f n x sum₀ row₀ sum row = n - row
+
+loop-holds : tie.Need-loop-holds Inv-loop μ-loop
+unfolding sizesOf sumOf
+loop-holds c = left-start
+
+loop-again : tie.Need-loop-again Inv-loop μ-loop
+loop-again c = search (left-on, size-on, needs)
+
+returns : tie.Need-returns Inv-loop μ-loop
+returns c = search (left-end)
+
+pub sum-sizes-spec : {M : Type 1} → statement M
+sum-sizes-spec =
+    tie.close
+    (tie.spec
+    Inv-loop
+    μ-loop
+    loop-holds
+    (λ c. omega arith)
+    (λ c. omega arith)
+    (λ c. omega arith)
+    (λ c κs. search needs)
+    (λ c. omega arith)
+    (λ c. omega arith)
+    loop-again
+    returns)

@@ -1,0 +1,44 @@
+-- Sums in row order, and `measure` of mod.rs, over lists. Definitions only.
+use mathlib.Core.List.{List}
+use Prim.Native.Nat.{ℕ}
+use lib.Ieee.{Float}
+use Rattle.float.specs.Float.{add64, mul64, div64, negZero, absOf}
+use Rattle.float.specs.Sqrt.{sqrtOf}
+use Rattle.options.specs.declared.options.MultigridResidualNorm.{MultigridResidualNorm}
+use Rattle.store.specs.Loop.{for}
+use Rattle.store.specs.Region.{at}
+use Rattle.vector.specs.declared.vector.Product.{Product}
+use Rattle.vector.specs.Dot.{productOf}
+
+-- one term more
+unfoldable pub sumTurn : (ℕ → Float) → ℕ → Float → Float
+sumTurn g row sum = add64 sum (g row)
+
+-- `iter().map(g).sum()` of n rows, in order, from −0
+unfoldable pub sumOf : ℕ → (ℕ → Float) → Float
+sumOf n g = for (sumTurn g) 0 n negZero
+
+-- `v * v` of one row
+unfoldable pub squareAt : List Float → ℕ → Float
+squareAt v row = mul64 (at v row) (at v row)
+
+-- `v.abs()` of one row
+unfoldable pub sizeAt : List Float → ℕ → Float
+sizeAt v row = absOf (at v row)
+
+-- the squares of n elements, added up
+unfoldable pub squaresOf : ℕ → List Float → Float
+squaresOf n v = sumOf n (squareAt v)
+
+-- the absolute values of n elements, added up
+unfoldable pub sizesOf : ℕ → List Float → Float
+sizesOf n v = sumOf n (sizeAt v)
+
+-- `value` of `measure`: the norm of a residual of n rows
+unfoldable pub valueOf : MultigridResidualNorm → ℕ → List Float → Float → Float
+valueOf MultigridResidualNorm.AbsoluteL2 n residual factor = sqrtOf (squaresOf n residual)
+valueOf MultigridResidualNorm.NormalizedL1 n residual factor = div64 (sizesOf n residual) factor
+
+-- `measure` of mod.rs, with question 23
+unfoldable pub measureOf : MultigridResidualNorm → ℕ → List Float → Float → Product
+measureOf norm n residual factor = productOf (valueOf norm n residual factor)

@@ -1,0 +1,38 @@
+-- The normalization of mod.rs, over lists. Definitions only.
+use mathlib.Core.List.{List}
+use Prim.Native.Nat.{ℕ, _+_, _≤_, _^_}
+use lib.IntN.{pos}
+use lib.Ieee.{Float, binary64, ofInt}
+use Rattle.float.specs.Float.{add64, sub64, mul64, div64, one64, ratio, absOf, maxNum}
+use Rattle.options.specs.declared.options.MultigridResidualNorm.{MultigridResidualNorm}
+use Rattle.store.specs.Region.{at}
+use Rattle.residual_norm.specs.Measure.{sumOf}
+
+-- `mean` of mod.rs: the sum of n elements by `n as f64`
+unfoldable pub meanOf : ℕ → List Float → Float
+meanOf n x = div64 (sumOf n (at x)) (ofInt binary64 (pos n))
+
+-- `(ax - sum * mean).abs() + (b - sum * mean).abs()`
+unfoldable pub spreadOf : Float → Float → Float → Float → Float
+spreadOf b ax rowsum mean = add64 (absOf (sub64 ax (mul64 rowsum mean))) (absOf (sub64 b (mul64 rowsum mean)))
+
+-- the same of one row
+unfoldable pub spreadAt : List Float → List Float → List Float → Float → ℕ → Float
+spreadAt rhs product rowsums mean row = spreadOf (at rhs row) (at product row) (at rowsums row) mean
+
+-- the same of n rows, added up
+unfoldable pub spreadsOf : ℕ → List Float → List Float → List Float → Float → Float
+spreadsOf n rhs product rowsums mean = sumOf n (spreadAt rhs product rowsums mean)
+
+-- `factor` of mod.rs: 1, or the sum about the mean and at least 1e-300, which a NaN gives too
+unfoldable pub normalizationOf : MultigridResidualNorm → ℕ → List Float → List Float → List Float → List Float → Float
+normalizationOf MultigridResidualNorm.AbsoluteL2 n x rhs product rowsums = one64
+normalizationOf MultigridResidualNorm.NormalizedL1 n x rhs product rowsums =
+    maxNum (spreadsOf n rhs product rowsums (meanOf n x)) (ratio 1 (10 ^ 300))
+
+-- four regions of n elements in a store of that size
+pub record NormalizationOk (size n x rhs product rowsums : ℕ) : Type 0 where
+  pub xs : x + n ≤ size
+  pub rhss : rhs + n ≤ size
+  pub products : product + n ≤ size
+  pub sums : rowsums + n ≤ size

@@ -1,2 +1,0 @@
-pub mod Iteration
-pub mod Steps

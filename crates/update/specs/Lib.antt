@@ -1,0 +1,4 @@
+pub mod Arrays
+pub mod Shadow
+pub mod Contract
+pub mod Steps

@@ -1,0 +1,250 @@
+-- The float work of one level: its coefficients, its DIC data, its factor, and the values of the next level.
+-- Assumes nothing.
+use mathlib.Core.Path.{_≡_, refl, sym, ap, _∙_, subst}
+use mathlib.Core.Bool.{Bool, true, false, cond}
+use mathlib.Core.List.{List}
+use Prim.Native.Nat.{ℕ, _+_, _≤_}
+use native.Mathlib.Omega.{arith}
+use lib.ListN.{length}
+use lib.Ieee.{Float}
+use Rattle.float.specs.Float.{zero64}
+use Rattle.store.specs.Region.{part, Wrote}
+use Rattle.store.specs.Vector.{filled, each}
+use Rattle.store.proofs.store.Region.{wrote-at, wrote-off, kept-wrote, kept-on}
+use Rattle.refusal.specs.declared.Verdict.{Verdict}
+use Rattle.refusal.specs.Outcome.{Outcome, accepted, refused, verdictOf}
+use Rattle.refusal.proofs.Outcome.{then-accepted, then-refused}
+use Rattle.vector.specs.Finite.{allFinite}
+use Rattle.matrix.specs.declared.matrix.SymmetricMatrix.{SymmetricMatrix}
+use Rattle.matrix.specs.Kernel.{kernelAt, KernelOk}
+use Rattle.coefficients.specs.declared.values.entries.Entries.{Entries}
+use Rattle.coefficients.specs.Update.{Coefficients, updateWith, updateAt, FacesTaken, UpdateOk, Updated}
+use Rattle.dic.specs.Dic.{dicOf, settled, Settled, DicOk}
+use Rattle.cholesky.specs.declared.Terminal.{Terminal}
+use Rattle.cholesky.specs.Factor.{choleskyOf}
+use Rattle.cholesky.specs.Contract.{csrAt, coupledAt, TerminalOk, Factored}
+use Rattle.galerkin.specs.Values.{sumsOf, symmetrizeOf, FacesOk}
+use Rattle.layout.specs.declared.Place.{Place}
+use Rattle.layout.specs.Parts.{kernelIn, entriesIn, terminalIn}
+use Rattle.update_levels.specs.Standing.{diagonalStands, diagonalsStand, bareAt}
+use Rattle.update_levels.specs.Level.{LevelOk, CoefficientsOk, FacesReady, coefficientsAsked, smootherAt, SmootherOk, factorOf, FactorOk, FactorDone, coarseAt, CoarseDone}
+use Rattle.update_levels.proofs.diagonals.Outcomes.{never}
+use Rattle.update_levels.proofs.diagonals.Standing.{stand-all, stand-not}
+
+-- ---- what the calls require
+
+module _ {w : List ℕ} {size : ℕ} {p : Place} {coupled : ℕ} (ok : LevelOk w size p coupled) where
+  -- What the kernel requires, at or above its DIC data.
+  pub kernel-ready : (low : ℕ) → p .dic ≤ low → KernelOk w low (kernelIn p)
+  kernel-ready low l =
+      let last = ok .faces in
+      let h0 = ok .neighbors in
+      let h1 = ok .sided in
+      let h2 = ok .diagonal in
+      let h3 = ok .inverse in
+      record {
+        starts = ok .starts;
+        columns = omega arith;
+        own = omega arith;
+        recip = omega arith;
+        faces = omega arith;
+        falls = rw last (ok .falls);
+        near = rw last (ok .near);
+      }
+
+  -- What the coefficients require.
+  pub coefficients-ready : CoefficientsOk w size p
+  coefficients-ready =
+      let last = ok .faces in
+      let h0 = ok .starts in
+      let h1 = ok .uppers in
+      let h2 = ok .sided in
+      let h3 = ok .inverse in
+      let h4 = ok .dic in
+      let h5 = ok .room in
+      record {
+        rows = record { offsets = ok .offsets; columns = ok .columns; diagonals = ok .diagonals; own = ok .own };
+        update = record {
+          starts = omega arith;
+          owns = ok .diagonals;
+          sides = omega arith;
+          own = ok .own;
+          side = rw last (ok .sides);
+          image = ok .image;
+          coefs = omega arith;
+          diags = ok .diagonal;
+          recips = omega arith;
+        };
+      }
+
+  -- What the DIC data require.
+  pub smoother-ready : SmootherOk w size p
+  smoother-ready = let h = ok .dic in let r = ok .room in record { kernel = kernel-ready (p .dic) (omega arith); fits = omega arith }
+
+  -- What the factor requires.
+  pub factor-room : FactorOk w size p coupled
+  factor-room =
+      let h1 = ok .image in
+      let h2 = ok .sided in
+      let h3 = ok .diagonal in
+      let h4 = ok .inverse in
+      let h5 = ok .dic in
+      record {
+        terminal = record {
+          offsets = ok .offsets;
+          columns = ok .columns;
+          coupled = ok .links;
+          values = omega arith;
+          factor = ok .room;
+          near = ok .coupling;
+          ends = ok .ends;
+        };
+        values = omega arith;
+        dic = h5;
+      }
+
+-- A level is as ready in a store as large.
+pub level-size : {w : List ℕ} {size now : ℕ} {p : Place} {coupled : ℕ} → LevelOk w size p coupled → now ≡ size → LevelOk w now p coupled
+level-size {w} {size} {now} {p} {coupled} ok e = subst (λ (n : ℕ). LevelOk w n p coupled) (sym e) ok
+
+-- ---- the coefficients
+
+module _ {w : List ℕ} {size : ℕ} {p : Place} (ok : CoefficientsOk w size p) where
+  -- What 12 and 13 require.
+  pub update-ready : {k : SymmetricMatrix} {e : Entries} → k ≡ kernelIn p → e ≡ entriesIn p → UpdateOk w size k e
+  update-ready kernel image = rw (kernel, image) (ok .update)
+
+  -- The same where the values are given.
+  pub given-ready : (given F : List Float) → p .entries ≤ length given → FacesReady w given F p → {k : SymmetricMatrix} {e : Entries} → k ≡ kernelIn p
+      → e ≡ entriesIn p → UpdateOk w size k e × ((e .entries ≤ length given) × FacesTaken w given F k e)
+  given-ready given F many taken kernel image = rw (kernel, image) (ok .update, (many, taken))
+
+module _ (w : List ℕ) (values F : List Float) (p : Place) (level : ℕ) {all : Bool} (asked : all ≡ each (diagonalStands (bareAt w p)) (p .rows)) where
+  -- what 12 and 13 ask
+  abbrev wanted : Outcome Coefficients
+  wanted = updateWith level (kernelIn p) (entriesIn p) w values
+
+  -- Question 11 refuses.
+  pub coefficients-no : all ≡ false → {v : Verdict} → v ≡ verdictOf (diagonalsStand level (bareAt w p))
+      → Updated w (kernelIn p) (coefficientsAsked level w values p) F F v
+  coefficients-no told e =
+      let no = stand-not level w p asked told in
+      let refusal : coefficientsAsked level w values p ≡ refused (no .0) = then-refused (diagonalsStand level (bareAt w p)) (λ _. wanted) (no .1) in
+      record {
+        verdict = e ∙ ap verdictOf (no .1) ∙ sym (ap verdictOf refusal);
+        holds = λ k e. never refusal e;
+        within = record { below = refl; above = refl; size = refl };
+      }
+
+  -- It passes.
+  through : all ≡ true → {G : List Float} {v : Verdict} → Updated w (kernelIn p) wanted F G v
+      → Updated w (kernelIn p) (coefficientsAsked level w values p) F G v
+  through told {G} {v} made =
+      let same : coefficientsAsked level w values p ≡ wanted =
+      then-accepted (diagonalsStand level (bareAt w p)) (λ _. wanted) (stand-all level w p asked told) in
+      subst (λ (x : Outcome Coefficients). Updated w (kernelIn p) x F G v) (sym same) made
+
+  -- It passes, and the values are given.
+  pub coefficients-given : all ≡ true → {k : SymmetricMatrix} {e : Entries} → k ≡ kernelIn p → e ≡ entriesIn p → {G : List Float} {v : Verdict}
+      → Updated w k (updateWith level k e w values) F G v → Updated w (kernelIn p) (coefficientsAsked level w values p) F G v
+  coefficients-given told kernel image made = through told (rw (kernel, image) at made)
+
+-- It passes, and the values stand in the store.
+pub coefficients-made : (w : List ℕ) (F : List Float) (p : Place) (level : ℕ) {all : Bool} → all ≡ each (diagonalStands (bareAt w p)) (p .rows) → all ≡ true
+    → {k : SymmetricMatrix} {e : Entries} → k ≡ kernelIn p → e ≡ entriesIn p → {G : List Float} {v : Verdict} → Updated w k (updateAt level k e w F) F G v
+    → Updated w (kernelIn p) (coefficientsAsked level w (part (p .values) (p .entries) F) p) F G v
+coefficients-made w F p level asked told kernel image made =
+    through w (part (p .values) (p .entries) F) F p level asked told (rw (kernel, image) at made)
+
+-- ---- the DIC data
+
+module _ (p : Place) {k : SymmetricMatrix} (is : k ≡ kernelIn p) where
+  -- What the DIC diagonal requires.
+  pub dic-requires : {w : List ℕ} {size : ℕ} → SmootherOk w size p → DicOk w size k (p .dic)
+  dic-requires ok = rw is ok
+
+  -- The DIC diagonal is made.
+  pub smoother-made : (w : List ℕ) {F G : List Float} (needed : Bool) (level : ℕ) {v : Verdict} → needed ≡ true
+      → Settled (p .dic) (k .rows) (dicOf level (kernelAt k w F)) F G v → Settled (p .dic) (p .rows) (smootherAt needed level w F p) F G v
+  smoother-made w {F} {G} needed level {v} told d =
+      let made : Settled (p .dic) (p .rows) (dicOf level (kernelAt (kernelIn p) w F)) F G v = rw is at d in
+      let own = kernelAt (kernelIn p) w F in
+      let same : smootherAt needed level w F p ≡ dicOf level own =
+      ap (λ (b : Bool). cond b (dicOf level own) (accepted (filled (own .rows) zero64))) told in
+      record { held = made .held; wrote = made .wrote; is = same ∙ made .is }
+
+-- The smoother needs none.
+pub smoother-none : (p : Place) (w : List ℕ) {F G : List Float} (needed : Bool) (level : ℕ) → needed ≡ false → Wrote (p .dic) (p .rows) (filled (p .rows) zero64) F G
+    → Settled (p .dic) (p .rows) (smootherAt needed level w F p) F G Verdict.Passed
+unfolding settled kernelAt
+smoother-none p w {F} {G} needed level told h =
+    let own = kernelAt (kernelIn p) w F in
+    record {
+      held = filled (p .rows) zero64;
+      wrote = h;
+      is = ap (λ (b : Bool). cond b (dicOf level own) (accepted (filled (own .rows) zero64))) told;
+    }
+
+-- ---- the factor
+
+module _ {w : List ℕ} {F H : List Float} {p : Place} {coupled : ℕ} (ok : FactorOk w (length F) p coupled)
+    (zeros : Wrote (p .dic) (p .rows) (filled (p .rows) zero64) F H) where
+  -- What the factor requires once the zeros are there.
+  pub factor-ready : {terminal : Terminal} → terminal ≡ terminalIn p coupled → TerminalOk w (length H) terminal
+  factor-ready is = subst (λ (x : Terminal). TerminalOk w (length H) x) (sym is) (rw (zeros .size) (ok .terminal))
+
+  -- The zeros leave the values.
+  factor-same : (level : ℕ) → factorOf w H p coupled level ≡ factorOf w F p coupled level
+  factor-same level =
+      let values : part (p .values) (p .entries) H ≡ part (p .values) (p .entries) F =
+      wrote-off zeros (p .values) (p .entries) (omega (arith, ok .values)) in
+      rw values refl
+
+  -- So it is with the terminal solve at p.
+  made-done : {G : List Float} {level : ℕ} {v : Verdict} → Factored (terminalIn p coupled) (factorOf w H p coupled level) H G v
+      → FactorDone w F G p coupled level v
+  made-done {G} {level} {v} done =
+      let dic = ok .dic in
+      let fits = ok .terminal .factor in
+      let made : Factored (terminalIn p coupled) (factorOf w F p coupled level) H G v =
+      subst (λ (x : Outcome (List Float)). Factored (terminalIn p coupled) x H G v) (factor-same level) done in
+      record {
+        answer = made .answer;
+        factor = made .factor;
+        dic = wrote-off (done .frame) (p .dic) (p .rows) (omega arith) ∙ wrote-at zeros (omega arith);
+        kept = kept-on (kept-wrote zeros (omega arith)) (kept-wrote (done .frame) (omega arith));
+      }
+
+  -- The zeros and the factor are there.
+  pub factor-done : {terminal : Terminal} {G : List Float} {level : ℕ} {v : Verdict} → terminal ≡ terminalIn p coupled
+      → Factored terminal (choleskyOf level (csrAt terminal w H) (terminal .size) (coupledAt terminal w)) H G v → FactorDone w F G p coupled level v
+  factor-done {terminal} {G} {level} {v} is done = made-done
+      (subst (λ (x : Terminal). Factored x (choleskyOf level (csrAt x w H) (x .size) (coupledAt x w)) H G v) is done)
+
+-- ---- the values of the next level
+
+module _ {w : List ℕ} (old : List Float) (p t : Place) {F G : List Float} (ok : FacesOk w (length F) (t .faces) (t .uppers) (t .lowers) (t .entries) (t .values))
+    (summed : Wrote (t .values) (t .entries) (sumsOf (t .entries) (p .entries) (part (p .positions) (p .entries) w) old) F G) where
+  -- What the means require.
+  pub means-ready : FacesOk w (length G) (t .faces) (t .uppers) (t .lowers) (t .entries) (t .values)
+  means-ready = rw (summed .size) ok
+
+  module _ {H : List Float} (means : Wrote (t .values) (t .entries) (symmetrizeOf (t .faces) (part (t .uppers) (t .faces) w) (part (t .lowers) (t .faces) w)
+      (part (t .values) (t .entries) G)) G H) where
+    -- The values lie in the store.
+    pub finite-ready : t .values + t .entries ≤ length H
+    finite-ready = let room = ok .room in let s = summed .size in let m = means .size in omega arith
+
+    -- They are the next level's.
+    pub coarse-done : {r : Bool} → r ≡ allFinite (t .entries) (part (t .values) (t .entries) H) → CoarseDone w old F H p t r
+    coarse-done {r} e =
+        let room = ok .room in
+        let s = summed .size in
+        let first = wrote-at summed room in
+        let values : part (t .values) (t .entries) H ≡ coarseAt w old p t =
+        wrote-at means (omega arith) ∙ ap (symmetrizeOf (t .faces) (part (t .uppers) (t .faces) w) (part (t .lowers) (t .faces) w)) first in
+        record {
+          values = values;
+          finite = e ∙ ap (allFinite (t .entries)) values;
+          kept = kept-on (kept-wrote summed (omega arith)) (kept-wrote means (omega arith));
+        }

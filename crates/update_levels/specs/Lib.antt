@@ -1,0 +1,4 @@
+pub mod Standing
+pub mod Level
+pub mod Update
+pub mod Steps

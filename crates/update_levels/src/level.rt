@@ -1,0 +1,150 @@
+// One level of `update` of hierarchy.rs: new numbers for it, from its values, and the values of the next.
+ghost use mathlib.Core.Path.{_≡_};
+ghost use mathlib.Core.Bool.{false};
+ghost use Prim.Native.Nat.{_≤_};
+ghost use lib.ListN.{length};
+ghost use Rattle.store.specs.Region.{part};
+ghost use Rattle.coefficients.specs.Update.{Updated};
+ghost use Rattle.dic.specs.Dic.{Settled};
+ghost use Rattle.layout.specs.Parts.{kernelIn, terminalIn};
+ghost use Rattle.update_levels.specs.Level.{Under, CoefficientsOk, FacesReady, coefficientsAsked, SmootherOk, smootherAt};
+ghost use Rattle.update_levels.specs.Level.{FactorOk, FactorDone, LevelOk, LevelReady, LevelDone, CoarseOk, FirstOk, CoarseDone};
+use crate::diagonals;
+use cholesky::Terminal;
+use layout::Place;
+use refusal::Verdict;
+
+// The coefficients of the level, from its values: 12 and 13, once 11 has passed. Only stores that no build wrote can fail 11.
+fn coefficients(w: &[u32], f: &mut [f64], p: Place, level: u64) -> Verdict
+    requires { ⌜ CoefficientsOk (now w) (length (now f)) p ⌝ }
+    ensures { λ r. ⌜ Updated (now (w .entry)) (kernelIn p) (coefficientsAsked level (now (w .entry)) (part (p .values) (p .entries) (now (f .entry))) p) (now (f .entry)) (now (f .exit)) r ⌝ }
+{
+    if diagonals::all_stand(w, p) {
+        return coefficients::update(w, f, layout::kernel_in(p), layout::entries_in(p), level);
+    }
+    diagonals::rows_stand(w, p, level)
+}
+
+// The DIC data of a level that is not the last, with questions 16 and 17; zeros where the smoother needs none.
+fn smoother_data(w: &[u32], f: &mut [f64], dic: bool, p: Place, level: u64) -> Verdict
+    requires { ⌜ SmootherOk (now w) (length (now f)) p ⌝ }
+    ensures { λ r. ⌜ Settled (p .dic) (p .rows) (smootherAt dic level (now (w .entry)) (now (f .entry)) p) (now (f .entry)) (now (f .exit)) r ⌝ }
+{
+    if dic {
+        return dic::update_dic_diagonal(w, f, layout::kernel_in(p), p.dic, level);
+    }
+    store::fill(f, p.dic, p.rows, 0.0);
+    Verdict::Passed
+}
+
+// The terminal solve of so many coupled rows.
+fn terminal_in(p: Place, coupled: usize) -> Terminal
+    ensures { λ r. ⌜ r ≡ terminalIn p coupled ⌝ }
+{
+    Terminal {
+        rows: p.rows,
+        entries: p.entries,
+        offsets: p.offsets,
+        columns: p.columns,
+        values: p.values,
+        size: coupled,
+        coupled: p.links,
+        factor: p.factor,
+    }
+}
+
+// The last level: no DIC data, and the factor of the coupled rows (`update` of coarse.rs): question 15.
+fn factor(w: &[u32], f: &mut [f64], p: Place, coupled: usize, level: u64) -> Verdict
+    requires { ⌜ FactorOk (now w) (length (now f)) p coupled ⌝ }
+    ensures { λ v. ⌜ FactorDone (now (w .entry)) (now (f .entry)) (now (f .exit)) p coupled level v ⌝ }
+{
+    let terminal = terminal_in(p, coupled);
+    let dic = p.dic;
+    let rows = p.rows;
+    store::fill(f, dic, rows, 0.0);
+    cholesky::cholesky(w, f, terminal, level)
+}
+
+// The numbers of the level at p, from its values: 11, 12 and 13, then 15 of the last level, or 16 and 17 of another.
+pub fn renew_level(
+    w: &[u32],
+    f: &mut [f64],
+    dic: bool,
+    p: Place,
+    last: bool,
+    coupled: usize,
+    level: u64,
+) -> Verdict
+    requires { ⌜ LevelReady (now w) (length (now f)) p last coupled ⌝ }
+    ensures { λ r. ⌜ Under dic (λ o. LevelDone (now (w .entry)) (part (p .values) (p .entries) (now (f .entry))) (now (f .entry)) (now (f .exit)) o p last coupled level r) ⌝ }
+{
+    let own = coefficients(w, f, p, level);
+    if own.refused() {
+        return own;
+    }
+    if last {
+        return factor(w, f, p, coupled, level);
+    }
+    smoother_data(w, f, dic, p, level)
+}
+
+// The values of the level at t, summed from those of the level at p, then half plus half: question 18.
+pub fn coarse_values(w: &[u32], f: &mut [f64], p: Place, t: Place) -> bool
+    requires { ⌜ CoarseOk (now w) (length (now f)) p t ⌝ }
+    ensures { λ r. ⌜ CoarseDone (now (w .entry)) (part (p .values) (p .entries) (now (f .entry))) (now (f .entry)) (now (f .exit)) p t r ⌝ }
+{
+    galerkin::sum_entries(w, f, p.entries, p.positions, p.values, t.entries, t.values);
+    galerkin::symmetrize(w, f, t.faces, t.uppers, t.lowers, t.entries, t.values);
+    vector::all_finite(f, t.entries, t.values)
+}
+
+// The coefficients of the level from values that are given, those of the faces stand there already: 11, 12 and 13.
+fn coefficients_given(w: &[u32], given: &[f64], f: &mut [f64], p: Place, level: u64) -> Verdict
+    requires { ⌜ CoefficientsOk (now w) (length (now f)) p ⌝ }
+    requires { ⌜ p .entries ≤ length (now given) ⌝ }
+    requires { ⌜ FacesReady (now w) (now given) (now f) p ⌝ }
+    ensures { λ r. ⌜ Updated (now (w .entry)) (kernelIn p) (coefficientsAsked level (now (w .entry)) (now (given .entry)) p) (now (f .entry)) (now (f .exit)) r ⌝ }
+{
+    if diagonals::all_stand(w, p) {
+        return coefficients::update_given(
+            w,
+            given,
+            f,
+            layout::kernel_in(p),
+            layout::entries_in(p),
+            level,
+        );
+    }
+    diagonals::rows_stand(w, p, level)
+}
+
+// The numbers of a level that is not the last, from values that are given: 11, 12 and 13, then 16 and 17.
+pub fn first_level(
+    w: &[u32],
+    given: &[f64],
+    f: &mut [f64],
+    dic: bool,
+    p: Place,
+    level: u64,
+) -> Verdict
+    requires { ⌜ LevelOk (now w) (length (now f)) p 0 ⌝ }
+    requires { ⌜ p .entries ≤ length (now given) ⌝ }
+    requires { ⌜ FacesReady (now w) (now given) (now f) p ⌝ }
+    ensures { λ r. ⌜ Under dic (λ o. LevelDone (now (w .entry)) (now (given .entry)) (now (f .entry)) (now (f .exit)) o p false 0 level r) ⌝ }
+{
+    let own = coefficients_given(w, given, f, p, level);
+    if own.refused() {
+        return own;
+    }
+    smoother_data(w, f, dic, p, level)
+}
+
+// The values of the level at t, summed from those that are given, then half plus half: question 18.
+pub fn coarse_given(w: &[u32], given: &[f64], f: &mut [f64], p: Place, t: Place) -> bool
+    requires { ⌜ FirstOk (now w) (length (now f)) (length (now given)) p t ⌝ }
+    ensures { λ r. ⌜ CoarseDone (now (w .entry)) (now (given .entry)) (now (f .entry)) (now (f .exit)) p t r ⌝ }
+{
+    galerkin::sum_given(w, given, f, p.entries, p.positions, t.entries, t.values);
+    galerkin::symmetrize(w, f, t.faces, t.uppers, t.lowers, t.entries, t.values);
+    vector::all_finite(f, t.entries, t.values)
+}

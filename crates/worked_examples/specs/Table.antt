@@ -1,0 +1,204 @@
+-- The starred lines of document 01's "Small presses", each as a test that computes. Definitions only.
+use mathlib.Core.Bool.{Bool, true, false, _&&_}
+use mathlib.Core.List.{List, [], _∷_}
+use Prim.Native.Nat.{ℕ}
+use lib.Dec.{eqb}
+use lib.IntN.{ℤ, pos, negℤ}
+use lib.Ieee.{Float, binary64, ofBits, ofInt, toBits}
+use Rattle.float.specs.Float.{zero64, one64}
+use Rattle.float.specs.Sqrt.{sqrtOf}
+use Rattle.store.specs.Vector.{filled}
+use Rattle.aggregation.specs.Pairs.{Weighted, weighted, strengthsOf, pairsOf}
+use Rattle.pattern.specs.Pattern.{Pattern, entries, coarseOffsets, coarseColumns, coarsePositions}
+use Rattle.galerkin.specs.Values.{galerkinOf}
+use Rattle.matrix.specs.Kernel.{Kernel}
+use Rattle.dic.specs.Dic.{dicOf}
+use Rattle.gauss_seidel.specs.Sweep.{gaussSeidelOf}
+use Rattle.cholesky.specs.Factor.{Csr, choleskyOf}
+use Rattle.refusal.specs.Outcome.{Outcome, accepted, refused}
+use Rattle.options.specs.Options.{defaultOptions}
+use Rattle.options.specs.Counts.{preSweepsOf, postSweepsOf}
+use Rattle.options.specs.declared.options.MultigridOptions.{MultigridOptions}
+
+-- the bits of the root of the f64 with these bits
+unfoldable pub rootBits : ℕ → ℕ
+unfolding ofBits toBits sqrtOf
+rootBits b = toBits binary64 (sqrtOf (ofBits binary64 b))
+
+-- the default controls but for the sweep counts, the multiplier and the maximum
+unfoldable pub sweeps : ℕ → ℕ → ℕ → ℕ → MultigridOptions
+unfolding defaultOptions
+sweeps pre post multiplier maximum =
+    let d = defaultOptions in
+    record {
+      smoother = d .smoother;
+      «residual_norm» = d .«residual_norm»;
+      «pre_sweeps» = pre;
+      «post_sweeps» = post;
+      «finest_sweeps» = d .«finest_sweeps»;
+      «sweep_level_multiplier» = multiplier;
+      «max_sweeps» = maximum;
+      «coarsest_cells» = d .«coarsest_cells»;
+      «max_levels» = d .«max_levels»;
+      «merge_levels» = d .«merge_levels»;
+      «krylov_dimension» = d .«krylov_dimension»;
+      «coarse_solver» = d .«coarse_solver»;
+      «coarse_absolute_tolerance» = d .«coarse_absolute_tolerance»;
+      «coarse_relative_tolerance» = d .«coarse_relative_tolerance»;
+      «coarse_max_iterations» = d .«coarse_max_iterations»;
+      «scale_correction» = d .«scale_correction»;
+    }
+
+-- whether two lists are the same
+unfoldable pub same : List ℕ → List ℕ → Bool
+same [] [] = true
+same [] (y ∷ ys) = false
+same (x ∷ xs) [] = false
+same (x ∷ xs) (y ∷ ys) = eqb x y && same xs ys
+
+-- the bits of each float of a list
+unfoldable pub bits : List Float → List ℕ
+unfolding toBits
+bits [] = []
+bits (x ∷ xs) = toBits binary64 x ∷ bits xs
+
+-- the floats of a list of whole numbers
+unfoldable pub floats : List ℤ → List Float
+unfolding ofInt
+floats [] = []
+floats (z ∷ zs) = ofInt binary64 z ∷ floats zs
+
+-- the bits of what was accepted; none where it was refused
+unfoldable pub acceptedBits : Outcome (List Float) → List ℕ
+unfolding bits
+acceptedBits (accepted v) = bits v
+acceptedBits (refused q) = []
+
+-- the pattern of the path of 4 rows, of the path of 3, and of the faces 0-1, 0-2, 2-3, each row with its diagonal
+abbrev pub path4 : Pattern
+path4 = record { rows = 4; offsets = 0 ∷ 2 ∷ 5 ∷ 8 ∷ 10 ∷ []; columns = 0 ∷ 1 ∷ 0 ∷ 1 ∷ 2 ∷ 1 ∷ 2 ∷ 3 ∷ 2 ∷ 3 ∷ [] }
+
+abbrev pub path3 : Pattern
+path3 = record { rows = 3; offsets = 0 ∷ 2 ∷ 5 ∷ 7 ∷ []; columns = 0 ∷ 1 ∷ 0 ∷ 1 ∷ 2 ∷ 1 ∷ 2 ∷ [] }
+
+abbrev pub tree4 : Pattern
+tree4 = record { rows = 4; offsets = 0 ∷ 3 ∷ 5 ∷ 8 ∷ 10 ∷ []; columns = 0 ∷ 1 ∷ 2 ∷ 0 ∷ 1 ∷ 0 ∷ 2 ∷ 3 ∷ 2 ∷ 3 ∷ [] }
+
+-- the pattern p with these weights
+abbrev pub weigh : Pattern → List Float → Weighted
+weigh p v = weighted (p .rows) (p .offsets) (p .columns) v
+
+-- all weights of p equal to x
+abbrev pub alike : Pattern → Float → Weighted
+alike p x = weigh p (filled (entries p) x)
+
+-- the path of 4 with diagonal 2 and off-diagonal −1
+abbrev pub values4 : List Float
+values4 =
+    let d = pos 2 in
+    let a = negℤ (pos 1) in
+    floats (d ∷ a ∷ a ∷ d ∷ a ∷ a ∷ d ∷ a ∷ a ∷ d ∷ [])
+
+-- path of 4, up and down, by its absolute values; path of 3, up; faces 0-1, 0-2, 2-3, equal weights, up; all weights zero
+abbrev pub aggregates : List Bool
+aggregates =
+    same (pairsOf (weigh path4 (strengthsOf true values4)) true .map) (0 ∷ 0 ∷ 1 ∷ 1 ∷ [])
+    ∷ same (pairsOf (weigh path4 (strengthsOf true values4)) false .map) (1 ∷ 1 ∷ 0 ∷ 0 ∷ [])
+    ∷ same (pairsOf (alike path3 one64) true .map) (0 ∷ 0 ∷ 0 ∷ [])
+    ∷ same (pairsOf (alike tree4 one64) true .map) (0 ∷ 0 ∷ 1 ∷ 1 ∷ [])
+    ∷ eqb (pairsOf (alike path3 zero64) true .count) 3
+    ∷ []
+
+-- path of 4, diagonal 2, pairs 0 0 1 1: coarse 2, −1; −1, 2. Its one face is entry 1, whose mirror is entry 2.
+abbrev pub coarsePath : List Bool
+coarsePath =
+    let map : List ℕ = 0 ∷ 0 ∷ 1 ∷ 1 ∷ [] in
+    same (coarseOffsets path4 map 2) (0 ∷ 2 ∷ 4 ∷ [])
+    ∷ same (coarseColumns path4 map 2) (0 ∷ 1 ∷ 0 ∷ 1 ∷ [])
+    ∷ same (bits (galerkinOf 4 10 (coarsePositions path4 map 2) values4 1 (1 ∷ []) (2 ∷ []))) (bits (floats (pos 2 ∷ negℤ (pos 1) ∷ negℤ (pos 1) ∷ pos 2 ∷ [])))
+    ∷ []
+
+-- P = 4, −2; −2, 2 by its rows, both of them coupled
+abbrev pub pRows : Csr
+pRows =
+    record {
+      offsets = 0 ∷ 2 ∷ 4 ∷ [];
+      columns = 0 ∷ 1 ∷ 0 ∷ 1 ∷ [];
+      values = floats (pos 4 ∷ negℤ (pos 2) ∷ negℤ (pos 2) ∷ pos 2 ∷ []);
+    }
+
+-- 0.25, 0.5 and 0.75
+abbrev pub quarter : ℕ
+quarter = 0x3fd0_0000_0000_0000
+
+abbrev pub half : ℕ
+half = 0x3fe0_0000_0000_0000
+
+abbrev pub threeQuarters : ℕ
+threeQuarters = 0x3fe8_0000_0000_0000
+
+-- 4, a; a, 2 by its one face
+abbrev pub faced : ℤ → Kernel
+faced a =
+    record {
+      rows = 2;
+      diagonal = floats (pos 4 ∷ pos 2 ∷ []);
+      inverse = ofBits binary64 quarter ∷ ofBits binary64 half ∷ [];
+      offsets = 0 ∷ 1 ∷ 1 ∷ [];
+      neighbors = 1 ∷ [];
+      coefficients = floats (a ∷ []);
+    }
+
+-- P factors as 2; −1, 1
+abbrev pub factors : List Bool
+factors = same (acceptedBits (choleskyOf 0 pRows 2 (0 ∷ 1 ∷ []))) (bits (floats (pos 2 ∷ negℤ (pos 1) ∷ pos 1 ∷ []))) ∷ []
+
+-- matrix 4, 2; 2, 2: DIC inverses 0.25, 1
+abbrev pub dicInverses : List Bool
+dicInverses = same (acceptedBits (dicOf 0 (faced (pos 2)))) (quarter ∷ toBits binary64 one64 ∷ []) ∷ []
+
+-- P, right-hand side 2, 0, start 0: one Gauss-Seidel sweep, and a symmetric one
+abbrev pub sweptP : Bool → List Float
+sweptP symmetric = gaussSeidelOf (faced (negℤ (pos 2))) symmetric (floats (pos 2 ∷ pos 0 ∷ [])) (filled 2 zero64) .x
+
+abbrev pub swept : List Bool
+swept = same (bits (sweptP false)) (half ∷ half ∷ []) ∷ same (bits (sweptP true)) (threeQuarters ∷ half ∷ []) ∷ []
+
+-- root of 2; of 2 ^ −1074; of minus zero
+abbrev pub roots : List Bool
+roots =
+    eqb (rootBits 0x4000_0000_0000_0000) 0x3ff6_a09e_667f_3bcd
+    ∷ eqb (rootBits 0x0000_0000_0000_0001) 0x1e60_0000_0000_0000
+    ∷ eqb (rootBits 0x8000_0000_0000_0000) 0x8000_0000_0000_0000
+    ∷ []
+
+-- pre-sweeps 1, multiplier 2, maximum 4: at depth 0, 1, 3
+abbrev pub growing : List Bool
+growing =
+    eqb (preSweepsOf (sweeps 1 2 2 4) 0) 0
+    ∷ eqb (preSweepsOf (sweeps 1 2 2 4) 1) 1
+    ∷ eqb (preSweepsOf (sweeps 1 2 2 4) 3) 4
+    ∷ []
+
+-- post-sweeps 0, multiplier 1, maximum 4, depth 3; pre-sweeps 0 there
+abbrev pub resting : List Bool
+resting =
+    eqb (postSweepsOf (sweeps 0 0 1 4) 3) 2
+    ∷ eqb (preSweepsOf (sweeps 0 0 1 4) 3) 0
+    ∷ []
+
+-- every line of a table holds
+unfoldable pub all : List Bool → Bool
+all [] = true
+all (b ∷ bs) = b && all bs
+
+-- every table holds
+unfoldable pub allOf : List (List Bool) → Bool
+unfolding all
+allOf [] = true
+allOf (t ∷ ts) = all t && allOf ts
+
+-- the starred lines, in the order of the crates that they concern
+unfoldable pub table : List (List Bool)
+unfolding rootBits sweeps preSweepsOf postSweepsOf
+table = aggregates ∷ coarsePath ∷ factors ∷ dicInverses ∷ swept ∷ roots ∷ growing ∷ resting ∷ []
