@@ -1,4 +1,4 @@
-// The functions of `faces`, `mirroring` and `coupling`: the pattern part of a kernel. The places of the pattern and of its faces cross as numbers.
+// The functions of `faces`: the pattern part of a kernel. The places of the pattern and of its faces cross as numbers.
 ghost use mathlib.Core.Path.{_≡_};
 ghost use Prim.Native.Nat.{_≤_};
 ghost use lib.ListN.{length};

@@ -1,4 +1,4 @@
-// The functions of `matrix`, `rowsums` and `values`: the kernel of a level. Its places cross as numbers.
+// The functions of `matrix` and `coefficients`: the kernel of a level. Its places cross as numbers.
 ghost use mathlib.Core.Path.{_≡_};
 ghost use Prim.Native.Nat.{_+_, _≤_};
 ghost use lib.ListN.{length};
