@@ -1,6 +1,5 @@
 //! Measures the proved functions and the Rust in one run. `bench/run` builds and starts it.
 
-#[cfg(feature = "library")]
 mod build;
 mod cholesky;
 mod clock;
@@ -11,9 +10,7 @@ mod kernels;
 mod level;
 mod measure;
 mod pairs;
-#[cfg(feature = "library")]
 mod solve;
-#[cfg(feature = "library")]
 mod stack;
 mod sweeps;
 
@@ -124,7 +121,6 @@ const ROWS: &[Row] = &[
         sides: &[16],
         kernel: cholesky::all_rows,
     },
-    #[cfg(feature = "library")]
     Row {
         name: "build",
         most: Some(0.25),
@@ -132,7 +128,6 @@ const ROWS: &[Row] = &[
         sides: &SIDES,
         kernel: build::by_values,
     },
-    #[cfg(feature = "library")]
     Row {
         name: "build, face weights",
         most: Some(0.25),
@@ -140,7 +135,6 @@ const ROWS: &[Row] = &[
         sides: &SIDES,
         kernel: build::by_weights,
     },
-    #[cfg(feature = "library")]
     Row {
         name: "solve",
         most: Some(0.9),
@@ -148,7 +142,6 @@ const ROWS: &[Row] = &[
         sides: &SIDES,
         kernel: solve::by_default,
     },
-    #[cfg(feature = "library")]
     Row {
         name: "solve, plain cycles",
         most: Some(0.9),
@@ -156,7 +149,6 @@ const ROWS: &[Row] = &[
         sides: &SIDES,
         kernel: solve::with_plain_cycles,
     },
-    #[cfg(feature = "library")]
     Row {
         name: "solve, Gauss-Seidel",
         most: Some(0.9),
@@ -164,7 +156,6 @@ const ROWS: &[Row] = &[
         sides: &SIDES,
         kernel: solve::with_gauss_seidel,
     },
-    #[cfg(feature = "library")]
     Row {
         name: "index check of a solve",
         most: None,
@@ -172,7 +163,6 @@ const ROWS: &[Row] = &[
         sides: &SIDES,
         kernel: solve::index_check,
     },
-    #[cfg(feature = "library")]
     Row {
         name: "update",
         most: Some(1.0),
@@ -192,7 +182,6 @@ struct Asked {
 
 fn main() -> ExitCode {
     match asked() {
-        #[cfg(feature = "library")]
         Ok(asked) if asked.stack => status(stack::run()),
         Ok(asked) => run(&asked),
         Err(sentence) => {

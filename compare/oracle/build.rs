@@ -1,6 +1,8 @@
-//! Lays the Rust's twelve files and our shims side by side in `OUT_DIR`, so that they compile unchanged.
+//! Lays the Rust's twelve files and our shims side by side in `OUT_DIR`, so that they compile unchanged. The twelve are
+//! held to their SHA-256: what is compared with is one source, and no other by mistake.
 
 use std::path::{Path, PathBuf};
+use std::process::Command;
 use std::{env, fs, io};
 
 const VARIABLE: &str = "FLURSYS_SRC";
@@ -22,6 +24,9 @@ const RUST: [&str; 12] = [
     "multigrid/options.rs",
     "multigrid/smoother.rs",
 ];
+
+/// A line for each of the twelve, as `sha256sum` in the folder `linear` writes it.
+const SUMS: &str = "SHA256SUMS";
 
 const SHIMS: [&str; 5] = [
     "csr.rs",
@@ -51,6 +56,7 @@ fn lay_out() -> Result<(), String> {
     for name in RUST {
         copy(&source.join(name), &linear.join(name))?;
     }
+    hold_to_sums(&here.join(SUMS), &source, &linear)?;
     for name in SHIMS {
         copy(&here.join("shims").join(name), &linear.join(name))?;
     }
@@ -79,6 +85,32 @@ fn source_folder(here: &Path) -> Result<PathBuf, String> {
             folder.display()
         ))
     }
+}
+
+/// Of the copies, which are what is compiled.
+fn hold_to_sums(sums: &Path, source: &Path, copies: &Path) -> Result<(), String> {
+    println!("cargo::rerun-if-changed={}", sums.display());
+    let wanted = fs::read_to_string(sums)
+        .map_err(|error| format!("{} cannot be read: {error}", sums.display()))?;
+    let mut command = Command::new("sha256sum");
+    let done = command.args(RUST).current_dir(copies).output();
+    let done = done.map_err(|error| format!("sha256sum cannot be run: {error}"))?;
+    let found = String::from_utf8_lossy(&done.stdout);
+    if !done.status.success() || found.lines().count() != RUST.len() {
+        let said = String::from_utf8_lossy(&done.stderr);
+        return Err(format!("sha256sum gives no sums: {}", said.trim_end()));
+    }
+    if let Some(other) = found
+        .lines()
+        .find(|line| !wanted.lines().any(|sum| sum == *line))
+    {
+        return Err(format!(
+            "{} holds another source than the one that is compared with: its SHA-256 is {other}, which is not in {}",
+            source.display(),
+            sums.display()
+        ));
+    }
+    Ok(())
 }
 
 fn copy(from: &Path, to: &Path) -> Result<(), String> {

@@ -4,7 +4,6 @@
 pub mod expected;
 mod hand;
 pub mod hierarchy;
-#[cfg_attr(not(feature = "library"), path = "build/stand_in.rs")]
 pub mod library;
 pub mod list;
 pub mod problem;

@@ -1,7 +1,6 @@
 //! What the comparison and the measurements of `../bench` share: the proved exports, and cases for them.
 
 pub mod boundary;
-#[cfg(feature = "library")]
 pub mod library;
 pub mod pattern;
 pub mod random;

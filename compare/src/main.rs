@@ -16,7 +16,6 @@ mod measure;
 mod numbers;
 mod options;
 mod report;
-#[cfg(feature = "library")]
 mod sequence;
 mod smoother;
 mod stores;
@@ -66,9 +65,7 @@ const COMPARISONS: &[(&str, Comparison)] = &[
     ("csr", csr::compare),
     ("faces", faces::compare),
     ("build", build::compare),
-    #[cfg(feature = "library")]
     ("sequence", sequence::compare),
-    #[cfg(feature = "library")]
     ("damage", sequence::damage::compare),
 ];
 
@@ -94,7 +91,6 @@ fn main() -> ExitCode {
             print!("{}", build::list::write(&mut Random::new(seed), each));
             ExitCode::SUCCESS
         }
-        #[cfg(feature = "library")]
         Ok(Arguments {
             sequences: Some(each),
             seed,

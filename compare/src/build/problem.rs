@@ -6,6 +6,7 @@ use crate::options;
 use crate::pattern::{Pattern, Shape};
 use crate::random::Random;
 use crate::stores::Word;
+pub use multigrid::Stores;
 use oracle::{MultigridCoarseSolver, MultigridOptions, MultigridSmoother};
 
 /// How many words, floats and words of statistics are lent.
@@ -23,16 +24,6 @@ pub struct Problem {
     pub options: MultigridOptions,
     pub lent: Lent,
 }
-
-/// What is lent.
-#[cfg(not(feature = "library"))]
-pub struct Stores {
-    pub words: Vec<u32>,
-    pub floats: Vec<f64>,
-    pub statistics: Vec<u64>,
-}
-#[cfg(feature = "library")]
-pub use multigrid::Stores;
 
 /// Stores full of noise.
 pub fn noisy(random: &mut Random, lent: &Lent) -> Stores {

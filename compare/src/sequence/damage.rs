@@ -1,11 +1,15 @@
-//! Calls on damaged stores: words and floats that a build left, some of them changed. Every call answers, and a solve or
-//! an update that refuses changes nothing but scratch. What they read and write is watched from outside (valgrind).
+//! Calls on damaged stores: words and floats that a build left, the handle and the sizes of what is lent, some of them
+//! changed. Every call answers. Refused by 19, a call leaves every word, float and record as it was; refused by another
+//! question, all but scratch. What they read and write is watched from outside (valgrind).
 
 use super::{Call, accepted, draw_calls};
 use crate::Effort;
+use crate::build::hierarchy::Hierarchy;
 use crate::build::problem::{Stores, noisy};
+use crate::options;
 use crate::random::Random;
 use crate::report::Report;
+use multigrid::MultigridOptions;
 use multigrid::lent::{self, Handle};
 
 pub fn compare(report: &mut Report, random: &mut Random, effort: Effort) {
@@ -20,75 +24,201 @@ pub fn compare(report: &mut Report, random: &mut Random, effort: Effort) {
             });
             continue;
         };
-        damage(random, &mut stores, &mut handle);
+        // Once in three times all of them spoil one thing, so that it alone decides.
+        let one = (random.below(3) == 0).then(|| random.pick(&DAMAGES));
+        for _ in 0..1 + random.index(4) {
+            let (name, damage) = one.unwrap_or_else(|| random.pick(&DAMAGES));
+            damage(random, &mut stores, &mut handle);
+            report.answer(&format!("damage/changed/{name}"));
+        }
         for call in &calls {
-            let agrees = one_call(report, &handle, &mut stores, call);
-            report.case(kind, agrees, || {
-                "a refusal changed words or statistics".to_string()
-            });
+            let found = one_call(report, &handle, &mut stores, call);
+            report.case(kind, found.is_none(), || found.unwrap_or_default());
         }
     }
 }
 
-fn damage(random: &mut Random, stores: &mut Stores, handle: &mut Handle) {
-    for _ in 0..1 + random.index(4) {
-        match random.below(12) {
-            0..=5 => {
-                let near = [0, 1, 2, 3, 65_536, 65_537, 1_048_577, u32::MAX];
-                let at = random.index(stores.words.len());
-                // The first words are the hierarchy's.
-                let at = if random.below(2) == 0 { at / 8 } else { at };
-                stores.words[at] = match random.below(3) {
-                    0 => random.pick(&near),
-                    1 => stores.words[at].wrapping_add(random.pick(&[1, 2, u32::MAX])),
-                    _ => random.below(100) as u32,
-                };
-            }
-            6 | 7 => {
-                let at = random.index(stores.floats.len());
-                let near = [0.0, f64::NAN, f64::INFINITY, 1e308, 5e-324, -1.0];
-                stores.floats[at] = random.pick(&near);
-            }
-            8 => handle.levels = random.pick(&[0, 1, 2, 3, 64, 128, 129, u64::MAX]),
-            9 => handle.rows = random.pick(&[0, 1, 2, handle.rows + 1, u64::MAX]),
-            10 => {
-                let most = stores.floats.len();
-                stores.floats.truncate(random.index(most + 1));
-                stores.floats.push(0.0);
-            }
-            _ => {
-                let most = stores.words.len();
-                stores.words.truncate(random.index(most + 1));
-                stores.words.push(0);
-            }
+type Damage = fn(&mut Random, &mut Stores, &mut Handle);
+
+/// Words twice: most of what 19 asks stands in them.
+const DAMAGES: [(&str, Damage); 12] = [
+    ("words", word),
+    ("words", word),
+    ("floats", |random, stores, _| {
+        let near = [0.0, f64::NAN, f64::INFINITY, 1e308, 5e-324, -1.0];
+        if let Some(float) = crate::csr::any(&mut stores.floats, random) {
+            *float = random.pick(&near);
         }
+    }),
+    ("levels", |random, _, handle| {
+        let near = [handle.levels.wrapping_sub(1), handle.levels.wrapping_add(1)];
+        handle.levels = random.pick(&[near[0], near[1], 0, 1, 2, 3, 64, 128, 129, u64::MAX]);
+    }),
+    ("rows", |random, _, handle| {
+        let near = [handle.rows.wrapping_sub(1), handle.rows.wrapping_add(1)];
+        handle.rows = random.pick(&[near[0], near[1], 0, 1, 2, 65_537, u64::MAX]);
+    }),
+    ("entries", |random, _, handle| {
+        let near = [
+            handle.entries.wrapping_sub(1),
+            handle.entries.wrapping_add(1),
+        ];
+        handle.entries = random.pick(&[near[0], near[1], 0, 1, handle.rows, 1_048_577, u64::MAX]);
+    }),
+    ("one-control", |random, _, handle| {
+        let other = compare::library::options(&options::any(random));
+        random.pick(&CONTROLS)(&mut handle.options, &other);
+    }),
+    ("valid-controls", |random, _, handle| {
+        let coarse_solver = handle.options.coarse_solver;
+        let other = compare::library::options(&options::valid(random));
+        handle.options = MultigridOptions {
+            coarse_solver,
+            ..other
+        };
+    }),
+    ("controls", |random, _, handle| {
+        handle.options = compare::library::options(&options::any(random));
+    }),
+    ("records", |random, stores, _| {
+        shorten(random, &mut stores.statistics, 9);
+    }),
+    ("floats-lent", |random, stores, _| {
+        shorten(random, &mut stores.floats, 65);
+    }),
+    ("words-lent", |random, stores, _| {
+        shorten(random, &mut stores.words, 65);
+    }),
+];
+
+fn word(random: &mut Random, stores: &mut Stores, _: &mut Handle) {
+    let near = [0, 1, 2, 3, 65_536, 65_537, 1_048_577, u32::MAX];
+    let most = stores.words.len();
+    // The first words are the hierarchy's.
+    let most = if random.below(2) == 0 { most / 8 } else { most };
+    if let Some(word) = crate::csr::any(&mut stores.words[..most], random) {
+        *word = match random.below(3) {
+            0 => random.pick(&near),
+            1 => word.wrapping_add(random.pick(&[1, 2, u32::MAX])),
+            _ => random.below(100) as u32,
+        };
     }
 }
 
-fn one_call(report: &mut Report, handle: &Handle, stores: &mut Stores, call: &Call) -> bool {
+/// To any length, or by fewer than `few` elements.
+fn shorten<T>(random: &mut Random, lent: &mut Vec<T>, few: usize) {
+    let most = lent.len();
+    let any = random.index(most + 1);
+    let near = most - random.index(few.min(most + 1));
+    lent.truncate(random.pick(&[any, near]));
+}
+
+type Put = fn(&mut MultigridOptions, &MultigridOptions);
+
+/// Each puts one control of another set in its place.
+const CONTROLS: [Put; 16] = [
+    |to, other| to.smoother = other.smoother,
+    |to, other| to.residual_norm = other.residual_norm,
+    |to, other| to.pre_sweeps = other.pre_sweeps,
+    |to, other| to.post_sweeps = other.post_sweeps,
+    |to, other| to.finest_sweeps = other.finest_sweeps,
+    |to, other| to.sweep_level_multiplier = other.sweep_level_multiplier,
+    |to, other| to.max_sweeps = other.max_sweeps,
+    |to, other| to.coarsest_cells = other.coarsest_cells,
+    |to, other| to.max_levels = other.max_levels,
+    |to, other| to.merge_levels = other.merge_levels,
+    |to, other| to.krylov_dimension = other.krylov_dimension,
+    |to, other| to.coarse_solver = other.coarse_solver,
+    |to, other| to.coarse_absolute_tolerance = other.coarse_absolute_tolerance,
+    |to, other| to.coarse_relative_tolerance = other.coarse_relative_tolerance,
+    |to, other| to.coarse_max_iterations = other.coarse_max_iterations,
+    |to, other| to.scale_correction = other.scale_correction,
+];
+
+/// What is wrong first, if anything is.
+fn one_call(
+    report: &mut Report,
+    handle: &Handle,
+    stores: &mut Stores,
+    call: &Call,
+) -> Option<String> {
     let before = stores.clone();
-    let (name, number) = match call {
+    let sound = lent::statistics(handle, stores).is_ok();
+    if let Some(found) = changed(&before, stores, before.floats.len(), 0) {
+        return Some(format!("statistics: {found}"));
+    }
+    let (name, answer) = match call {
         Call::Update(arrays) => {
             let (offsets, columns) = (&arrays.offsets, &arrays.columns);
             let answer = lent::update_values(handle, offsets, columns, &arrays.values, stores);
-            ("update", answer.err().map(|refusal| refusal.number()))
+            ("update", answer)
         }
         Call::Solve { rhs, x, options } => {
             let mut y = x.clone();
             let answer = lent::solve(handle, stores, rhs, &mut y, *options);
-            let kept = answer.is_ok() || y.iter().zip(x).all(|(a, b)| a.to_bits() == b.to_bits());
-            if !kept {
-                return false;
+            let same = y.iter().zip(x).all(|(a, b)| a.to_bits() == b.to_bits());
+            if answer.is_err() && !same {
+                return Some(format!("solve: {answer:?}, the solution changed"));
             }
-            ("solve", answer.err().map(|refusal| refusal.number()))
+            ("solve", answer.map(|_| ()))
         }
     };
-    let asked = lent::statistics(handle, stores).is_err();
-    let number = number.map_or("accepted".to_string(), |number| {
+    let number = answer.err().map(|refusal| refusal.number());
+    let answer = number.map_or("accepted".to_string(), |number| {
         format!("refused-{number:02}")
     });
-    report.answer(&format!("damage/{name}/{number}"));
-    (number == "accepted" || stores.statistics == before.statistics)
-        && stores.words == before.words
-        && asked == (number == "refused-19")
+    report.answer(&format!("damage/{name}/{answer}"));
+    if sound == (number == Some(19)) {
+        let other = if sound { "accepted" } else { "refused" };
+        return Some(format!("{name}: {answer}, statistics are {other}"));
+    }
+    let Some(floats) = floats_kept(name, number, handle, &before) else {
+        return Some(format!(
+            "{name}: {answer}, the levels pass the end of a store"
+        ));
+    };
+    let counted = match (name, number) {
+        ("solve", None) => handle.levels as usize,
+        _ => 0,
+    };
+    let found = changed(&before, stores, floats, counted)?;
+    Some(format!("{name}: {answer}, {found}"))
+}
+
+/// How many floats from the first on a call has to leave as they were; None where the stores hold no such levels.
+fn floats_kept(name: &str, number: Option<u64>, handle: &Handle, stores: &Stores) -> Option<usize> {
+    // The levels and the row sums of the finest.
+    let image = || Some(Hierarchy::read(handle.levels as usize, stores)?.floats());
+    match (name, number) {
+        (_, Some(19)) => Some(stores.floats.len()),
+        // A solve writes neither the image nor its shadow, accepted or not.
+        ("solve", _) => Some(2 * image()?),
+        (_, Some(_)) => image(),
+        // An update that is accepted writes the image anew.
+        (_, None) => Some(0),
+    }
+}
+
+/// What differs first of the words, of so many floats and of the statistics, of which the counters of so many records at the
+/// front may have grown.
+fn changed(before: &Stores, now: &Stores, floats: usize, counted: usize) -> Option<String> {
+    if before.words != now.words {
+        return Some("a word changed".to_string());
+    }
+    let mut pairs = before.floats[..floats].iter().zip(&now.floats);
+    if let Some(at) = pairs.position(|(then, now)| then.to_bits() != now.to_bits()) {
+        return Some(format!("float {at} of {floats} changed"));
+    }
+    let records = before.statistics.chunks(4).zip(now.statistics.chunks(4));
+    for (record, (then, now)) in records.enumerate() {
+        let kept = if record < counted {
+            then[0] == now[0] && then.iter().zip(now).all(|(then, now)| then <= now)
+        } else {
+            then == now
+        };
+        if !kept {
+            return Some(format!("record {record}: {now:?}, it was {then:?}"));
+        }
+    }
+    None
 }
