@@ -1,4 +1,6 @@
 -- `update_values` of mod.rs: what it ensures of any handle and any stores. Definitions only.
+use mathlib.Core.Path.{_≡_}
+use mathlib.Core.Bool.{false}
 use mathlib.Core.List.{List}
 use Prim.Native.Nat.{ℕ, _/_}
 use lib.ListN.{length}
@@ -16,6 +18,8 @@ abbrev pub updatedOf : Handle → List ℕ → List Float → List ℕ → List 
 updatedOf h w F t offsets columns values =
     ask (soundOf h w (length F) (length t / 4)) unsoundStores (updatedAt h w F offsets columns values)
 
--- What an update with the stores w and F and the statistics t leaves: G, and its answer r.
+-- What an update with the stores w and F and the statistics t leaves: G, and its answer r. Refused by question 19, every float is as
+-- it was.
 pub record UpdateCall (h : Handle) (w : List ℕ) (F G : List Float) (t : List ℕ) (offsets columns : List ℕ) (values : List Float) (r : Updated) : Type 0 where
   pub done : UpdateDone h w F G (updatedOf h w F t offsets columns values) r
+  pub unsound : soundOf h w (length F) (length t / 4) ≡ false → G ≡ F

@@ -112,22 +112,22 @@ visited n = 1 ∷ n ∷ 0 ∷ 0 ∷ []
 -- A solve for 1, from zero, gives 1,
 solves-first : SolveCall handle words (floats one64 one64) (floats one64 one64) (visited 0) (visited 1) (one64 ∷ []) (zero64 ∷ []) (one64 ∷ []) asked converged
 unfolding layout.viewOf layout.levelsAt layout.levelAt layout.wordsEnd layout.floatsEnd layout.imageEnd part lay splice tab tri sound.soundOf sound.handleSound sound.walkOf sound.headSound sound.arraysSound sound.allBelow sound.rowSound sound.rowsWalked sound.scratchEnd validOf isFinite lt le eq ofBits each solve.solveOf input.inputOk solve.runOf iterating.iterateOf iteration.stepOf iteration.movedOf cycle.cycleOf cycle.endOf cycle.countOf terminal.terminalOf terminal.solutionOf terminal.scatterOf terminal.gatherOf terminal.diagonalOf factor.solveFactorOf factor.lowRow factor.highRow factor.lowTerm factor.highTerm measure.measureOf measure.valueOf measure.squaresOf measure.squareAt measure.sumOf measure.sumTurn finite.allFinite dot.productOf normalization.normalizationOf solver.relativeOf matrix.applyOf matrix.spreadOf matrix.spreadRow matrix.spreadFace correction.subtractOf correction.addPlainOf maxNum sqrtOf for iter ne add sub mul div
-solves-first = record { done = record { answer = refl; solution = refl; statistics = refl; floats = record { below = refl; size = refl } }; view = refl }
+solves-first = record { done = record { answer = refl; solution = refl; statistics = refl; floats = record { below = refl; size = refl } }; view = refl; unsound = λ _. refl }
 
 -- a second one too,
 solves-second : SolveCall handle words (floats one64 one64) (floats one64 one64) (visited 1) (visited 2) (one64 ∷ []) (zero64 ∷ []) (one64 ∷ []) asked converged
 unfolding layout.viewOf layout.levelsAt layout.levelAt layout.wordsEnd layout.floatsEnd layout.imageEnd part lay splice tab tri sound.soundOf sound.handleSound sound.walkOf sound.headSound sound.arraysSound sound.allBelow sound.rowSound sound.rowsWalked sound.scratchEnd validOf isFinite lt le eq ofBits each solve.solveOf input.inputOk solve.runOf iterating.iterateOf iteration.stepOf iteration.movedOf cycle.cycleOf cycle.endOf cycle.countOf terminal.terminalOf terminal.solutionOf terminal.scatterOf terminal.gatherOf terminal.diagonalOf factor.solveFactorOf factor.lowRow factor.highRow factor.lowTerm factor.highTerm measure.measureOf measure.valueOf measure.squaresOf measure.squareAt measure.sumOf measure.sumTurn finite.allFinite dot.productOf normalization.normalizationOf solver.relativeOf matrix.applyOf matrix.spreadOf matrix.spreadRow matrix.spreadFace correction.subtractOf correction.addPlainOf maxNum sqrtOf for iter ne add sub mul div
-solves-second = record { done = record { answer = refl; solution = refl; statistics = refl; floats = record { below = refl; size = refl } }; view = refl }
+solves-second = record { done = record { answer = refl; solution = refl; statistics = refl; floats = record { below = refl; size = refl } }; view = refl; unsound = λ _. refl }
 
 -- and once the coefficient is 2 it gives a half.
 solves-third : SolveCall handle words (floats two half) (floats two half) (visited 2) (visited 3) (one64 ∷ []) (zero64 ∷ []) (half ∷ []) asked converged
 unfolding layout.viewOf layout.levelsAt layout.levelAt layout.wordsEnd layout.floatsEnd layout.imageEnd part lay splice tab tri sound.soundOf sound.handleSound sound.walkOf sound.headSound sound.arraysSound sound.allBelow sound.rowSound sound.rowsWalked sound.scratchEnd validOf isFinite lt le eq ofBits each solve.solveOf input.inputOk solve.runOf iterating.iterateOf iteration.stepOf iteration.movedOf cycle.cycleOf cycle.endOf cycle.countOf terminal.terminalOf terminal.solutionOf terminal.scatterOf terminal.gatherOf terminal.diagonalOf factor.solveFactorOf factor.lowRow factor.highRow factor.lowTerm factor.highTerm measure.measureOf measure.valueOf measure.squaresOf measure.squareAt measure.sumOf measure.sumTurn finite.allFinite dot.productOf normalization.normalizationOf solver.relativeOf matrix.applyOf matrix.spreadOf matrix.spreadRow matrix.spreadFace correction.subtractOf correction.addPlainOf maxNum sqrtOf for iter ne add sub mul div
-solves-third = record { done = record { answer = refl; solution = refl; statistics = refl; floats = record { below = refl; size = refl } }; view = refl }
+solves-third = record { done = record { answer = refl; solution = refl; statistics = refl; floats = record { below = refl; size = refl } }; view = refl; unsound = λ _. refl }
 
 -- An update to zero is refused by question 12,
 refused-update : UpdateCall handle words (floats one64 one64) (floats one64 one64) (visited 1) (0 ∷ 1 ∷ []) (0 ∷ []) (zero64 ∷ []) (Updated.Refused (badDiagonal 0 0))
 unfolding layout.viewOf layout.levelsAt layout.levelAt layout.wordsEnd layout.floatsEnd layout.imageEnd part lay splice tab tri sound.soundOf sound.handleSound sound.walkOf sound.headSound sound.arraysSound sound.allBelow sound.rowSound sound.rowsWalked sound.scratchEnd validOf isFinite lt le eq ofBits each update.updateOf update.renewOf update.sameList update.samePattern standing.diagonalStands standing.diagonalsStand askRows mirrorsAgree mirrorsEqual updateOf diagonalAsked isPositive cholesky.choleskyOf cholesky.rowsOf refreshing.withSums div for iter
-refused-update = record { done = record { answer = refl; view = refl; kept = λ q e. record { below = refl; size = refl }; size = refl } }
+refused-update = record { done = record { answer = refl; view = refl; kept = λ q e. record { below = refl; size = refl }; size = refl }; unsound = λ _. refl }
 
 -- one to 2 is accepted.
 accepted-update : UpdateCall handle words (floats one64 one64) (floats two half) (visited 2) (0 ∷ 1 ∷ []) (0 ∷ []) (two ∷ []) Updated.Done
@@ -139,6 +139,7 @@ accepted-update = record {
     kept = λ q e. let z : _≡_ {A = ℕ} 0 1 = cc in absurd (omega arith);
     size = refl;
   };
+  unsound = λ e. let z : _≡_ {A = ℕ} 0 1 = cc in absurd (omega arith);
 }
 
 -- The calls, each with what the one before left.

@@ -9,6 +9,7 @@ use lib.ListN.{length}
 use lib.Ieee.{Float}
 use Rattle.store.specs.Region.{Kept}
 use Rattle.store.proofs.store.Region.{kept-self}
+use Rattle.pattern.proofs.pattern.Number.{not-both}
 use Rattle.options.specs.declared.options.Handle.{Handle}
 use Rattle.solver.specs.declared.solver.LinearSolverOptions.{LinearSolverOptions}
 use Rattle.refusal.specs.Refusal.{unsoundStores}
@@ -27,12 +28,12 @@ view-same levels w k = view-stays k levels w (omega arith)
 pub solve-sound : {h : Handle} {w : List ℕ} {F G : List Float} {t u : List ℕ} {rhs x y : List Float} {s : LinearSolverOptions} {r : Solved}
     → soundOf h w (length F) (length t / 4) ≡ true → SolveDone h w F G t u x y (solvedAt h w F t rhs x s) r
     → SolveCall h w F G t u rhs x y s r
-solve-sound {h} {w} e d = record { done = rw e d; view = view-same (h .levels) w (d .floats) }
+solve-sound {h} {w} e d = record { done = rw e d; view = view-same (h .levels) w (d .floats); unsound = λ f. absurd (not-both e f) }
 
 -- It does not: nothing is written.
 pub solve-unsound : {h : Handle} {w : List ℕ} {F : List Float} {t : List ℕ} {rhs x : List Float} {s : LinearSolverOptions}
     → soundOf h w (length F) (length t / 4) ≡ false → SolveCall h w F F t t rhs x x s (Solved.Refused unsoundStores)
-solve-unsound e = record { done = rw e (record { answer = refl; solution = refl; statistics = refl; floats = kept-self }); view = refl }
+solve-unsound e = record { done = rw e (record { answer = refl; solution = refl; statistics = refl; floats = kept-self }); view = refl; unsound = λ _. refl }
 
 -- No solve depends on a scratch word: of two stores of one size with the same hierarchy, each gives the other's answer, solution and statistics.
 pub solve-free : (h : Handle) (w : List ℕ) (F G : List Float) (t : List ℕ) (rhs x : List Float) (s : LinearSolverOptions)

@@ -7,6 +7,7 @@ use Prim.Native.Nat.{ℕ, _/_}
 use lib.ListN.{length}
 use lib.Ieee.{Float}
 use Rattle.store.proofs.store.Region.{kept-self}
+use Rattle.pattern.proofs.pattern.Number.{not-both}
 use Rattle.options.specs.declared.options.Handle.{Handle}
 use Rattle.refusal.specs.Refusal.{unsoundStores}
 use Rattle.layout.specs.Layout.{viewOf}
@@ -19,12 +20,12 @@ use Rattle.multigrid.specs.UpdatingCall.{updatedOf, UpdateCall}
 pub update-sound : {h : Handle} {w : List ℕ} {F G : List Float} {t offsets columns : List ℕ} {values : List Float} {r : Updated}
     → soundOf h w (length F) (length t / 4) ≡ true → UpdateDone h w F G (updatedAt h w F offsets columns values) r
     → UpdateCall h w F G t offsets columns values r
-update-sound e d = record { done = rw e d }
+update-sound e d = record { done = rw e d; unsound = λ f. absurd (not-both e f) }
 
 -- It does not: nothing is written.
 pub update-unsound : {h : Handle} {w : List ℕ} {F : List Float} {t offsets columns : List ℕ} {values : List Float}
     → soundOf h w (length F) (length t / 4) ≡ false → UpdateCall h w F F t offsets columns values (Updated.Refused unsoundStores)
-update-unsound e = record { done = rw e (record { answer = refl; view = refl; kept = λ _ _. kept-self; size = refl }) }
+update-unsound e = record { done = rw e (record { answer = refl; view = refl; kept = λ _ _. kept-self; size = refl }); unsound = λ _. refl }
 
 -- No update depends on a scratch word: of two stores of one size with the same hierarchy, each gives the other's answer and hierarchy.
 pub update-free : (h : Handle) (w : List ℕ) (F G : List Float) (t offsets columns : List ℕ) (values : List Float)
