@@ -29,10 +29,9 @@ use Rattle.index_check.specs.declared.sound.Walk.{Walk}
 use Rattle.index_check.specs.Sound.{walkOf, scratchEnd}
 use Rattle.index_check.proofs.sound.Facts.{Here, Passed, passed, endsOf, targetsOf, sumsOf}
 use Rattle.cycle.specs.declared.visit.Inner.{Inner}
-use Rattle.cycle.specs.Visit as visit
-use Rattle.cycle.specs.Visit.{InnerOk, rhsAt, xAt, residualAt, residualPlace, matrixAt, smoothedAt}
+use Rattle.cycle.specs.Visit.{InnerOk, rhsAt, xAt, residualAt, residualPlace, matrixAt, residualIn, smoothedAt}
 use Rattle.cycle.proofs.visit.Laws.{accepts, not-both, kernel-same, residual-ends}
-use Rattle.cycle.specs.Cycle.{Cycled, cycled, countOf, visited, swept, rowsFirst, residualIn, correctedOf, endOf, upOf, cycleOf}
+use Rattle.cycle.specs.Cycle.{Cycled, cycled, countOf, visited, swept, rowsFirst, residualAfter, corrected, endOf, upOf, cycleOf}
 use Rattle.cycle.specs.Contract.{cycleAt, CycleOk, CycleDone, levelIn, innerIn, nextIn, innerAt, PlaceOk, EndOk, StepOk}
 use Rattle.cycle.specs.Contract.{Visited, DownDone, endAt, upAt}
 
@@ -272,11 +271,11 @@ module _ (o : MultigridOptions) (w : List ℕ) (F : List Float) (depth a b s : �
   -- the deeper levels' outcome, from the residual that y leaves and so many rows
   abbrev deepOf : ℕ → List Float → Outcome Cycled
   deepOf n y =
-      cycleOf o deeper (depth + 1) (restrictOf n rows (part (I .links) rows w) (visit.residualIn w F I pre y)) (filled n zero64) (visited depth t)
+      cycleOf o deeper (depth + 1) (restrictOf n rows (part (I .links) rows w) (residualIn w F I pre y)) (filled n zero64) (visited depth t)
 
   -- the way up from what they gave
   abbrev afterOf : List Float → Cycled → Outcome Cycled
-  afterOf y d = upOf o (innerIn w F (locate w a b)) depth (rhsAt s rows F) (visit.residualIn w F I pre y) y d
+  afterOf y d = upOf o (innerIn w F (locate w a b)) depth (rhsAt s rows F) (residualIn w F I pre y) y d
 
   -- down, the deeper levels, and up
   abbrev innerOf : ℕ → Outcome Cycled
@@ -284,7 +283,7 @@ module _ (o : MultigridOptions) (w : List ℕ) (F : List Float) (depth a b s : �
 
   -- Another level goes down, deeper and up.
   cycle-inner : cycleOf o (innerIn w F (locate w a b) ∷ deeper) depth (rhsAt s rows F) (xAt s rows F) t ≡ innerOf (rowsFirst deeper)
-  unfolding cycleOf residualIn visit.residualOf kernelAt
+  unfolding cycleOf residualAfter kernelAt
   cycle-inner = refl
 
 -- ---- the way up, by what it reads
@@ -293,7 +292,7 @@ module _ (o : MultigridOptions) (depth n : ℕ) (links : List ℕ) where
   -- the way up of a level from its matrix, DIC reciprocals, right-hand side, residual, the next level's x, x and counters
   abbrev upWith : Kernel → List Float → List Float → List Float → List Float → List Float → List ℕ → Outcome Cycled
   upWith k dic rhs r e x u =
-      _>>=_ (_>>=_ (visit.correctedOf (o .«scale_correction») k r (prolongOf n links e) x) (λ y. smoothOf k dic rhs (o .smoother) (postSweepsOf o depth) y))
+      _>>=_ (_>>=_ (corrected (o .«scale_correction») k r (prolongOf n links e) x) (λ y. smoothOf k dic rhs (o .smoother) (postSweepsOf o depth) y))
       (λ z. accepted (cycled z (swept depth (preSweepsOf o depth + postSweepsOf o depth) u)))
 
   -- It depends on nothing else.
@@ -306,11 +305,11 @@ up-chain : (o : MultigridOptions) (w : List ℕ) (F : List Float) (depth a b s :
     → upWith o depth (rowsAt w a) (part (locate w a b .links) (rowsAt w a) w) (matrixAt w F (innerAt w a b s)) (part (locate w a b .dic) (rowsAt w a) F)
     (rhsAt s (rowsAt w a) F) r (d .x) x (d .counts)
     ≡ upOf o (innerIn w F (locate w a b)) depth (rhsAt s (rowsAt w a) F) r x d
-unfolding upOf correctedOf visit.correctedOf kernelAt
+unfolding upOf corrected kernelAt
 up-chain o w F depth a b s r x d =
     let P = locate w a b in
     let n = rowsAt w a in
-    bind-on (visit.correctedOf (o .«scale_correction») (matrixAt w F (innerAt w a b s)) r (prolongOf n (part (P .links) n w) (d .x)) x)
+    bind-on (corrected (o .«scale_correction») (matrixAt w F (innerAt w a b s)) r (prolongOf n (part (P .links) n w) (d .x)) x)
     (λ y. smoothOf (matrixAt w F (innerAt w a b s)) (part (P .dic) n F) (rhsAt s n F) (o .smoother) (postSweepsOf o depth) y)
     (λ z. accepted (cycled z (swept depth (preSweepsOf o depth + postSweepsOf o depth) (d .counts))))
 
@@ -429,7 +428,7 @@ module _ (o : MultigridOptions) (left : ℕ) (w : List ℕ) (F : List Float) (t 
           (part (s + 5 * n + rowsAt w (wordsEnd w a)) (rowsAt w (wordsEnd w a)) D) (visited depth t)) same-levels
           ∙ ap (λ (k : ℕ). cycleOf o deeper (depth + 1) (part (s + 5 * n) k D) (part (s + 5 * n + k) k D) (visited depth t)) (sym next)
           ∙ ap (λ (z : List Float). cycleOf o deeper (depth + 1) z (part (s + 5 * n + N) N D) (visited depth t)) (l .rhs)
-          ∙ ap (λ (z : List Float). cycleOf o deeper (depth + 1) (restrictOf N n (part (P .links) n w) (visit.residualIn w F g (preSweepsOf o depth) (y-as .0))) z (visited depth t))
+          ∙ ap (λ (z : List Float). cycleOf o deeper (depth + 1) (restrictOf N n (part (P .links) n w) (residualIn w F g (preSweepsOf o depth) (y-as .0))) z (visited depth t))
           (l .zeros)
 
       -- The cycle after the way down.
@@ -472,13 +471,13 @@ module _ (o : MultigridOptions) (left : ℕ) (w : List ℕ) (F : List Float) (t 
             let dic : part (P .dic) n E ≡ part (P .dic) n F = kept-part low (P .dic) n (ok' .dics) in
             let rhs : rhsAt s n E ≡ rhsAt s n F = kept-part held s n (omega arith) in
             let l = d .down .visit .left y (y-as .1) in
-            let res : residualAt s n pre' E ≡ visit.residualIn w F g pre' y =
+            let res : residualAt s n pre' E ≡ residualIn w F g pre' y =
             kept-part (c' .floats) (residualPlace s n pre') n (omega (arith, residual-ends s n pre')) ∙ l .residual in
             let xs : xAt s n E ≡ y = kept-part (c' .floats) (s + n) n (omega arith) ∙ d .down .visit .moved .x y (y-as .1) in
             let cx : part (s + 5 * n + N) N E ≡ z .x =
             ap (λ (k : ℕ). part (s + 5 * n + k) k E) (next-is ok more) ∙ c' .x z (same ∙ z-as .1) in
             let cu : u ≡ z .counts = c' .counts z (same ∙ z-as .1) in
-            up-same o depth n (part (P .links) n w) kernel dic rhs res cx xs cu ∙ up-chain o w F depth a b s (visit.residualIn w F g pre' y) y z
+            up-same o depth n (part (P .links) n w) kernel dic rhs res cx xs cu ∙ up-chain o w F depth a b s (residualIn w F g pre' y) y z
 
         -- The way up.
         pub done-up : CycleDone o left w F G t u' depth a b s r

@@ -1,5 +1,5 @@
 -- `cycle` of cycle.rs over lists: one visit of each level, with questions 24 to 27 in the order of the Rust. Definitions only.
-use mathlib.Core.Bool.{cond}
+use mathlib.Core.Bool.{Bool, cond}
 use mathlib.Core.List.{List, [], _∷_}
 use Prim.Native.Nat.{ℕ, _+_, _*_, min}
 use lib.Dec.{eqb}
@@ -62,21 +62,20 @@ abbrev pub ended : Level → List Float → Outcome (List Float)
 ended l rhs =
     terminalOf (rowsIn l) (l .numbers .inverse) (length (l .shape .links)) (l .shape .links) (l .numbers .factor) rhs
 
--- `residual` of cycle.rs: with no sweeps before, x is zero and the residual is the right-hand side itself
-unfoldable pub residualIn : Level → ℕ → List Float → List Float → List Float
-residualIn l sweeps rhs x = cond (eqb sweeps 0) rhs (subtractOf (rowsIn l) rhs (applyOf (kernelIn l) x))
+-- `residual` of cycle.rs, after so many sweeps: with none, x is zero and the residual is the right-hand side itself
+unfoldable pub residualAfter : Kernel → ℕ → List Float → List Float → List Float
+residualAfter k sweeps rhs x = cond (eqb sweeps 0) rhs (subtractOf (k .rows) rhs (applyOf k x))
 
 -- x with the scaled correction e and the Jacobi step: questions 26 and 27
-abbrev pub scaled : Level → List Float → List Float → List Float → Outcome (List Float)
-scaled l residual e x = do
-  let n = rowsIn l
-  let product = applyOf (kernelIn l) e
-  factor ← correctionFactorOf n e residual product
-  accepted (addScaledOf n factor e residual product (l .numbers .inverse) x)
+abbrev pub scaledCorrection : Kernel → List Float → List Float → List Float → Outcome (List Float)
+scaledCorrection k residual e x = do
+  let product = applyOf k e
+  factor ← correctionFactorOf (k .rows) e residual product
+  accepted (addScaledOf (k .rows) factor e residual product (k .inverse) x)
 
--- x with the correction e, scaled if the controls say so
-unfoldable pub correctedOf : MultigridOptions → Level → List Float → List Float → List Float → Outcome (List Float)
-correctedOf o l residual e x = cond (o .«scale_correction») (scaled l residual e x) (accepted (addPlainOf (rowsIn l) e x))
+-- x with the correction e, scaled or as it is
+unfoldable pub corrected : Bool → Kernel → List Float → List Float → List Float → Outcome (List Float)
+corrected scale k residual e x = cond scale (scaledCorrection k residual e x) (accepted (addPlainOf (k .rows) e x))
 
 -- ---- the levels
 
@@ -98,7 +97,7 @@ module _ (o : MultigridOptions) where
   -- the way up: the correction d of the levels below is brought to the level's rows, added to x, and smoothed
   unfoldable pub upOf : Level → ℕ → List Float → List Float → List Float → Cycled → Outcome Cycled
   upOf l depth rhs residual x d = do
-    y ← correctedOf o l residual (prolongOf (rowsIn l) (l .shape .links) (d .x)) x
+    y ← corrected (o .«scale_correction») (kernelIn l) residual (prolongOf (rowsIn l) (l .shape .links) (d .x)) x
     z ← smoothed o l (postSweepsOf o depth) rhs y
     accepted (cycled z (swept depth (preSweepsOf o depth + postSweepsOf o depth) (d .counts)))
 
@@ -110,7 +109,7 @@ module _ (o : MultigridOptions) where
       (do
         let pre = preSweepsOf o depth
         y ← smoothed o l pre rhs x
-        let residual = residualIn l pre rhs y
+        let residual = residualAfter (kernelIn l) pre rhs y
         let n = rowsFirst deeper
         d ← cycleOf deeper (depth + 1) (restrictOf n (rowsIn l) (l .shape .links) residual) (filled n zero64) (visited depth t)
         upOf l depth rhs residual y d)

@@ -1,3 +1,3 @@
-pub mod Visit
 pub mod Cycle
+pub mod Visit
 pub mod Contract

@@ -13,32 +13,13 @@ use Rattle.store.specs.Vector.{filled}
 use Rattle.options.specs.declared.options.MultigridSmoother.{MultigridSmoother}
 use Rattle.refusal.specs.declared.Verdict.{Verdict}
 use Rattle.refusal.specs.Outcome.{Outcome, accepted, verdictOf, _>>=_}
-use Rattle.matrix.specs.Kernel.{Kernel, KernelOk, kernelAt, applyOf}
+use Rattle.matrix.specs.Kernel.{Kernel, KernelOk, kernelAt}
 use Rattle.smoother.specs.Smooth.{smoothOf}
 use Rattle.correction.specs.Transfer.{restrictOf, prolongOf}
-use Rattle.correction.specs.Correction.{subtractOf, addPlainOf}
-use Rattle.correction.specs.Scaled.{addScaledOf}
-use Rattle.correction.specs.Scaling.{correctionFactorOf}
 use Rattle.cycle.specs.declared.visit.Inner.{Inner}
+use Rattle.cycle.specs.Cycle.{residualAfter, scaledCorrection, corrected}
 
--- ---- vectors of a level, over lists
-
--- the residual of x after so many sweeps: with none, x is zero and the residual is the right-hand side itself
-unfoldable pub residualOf : Kernel → ℕ → List Float → List Float → List Float
-residualOf k sweeps rhs x = cond (eqb sweeps 0) rhs (subtractOf (k .rows) rhs (applyOf k x))
-
--- x with the scaled correction e and the Jacobi step: questions 26 and 27
-abbrev pub scaledOf : Kernel → List Float → List Float → List Float → Outcome (List Float)
-scaledOf k residual e x = do
-  let product = applyOf k e
-  factor ← correctionFactorOf (k .rows) e residual product
-  accepted (addScaledOf (k .rows) factor e residual product (k .inverse) x)
-
--- x with the correction e, scaled or as it is
-unfoldable pub correctedOf : Bool → Kernel → List Float → List Float → List Float → Outcome (List Float)
-correctedOf scale k residual e x = cond scale (scaledOf k residual e x) (accepted (addPlainOf (k .rows) e x))
-
--- ---- the same in the store
+-- ---- a level's vectors in the store
 
 -- The vectors of a level of n rows stand from s on: right-hand side, x, work (which also holds the residual), correction, product.
 abbrev pub rhsAt : ℕ → ℕ → List Float → List Float
@@ -67,7 +48,7 @@ module _ (w : List ℕ) (F : List Float) (g : Inner) where
 
   -- the residual of x after so many sweeps
   abbrev pub residualIn : ℕ → List Float → List Float
-  residualIn sweeps x = residualOf matrixAt sweeps (rhsAt (g .start) (g .matrix .rows) F) x
+  residualIn sweeps x = residualAfter matrixAt sweeps (rhsAt (g .start) (g .matrix .rows) F) x
 
   -- so many sweeps on x: question 25
   abbrev pub smoothedIn : MultigridSmoother → ℕ → List Float → Outcome (List Float)
@@ -81,13 +62,13 @@ module _ (w : List ℕ) (F : List Float) (g : Inner) where
   -- x with the correction that stands there and the residual after so many sweeps, scaled
   abbrev pub scaledAt : ℕ → Outcome (List Float)
   scaledAt sweeps =
-      scaledOf matrixAt (residualAt (g .start) (g .matrix .rows) sweeps F) (correctionAt (g .start) (g .matrix .rows) F)
+      scaledCorrection matrixAt (residualAt (g .start) (g .matrix .rows) sweeps F) (correctionAt (g .start) (g .matrix .rows) F)
       (xAt (g .start) (g .matrix .rows) F)
 
   -- x with the correction e and the residual after so many sweeps, scaled or as it is
   abbrev pub correctedIn : Bool → ℕ → List Float → Outcome (List Float)
   correctedIn scale sweeps e =
-      correctedOf scale matrixAt (residualAt (g .start) (g .matrix .rows) sweeps F) e (xAt (g .start) (g .matrix .rows) F)
+      corrected scale matrixAt (residualAt (g .start) (g .matrix .rows) sweeps F) e (xAt (g .start) (g .matrix .rows) F)
 
   -- the same of the correction that stands there
   abbrev pub correctedAt : Bool → ℕ → Outcome (List Float)

@@ -17,7 +17,7 @@ use Rattle.refusal.specs.Outcome.{Outcome, accepted, refused, ask, _>>=_}
 use Rattle.solver.specs.Solver.{thresholdOf}
 use Rattle.correction.specs.Transfer.{restrictOf, prolongOf}
 use Rattle.hierarchy.specs.Level.{Level}
-use Rattle.cycle.specs.Cycle.{Cycled, cycled, visited, iterated, rowsIn, rowsFirst, smoothed, ended, residualIn, correctedOf, endOf, upOf, cycleOf}
+use Rattle.cycle.specs.Cycle.{Cycled, cycled, visited, iterated, rowsIn, rowsFirst, smoothed, ended, kernelIn, residualAfter, corrected, endOf, upOf, cycleOf}
 use Rattle.iterations.specs.Iteration.{State, System, residualOf, measuredOf, movedOf, stepOf}
 use Rattle.solve.specs.Input.{lengthsOk, inputOk}
 use Rattle.iterations.specs.Iterate.{Solution, solution, iterateOf, answerOf}
@@ -75,7 +75,7 @@ module _ (o : MultigridOptions) where
       → seen xOf (upOf o l depth rhs residual x c) ≡ seen xOf (upOf o l depth rhs residual x d)
   unfolding upOf
   up-alike l depth rhs residual x c d e =
-      rw e (onward xOf (correctedOf o l residual (prolongOf (rowsIn l) (l .shape .links) (d .x)) x) _ _
+      rw e (onward xOf (corrected (o .«scale_correction») (kernelIn l) residual (prolongOf (rowsIn l) (l .shape .links) (d .x)) x) _ _
       (λ y. onward xOf (smoothed o l (postSweepsOf o depth) rhs y) _ _ (λ z. refl)))
 
   -- nor that of a whole cycle.
@@ -90,7 +90,7 @@ module _ (o : MultigridOptions) where
       either xOf (l .shape .terminal) _ _ _ _ (end-alike l depth rhs (visited depth t) (visited depth u))
       (onward xOf (smoothed o l pre rhs x) _ _
       (λ y.
-      let residual = residualIn l pre rhs y in
+      let residual = residualAfter (kernelIn l) pre rhs y in
       let restricted = restrictOf n (rowsIn l) (l .shape .links) residual in
       let below : List ℕ → Outcome Cycled = cycleOf o deeper (depth + 1) restricted zeros in
       let up : Cycled → Outcome Cycled = upOf o l depth rhs residual y in

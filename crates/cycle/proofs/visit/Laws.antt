@@ -30,7 +30,8 @@ use Rattle.correction.specs.Scaling.{ProductsOk, correctionFactorOf, factorOf}
 use Rattle.correction.specs.Correction.{SubtractOk, subtractOf, addPlainOf}
 use Rattle.correction.specs.Scaled.{ScaledOk, addScaledOf}
 use Rattle.cycle.specs.declared.visit.Inner.{Inner}
-use Rattle.cycle.specs.Visit.{residualOf, correctedOf, rhsAt, xAt, correctionAt, residualPlace, residualAt, matrixAt, residualIn}
+use Rattle.cycle.specs.Cycle.{residualAfter, corrected}
+use Rattle.cycle.specs.Visit.{rhsAt, xAt, correctionAt, residualPlace, residualAt, matrixAt, residualIn}
 use Rattle.cycle.specs.Visit.{smoothedAt, scaledAt, correctedIn, correctedAt, broughtAt, raisedAt}
 use Rattle.cycle.specs.Visit.{InnerOk, Moved, Resided, Left, Restricted, Downed}
 
@@ -145,7 +146,7 @@ residual-clear s n sweeps = go (eqb sweeps 0)
 
 -- The residual with no sweeps before.
 pub resided-none : (w : List ℕ) (F : List Float) (g : Inner) {sweeps : ℕ} → sweeps ≡ 0 → Resided w F F g sweeps
-unfolding residualOf
+unfolding residualAfter
 resided-none w F g {sweeps} e = record { is = rw (eq-eqb sweeps 0 e); floats = kept-self }
 
 -- What the product of x requires.
@@ -167,7 +168,7 @@ module _ {w : List ℕ} {F G : List Float} {g : Inner} (ok : InnerOk w (length F
       → Wrote (g .start + 2 * g .matrix .rows) (g .matrix .rows)
       (subtractOf (g .matrix .rows) (part (g .start) (g .matrix .rows) G) (part (g .start + 4 * g .matrix .rows) (g .matrix .rows) G)) G H
       → Resided w F H g sweeps
-  unfolding residualOf kernelAt
+  unfolding residualAfter kernelAt
   resided-some {H} {sweeps} e h =
       let n = g .matrix .rows in
       let s = g .start in
@@ -369,7 +370,7 @@ module _ {w : List ℕ} {F G : List Float} {from : ℕ} (sweeps : ℕ) {g : Inne
 -- The correction scaled, where that is asked for,
 pub correct-scaled : (w : List ℕ) {F G : List Float} (g : Inner) {scale : Bool} (sweeps : ℕ) {r : Verdict} → scale ≡ true
     → Moved (g .start) (g .matrix .rows) (scaledAt w F g sweeps) F G r → Moved (g .start) (g .matrix .rows) (correctedAt w F g scale sweeps) F G r
-unfolding correctedOf
+unfolding corrected
 correct-scaled w g sweeps e m = rw e m
 
 -- What the plain sum requires.
@@ -382,7 +383,7 @@ pub correct-plain : {w : List ℕ} {F G : List Float} {g : Inner} {scale : Bool}
     → Wrote (g .start + g .matrix .rows) (g .matrix .rows)
     (addPlainOf (g .matrix .rows) (part (g .start + 3 * g .matrix .rows) (g .matrix .rows) F) (part (g .start + g .matrix .rows) (g .matrix .rows) F)) F G
     → Moved (g .start) (g .matrix .rows) (correctedAt w F g scale sweeps) F G Verdict.Passed
-unfolding correctedOf kernelAt
+unfolding corrected kernelAt
 correct-plain {w} {F} {G} {g} sweeps ok e h =
     rw e (record {
       answer = refl;
