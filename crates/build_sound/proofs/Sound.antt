@@ -134,7 +134,7 @@ module _ (l : Lent) (x : Input) {h : Hierarchy} (b : Built l x h) where
   levels-are = sym (levels-kept (x .options) (b .levels)) ∙ ap (λ (k : Hierarchy). k .levels) (b .is)
 
   -- Its levels are laid,
-  levels-laid : Laid (x .options .«coarsest_cells») (patternIn x) (h .levels)
+  pub levels-laid : Laid (x .options .«coarsest_cells») (patternIn x) (h .levels)
   levels-laid =
       let o = x .options in
       subst (Laid (o .«coarsest_cells») (patternIn x)) levels-are

@@ -1,0 +1,6 @@
+pub mod Dense
+pub mod Down
+pub mod Kernel
+pub mod Steps
+pub mod Finest
+pub mod Theorem
