@@ -4,15 +4,18 @@ use mathlib.Core.Path.{_≡_, refl, sym, ap, _∙_, subst, fun-ext}
 use mathlib.Core.List.{List, [], _∷_}
 use Prim.Native.Nat.{ℕ, zero, suc, _<_}
 use native.Mathlib.Omega.{arith}
+use lib.Dec.{eqb}
 use lib.IntN.{ℤ}
 use lib.ListN.{drop}
 use Rattle.store.specs.Region.{idx}
-use Rattle.galerkin.specs.Product.{dense, galerkinProduct}
+use Rattle.galerkin.specs.Product.{when, dense, galerkinProduct}
+use Rattle.galerkin.proofs.exact.Sums.{Σ-same}
 use Rattle.galerkin.proofs.exact.Product.{entrySum, product-is}
-use Rattle.pattern.specs.Pattern.{Pattern, entries, rowOf, columnOf, Valid, coarse}
+use Rattle.pattern.specs.Pattern.{Pattern, entries, rowOf, columnOf, Valid, Maps, composeOf}
 use Rattle.pattern.proofs.pattern.Row.{row-in}
-use Rattle.galerkin_theorem.specs.Theorem.{fineMatrix}
+use Rattle.galerkin_theorem.specs.Theorem.{fineMatrix, coarseMatrix}
 use Rattle.hierarchy.specs.Level.{Shape, Level}
+use Rattle.hierarchy.proofs.Twice.{compose-at}
 use Rattle.build_sound.specs.Laid.{Laid}
 use Rattle.galerkin_levels.specs.Levels.{Matrix, MatrixIs, productOf, Galerkin, composed}
 
@@ -21,6 +24,28 @@ pub product-dense : (n m : ℕ) (map row column : ℕ → ℕ) (z : ℕ → ℤ)
     → galerkinProduct n map (dense m row column z) ≡ dense m (λ e. map (row e)) (λ e. map (column e)) z
 unfolding entrySum dense
 product-dense n m map row column z rows columns = fun-ext (λ c. fun-ext (λ d. product-is n m map row column z rows columns c d))
+
+-- Entries in the same rows and columns are the same matrix.
+dense-same : (m : ℕ) (row row' column column' : ℕ → ℕ) (z : ℕ → ℤ) → ((e : ℕ) → e < m → row e ≡ row' e) → ((e : ℕ) → e < m → column e ≡ column' e)
+    → dense m row column z ≡ dense m row' column' z
+unfolding dense
+dense-same m row row' column column' z rows columns = fun-ext (λ i. fun-ext (λ j.
+    Σ-same m (λ e. when (eqb (row e) i) (when (eqb (column e) j) (z e))) (λ e. when (eqb (row' e) i) (when (eqb (column' e) j) (z e)))
+    (λ e h. rw (rows e h, columns e h))))
+
+-- Two Galerkin products one after the other are one, with the map of the first followed by that of the second.
+pub product-twice : {p : Pattern} {map : List ℕ} {count : ℕ} → Valid p → Maps map (p .rows) count → (next : List ℕ) (z : ℕ → ℤ)
+    → galerkinProduct count (idx next) (coarseMatrix p map z) ≡ coarseMatrix p (composeOf (p .rows) map next) z
+product-twice {p} {map} {count} valid maps next z =
+    let m = entries p in
+    let rows : (e : ℕ) → e < m → rowOf p e < p .rows = λ e h. row-in valid e h .0 in
+    let both = composeOf (p .rows) map next in
+    ap (galerkinProduct count (idx next)) (product-dense (p .rows) m (idx map) (rowOf p) (λ e. columnOf p e) z rows (valid .inside))
+    ∙ product-dense count m (idx next) (λ e. idx map (rowOf p e)) (λ e. idx map (columnOf p e)) z
+    (λ e h. maps .below (rowOf p e) (rows e h)) (λ e h. maps .below (columnOf p e) (valid .inside e h))
+    ∙ dense-same m (λ e. idx next (idx map (rowOf p e))) (λ e. idx both (rowOf p e)) (λ e. idx next (idx map (columnOf p e))) (λ e. idx both (columnOf p e)) z
+    (λ e h. sym (compose-at (p .rows) map next (rowOf p e) (rows e h))) (λ e h. sym (compose-at (p .rows) map next (columnOf p e) (valid .inside e h)))
+    ∙ sym (product-dense (p .rows) m (idx both) (rowOf p) (λ e. columnOf p e) z rows (valid .inside))
 
 -- The first level's matrix.
 galerkin-head : {A : Matrix} {levels : List Level} → Galerkin A levels → {l : Level} {rest : List Level} → levels ≡ l ∷ rest → MatrixIs l A

@@ -15,8 +15,9 @@ use Rattle.matrix.specs.Kernel.{Kernel}
 use Rattle.pattern.specs.Pattern.{Pattern}
 use Rattle.galerkin.specs.Whole.{Whole}
 use Rattle.galerkin.specs.Product.{galerkinProduct}
-use Rattle.galerkin_theorem.specs.Theorem.{fineMatrix}
+use Rattle.galerkin_theorem.specs.Theorem.{fineMatrix, coarseMatrix, Exactly}
 use Rattle.hierarchy.specs.Level.{Level, kernelOf}
+use Rattle.hierarchy.specs.Build.{Merged}
 
 -- ---- the matrix of a level
 
@@ -47,10 +48,16 @@ pub record MatrixIs (l : Level) (A : Matrix) : Type 0 where
 abbrev pub productOf : Level → Matrix → Matrix
 productOf l A = galerkinProduct (l .shape .pattern .rows) (idx (l .shape .links)) A
 
--- The matrix of the first level is exactly A, and each other level's exactly Pᵀ A P of the level above, with the aggregates of that.
+-- The matrix of the first level is exactly A, and each other level's exactly Pᵀ A P of the level above, with the aggregates of that; where
+-- merged steps made the level, these are the aggregates of all of them together.
 pub data Galerkin : Matrix → List Level → Type 0 where
   last : {A : Matrix} {l : Level} → MatrixIs l A → Galerkin A (l ∷ [])
   inner : {A : Matrix} {l next : Level} {rest : List Level} → MatrixIs l A → Galerkin (productOf l A) (next ∷ rest) → Galerkin A (l ∷ next ∷ rest)
+
+-- What merged steps have made of a level with the pattern p and the whole values z is exactly Pᵀ A P of the level's matrix A, with the
+-- transfer P of the map so far.
+pub record MergedIs (p : Pattern) (z : ℕ → ℤ) (s : Merged) : Type 0 where
+  pub exact : Exactly (s .mesh .pattern) (s .mesh .values) (coarseMatrix p (s .map) z)
 
 -- ---- from the finest
 
