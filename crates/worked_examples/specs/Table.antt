@@ -4,18 +4,20 @@ use mathlib.Core.List.{List, [], _∷_}
 use Prim.Native.Nat.{ℕ}
 use lib.Dec.{eqb}
 use lib.IntN.{ℤ, pos, negℤ}
+use lib.ListN.{length}
 use lib.Ieee.{Float, binary64, ofBits, ofInt, toBits}
 use Rattle.float.specs.Float.{zero64, one64}
 use Rattle.float.specs.Sqrt.{sqrtOf}
 use Rattle.store.specs.Vector.{filled}
 use Rattle.aggregation.specs.Pairs.{Weighted, weighted, strengthsOf, pairsOf}
-use Rattle.pattern.specs.Pattern.{Pattern, entries, coarseOffsets, coarseColumns, coarsePositions}
-use Rattle.galerkin.specs.Values.{galerkinOf}
+use Rattle.pattern.specs.Pattern.{Pattern, entries}
 use Rattle.matrix.specs.Kernel.{Kernel}
 use Rattle.dic.specs.Dic.{dicOf}
 use Rattle.gauss_seidel.specs.Sweep.{gaussSeidelOf}
-use Rattle.cholesky.specs.Factor.{Csr, choleskyOf}
-use Rattle.refusal.specs.Outcome.{Outcome, accepted, refused}
+use Rattle.cholesky.specs.Factor.{choleskyOf}
+use Rattle.hierarchy.specs.Level.{kernelOf, csrOf}
+use Rattle.hierarchy.specs.Build.{Mesh, kernelAsked, coarsened, lastShape}
+use Rattle.refusal.specs.Outcome.{Outcome, accepted, refused, _>>=_}
 use Rattle.options.specs.Options.{defaultOptions}
 use Rattle.options.specs.Counts.{preSweepsOf, postSweepsOf}
 use Rattle.options.specs.declared.options.MultigridOptions.{MultigridOptions}
@@ -74,7 +76,9 @@ unfolding bits
 acceptedBits (accepted v) = bits v
 acceptedBits (refused q) = []
 
--- the pattern of the path of 4 rows, of the path of 3, and of the faces 0-1, 0-2, 2-3, each row with its diagonal
+-- ---- the matrices, each as a build takes it
+
+-- the pattern of the path of 4 rows, of the path of 3, of the faces 0-1, 0-2, 2-3, and of two joined rows, each row with its diagonal
 abbrev pub path4 : Pattern
 path4 = record { rows = 4; offsets = 0 ∷ 2 ∷ 5 ∷ 8 ∷ 10 ∷ []; columns = 0 ∷ 1 ∷ 0 ∷ 1 ∷ 2 ∷ 1 ∷ 2 ∷ 3 ∷ 2 ∷ 3 ∷ [] }
 
@@ -84,6 +88,42 @@ path3 = record { rows = 3; offsets = 0 ∷ 2 ∷ 5 ∷ 7 ∷ []; columns = 0 ∷
 abbrev pub tree4 : Pattern
 tree4 = record { rows = 4; offsets = 0 ∷ 3 ∷ 5 ∷ 8 ∷ 10 ∷ []; columns = 0 ∷ 1 ∷ 2 ∷ 0 ∷ 1 ∷ 0 ∷ 2 ∷ 3 ∷ 2 ∷ 3 ∷ [] }
 
+abbrev pub joined2 : Pattern
+joined2 = record { rows = 2; offsets = 0 ∷ 2 ∷ 4 ∷ []; columns = 0 ∷ 1 ∷ 0 ∷ 1 ∷ [] }
+
+-- the pattern p with these whole values, and no weights
+abbrev pub matrix : Pattern → List ℤ → Mesh
+matrix p v = record { pattern = p; values = floats v; weights = [] }
+
+-- the paths of 4 and of 3 with diagonal 2 and off-diagonal −1
+abbrev pub pathOf4 : Mesh
+pathOf4 =
+    let d = pos 2 in
+    let a = negℤ (pos 1) in
+    matrix path4 (d ∷ a ∷ a ∷ d ∷ a ∷ a ∷ d ∷ a ∷ a ∷ d ∷ [])
+
+abbrev pub pathOf3 : Mesh
+pathOf3 =
+    let d = pos 2 in
+    let a = negℤ (pos 1) in
+    matrix path3 (d ∷ a ∷ a ∷ d ∷ a ∷ a ∷ d ∷ [])
+
+-- 4, a; a, 2
+abbrev pub twoRows : ℤ → Mesh
+twoRows a = matrix joined2 (pos 4 ∷ a ∷ a ∷ pos 2 ∷ [])
+
+-- P
+abbrev pub P : Mesh
+P = twoRows (negℤ (pos 2))
+
+-- the kernel of a matrix, with the faces of its pattern and the reciprocals of `update`
+abbrev pub kernelIn : Mesh → Outcome Kernel
+kernelIn m = do
+  c ← kernelAsked 0 m
+  accepted (kernelOf (lastShape (m .pattern)) (c .diagonal) (c .inverse) (c .coefficients))
+
+-- ---- the lines
+
 -- the pattern p with these weights
 abbrev pub weigh : Pattern → List Float → Weighted
 weigh p v = weighted (p .rows) (p .offsets) (p .columns) v
@@ -92,40 +132,34 @@ weigh p v = weighted (p .rows) (p .offsets) (p .columns) v
 abbrev pub alike : Pattern → Float → Weighted
 alike p x = weigh p (filled (entries p) x)
 
--- the path of 4 with diagonal 2 and off-diagonal −1
-abbrev pub values4 : List Float
-values4 =
-    let d = pos 2 in
-    let a = negℤ (pos 1) in
-    floats (d ∷ a ∷ a ∷ d ∷ a ∷ a ∷ d ∷ a ∷ a ∷ d ∷ [])
+-- a matrix with the absolute values for weights
+abbrev pub byValues : Mesh → Weighted
+byValues m = weigh (m .pattern) (strengthsOf true (m .values))
 
--- path of 4, up and down, by its absolute values; path of 3, up; faces 0-1, 0-2, 2-3, equal weights, up; all weights zero
+-- path of 4, up and down; path of 3, up; faces 0-1, 0-2, 2-3, equal weights, up; all weights zero, 3 rows
 abbrev pub aggregates : List Bool
 aggregates =
-    same (pairsOf (weigh path4 (strengthsOf true values4)) true .map) (0 ∷ 0 ∷ 1 ∷ 1 ∷ [])
-    ∷ same (pairsOf (weigh path4 (strengthsOf true values4)) false .map) (1 ∷ 1 ∷ 0 ∷ 0 ∷ [])
-    ∷ same (pairsOf (alike path3 one64) true .map) (0 ∷ 0 ∷ 0 ∷ [])
+    same (pairsOf (byValues pathOf4) true .map) (0 ∷ 0 ∷ 1 ∷ 1 ∷ [])
+    ∷ same (pairsOf (byValues pathOf4) false .map) (1 ∷ 1 ∷ 0 ∷ 0 ∷ [])
+    ∷ same (pairsOf (byValues pathOf3) true .map) (0 ∷ 0 ∷ 0 ∷ [])
     ∷ same (pairsOf (alike tree4 one64) true .map) (0 ∷ 0 ∷ 1 ∷ 1 ∷ [])
     ∷ eqb (pairsOf (alike path3 zero64) true .count) 3
     ∷ []
 
--- path of 4, diagonal 2, pairs 0 0 1 1: coarse 2, −1; −1, 2. Its one face is entry 1, whose mirror is entry 2.
+-- path of 4, diagonal 2, pairs 0 0 1 1: coarse 2, −1; −1, 2, as a build without weights makes it
 abbrev pub coarsePath : List Bool
 coarsePath =
-    let map : List ℕ = 0 ∷ 0 ∷ 1 ∷ 1 ∷ [] in
-    same (coarseOffsets path4 map 2) (0 ∷ 2 ∷ 4 ∷ [])
-    ∷ same (coarseColumns path4 map 2) (0 ∷ 1 ∷ 0 ∷ 1 ∷ [])
-    ∷ same (bits (galerkinOf 4 10 (coarsePositions path4 map 2) values4 1 (1 ∷ []) (2 ∷ []))) (bits (floats (pos 2 ∷ negℤ (pos 1) ∷ negℤ (pos 1) ∷ pos 2 ∷ [])))
+    let c = coarsened false pathOf4 (0 ∷ 0 ∷ 1 ∷ 1 ∷ []) 2 in
+    same (c .pattern .offsets) (0 ∷ 2 ∷ 4 ∷ [])
+    ∷ same (c .pattern .columns) (0 ∷ 1 ∷ 0 ∷ 1 ∷ [])
+    ∷ same (bits (c .values)) (bits (floats (pos 2 ∷ negℤ (pos 1) ∷ negℤ (pos 1) ∷ pos 2 ∷ [])))
     ∷ []
 
--- P = 4, −2; −2, 2 by its rows, both of them coupled
-abbrev pub pRows : Csr
-pRows =
-    record {
-      offsets = 0 ∷ 2 ∷ 4 ∷ [];
-      columns = 0 ∷ 1 ∷ 0 ∷ 1 ∷ [];
-      values = floats (pos 4 ∷ negℤ (pos 2) ∷ negℤ (pos 2) ∷ pos 2 ∷ []);
-    }
+-- P factors as 2; −1, 1
+abbrev pub factors : List Bool
+factors =
+    let s = lastShape (P .pattern) in
+    same (acceptedBits (choleskyOf 0 (csrOf s (P .values)) (length (s .links)) (s .links))) (bits (floats (pos 2 ∷ negℤ (pos 1) ∷ pos 1 ∷ []))) ∷ []
 
 -- 0.25, 0.5 and 0.75
 abbrev pub quarter : ℕ
@@ -137,32 +171,24 @@ half = 0x3fe0_0000_0000_0000
 abbrev pub threeQuarters : ℕ
 threeQuarters = 0x3fe8_0000_0000_0000
 
--- 4, a; a, 2 by its one face
-abbrev pub faced : ℤ → Kernel
-faced a =
-    record {
-      rows = 2;
-      diagonal = floats (pos 4 ∷ pos 2 ∷ []);
-      inverse = ofBits binary64 quarter ∷ ofBits binary64 half ∷ [];
-      offsets = 0 ∷ 1 ∷ 1 ∷ [];
-      neighbors = 1 ∷ [];
-      coefficients = floats (a ∷ []);
-    }
-
--- P factors as 2; −1, 1
-abbrev pub factors : List Bool
-factors = same (acceptedBits (choleskyOf 0 pRows 2 (0 ∷ 1 ∷ []))) (bits (floats (pos 2 ∷ negℤ (pos 1) ∷ pos 1 ∷ []))) ∷ []
+-- the DIC inverses of a matrix
+abbrev pub inversesOf : ℕ → Mesh → Outcome (List Float)
+inversesOf level m = do
+  k ← kernelIn m
+  dicOf level k
 
 -- matrix 4, 2; 2, 2: DIC inverses 0.25, 1
 abbrev pub dicInverses : List Bool
-dicInverses = same (acceptedBits (dicOf 0 (faced (pos 2)))) (quarter ∷ toBits binary64 one64 ∷ []) ∷ []
+dicInverses = same (acceptedBits (inversesOf 0 (twoRows (pos 2)))) (quarter ∷ toBits binary64 one64 ∷ []) ∷ []
 
 -- P, right-hand side 2, 0, start 0: one Gauss-Seidel sweep, and a symmetric one
-abbrev pub sweptP : Bool → List Float
-sweptP symmetric = gaussSeidelOf (faced (negℤ (pos 2))) symmetric (floats (pos 2 ∷ pos 0 ∷ [])) (filled 2 zero64) .x
+abbrev pub sweptP : Bool → Outcome (List Float)
+sweptP symmetric = do
+  k ← kernelIn P
+  accepted (gaussSeidelOf k symmetric (floats (pos 2 ∷ pos 0 ∷ [])) (filled 2 zero64) .x)
 
 abbrev pub swept : List Bool
-swept = same (bits (sweptP false)) (half ∷ half ∷ []) ∷ same (bits (sweptP true)) (threeQuarters ∷ half ∷ []) ∷ []
+swept = same (acceptedBits (sweptP false)) (half ∷ half ∷ []) ∷ same (acceptedBits (sweptP true)) (threeQuarters ∷ half ∷ []) ∷ []
 
 -- root of 2; of 2 ^ −1074; of minus zero
 abbrev pub roots : List Bool
