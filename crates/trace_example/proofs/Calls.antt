@@ -1,156 +1,232 @@
--- The calls of specs/Calls.antt can be made, one after the other, after a build with face weights, and the book's build is accepted for
--- each of their solves: the theorem on lists of calls is about something. It holds by computing.
+-- The calls of an example can be made, one after the other, after a build with face weights, and the book's build is accepted for each of
+-- their solves: the theorem on lists of calls is about something. What is left to an example holds by computing.
 -- Assumes nothing.
-use mathlib.Core.Path.{_≡_, refl, sym, _∙_}
-use mathlib.Core.Bool.{true}
-use mathlib.Core.List.{List, [], _∷_}
-use Prim.Native.Nat.{ℕ}
+use mathlib.Core.Path.{_≡_, refl, sym, ap, _∙_}
+use mathlib.Core.Bool.{true, cond}
+use mathlib.Core.List.{List, [], _∷_, _++_}
+use Prim.Native.Nat.{ℕ, _/_}
 use native.Mathlib.Omega.{arith}
-use lib.Ieee.{Float, ofBits, add, sub, mul, div, lt, le, eq, ne}
-use Rattle.float.specs.Float.{zero64, one64, isFinite, maxNum}
-use Rattle.float.specs.Sqrt.{sqrtOf}
-use Rattle.store.specs.Loop.{iter, for}
-use Rattle.store.specs.Region.{part, lay, splice}
-use Rattle.store.specs.Vector.{tab, each, filled}
-use Rattle.options.specs.Options.{validOf}
-use Rattle.refusal.specs.Refusal.{badDiagonal}
-use Rattle.refusal.specs.Outcome.{accepted, askRows}
-use Rattle.refusal.proofs.Outcome.{accepted-one}
-use Rattle.hierarchy.specs.Level.{Hierarchy}
-use Rattle.hierarchy.specs.Build.{buildOf}
-use Rattle.hierarchy.specs.Build as building
-use Rattle.hierarchy.specs.Refresh as refreshing
-use Rattle.coefficients.specs.Mirrors.{mirrorsAgree, mirrorsEqual}
-use Rattle.coefficients.specs.Update.{isPositive, diagonalAsked, updateOf}
-use Rattle.cholesky.specs.Triangle.{tri, lessOf}
-use Rattle.cholesky.specs.Factor as cholesky
-use Rattle.pattern.specs.Pattern as pattern
-use Rattle.faces.specs.Faces as faces
-use Rattle.csr.specs.Questions as csr
-use Rattle.csr.specs.Weights as checkweights
-use Rattle.vector.specs.Dot as dot
-use Rattle.vector.specs.Finite as finite
-use Rattle.matrix.specs.Kernel as matrix
-use Rattle.cholesky.specs.TriangularFactor as factor
-use Rattle.coarse.specs.Terminal as terminal
-use Rattle.correction.specs.Correction as correction
-use Rattle.residual_norm.specs.Measure as measure
-use Rattle.residual_norm.specs.Normalization as normalization
-use Rattle.solver.specs.Solver as solver
-use Rattle.cycle.specs.Cycle as cycle
-use Rattle.layout.specs.Layout as layout
+use lib.ListN.{length}
+use lib.Ieee.{Float}
+use Rattle.float.specs.Float.{zero64}
+use Rattle.store.specs.Region.{lay, splice}
+use Rattle.store.specs.Vector.{filled}
+use Rattle.store.proofs.store.Region.{length-splice}
+use Rattle.store.proofs.store.Vector.{length-tab}
+use Rattle.options.specs.declared.options.Handle.{Handle}
+use Rattle.refusal.specs.Refusal.{unsoundStores}
+use Rattle.refusal.specs.Outcome.{Outcome, accepted, refused}
+use Rattle.refusal.proofs.Outcome.{ask-yes, accepted-one}
+use Rattle.pattern.specs.Pattern.{entries}
+use Rattle.hierarchy.specs.Level.{Level, Hierarchy}
+use Rattle.hierarchy.specs.Build.{Lent, buildOf}
+use Rattle.hierarchy.specs.First.{shapesIn}
+use Rattle.layout.specs.Layout.{viewOf, wordsFit}
+use Rattle.index_check.specs.Sound.{soundOf}
 use Rattle.solver.specs.declared.answers.Built.{Built}
-use Rattle.build.specs.Contract.{lentOf}
-use Rattle.statistics.specs.Fresh as fresh
-use Rattle.index_check.specs.Sound as sound
-use Rattle.iterations.specs.Iteration as iteration
-use Rattle.solve.specs.Input as input
-use Rattle.iterations.specs.Iterate as iterating
-use Rattle.solve.specs.Solve as solve
+use Rattle.solver.specs.declared.answers.Solved.{Solved}
 use Rattle.solver.specs.declared.answers.Updated.{Updated}
-use Rattle.update_levels.specs.Standing as standing
-use Rattle.update_levels.specs.Update as update
+use Rattle.build.specs.Contract.{handleOf, lentOf}
+use Rattle.iterations.specs.Iteration.{systemOf}
+use Rattle.iterations.specs.Iterate.{Solution, answerOf}
+use Rattle.solve.specs.Solve.{solveOf}
+use Rattle.solve.specs.Contract as solve
+use Rattle.solve.proofs.Counters.{same-answer, same-solution}
+use Rattle.update_levels.specs.Update.{updateOf}
 use Rattle.multigrid.specs.New.{NewDone, statisticsOf}
-use Rattle.multigrid.specs.UpdatingCall.{UpdateCall}
-use Rattle.multigrid.specs.SolvingCall.{SolveCall}
+use Rattle.multigrid.specs.UpdatingCall.{updatedOf, UpdateCall}
+use Rattle.multigrid.specs.SolvingCall.{solvedOf, SolveCall}
 use Rattle.multigrid.specs.Trace.{Trace, withValues, Agrees}
-use Rattle.multigrid.proofs.Trace.{refreshed-is-fresh}
-use Rattle.trace_example.specs.Calls.{two, half, cell, handle, asked, converged, calls}
+use Rattle.multigrid.proofs.Trace.{new-sound, refreshed-is-fresh}
+use Rattle.trace_example.specs.Calls.{Answer, Example, calls}
 
--- its hierarchy, once the coefficient is d and its reciprocal i
-abbrev oneCell : Float → Float → Hierarchy
-oneCell d i = record {
-  levels = record {
-    shape = record {
-      pattern = record { rows = 1; offsets = 0 ∷ 1 ∷ []; columns = 0 ∷ [] };
-      starts = 0 ∷ 0 ∷ [];
-      neighbors = [];
-      uppers = [];
-      lowers = [];
-      diagonals = 0 ∷ [];
-      terminal = true;
-      links = [];
-      positions = [];
+-- ---- stores that hold a hierarchy, and zeros wherever else
+
+-- the words of a level
+unfoldable pub levelWords : Level → List ℕ
+levelWords l =
+    let s = l .shape in
+    s .pattern .rows ∷ cond (s .terminal) 1 0 ∷ length (s .links) ∷ s .pattern .offsets ++ s .pattern .columns ++ s .starts ++ s .diagonals
+    ++ s .neighbors ++ s .uppers ++ s .lowers ++ s .links ++ s .positions
+
+-- its floats
+unfoldable pub levelFloats : Level → List Float
+levelFloats l =
+    let n = l .numbers in
+    filled (entries (l .shape .pattern)) zero64 ++ n .coefficients ++ n .diagonal ++ n .inverse ++ n .dic ++ n .factor
+
+-- those of levels, one after the other
+unfoldable pub allLevels : {A : Type 0} → (Level → List A) → List Level → List A
+allLevels f [] = []
+allLevels f (l ∷ rest) = f l ++ allLevels f rest
+
+module _ (e : Example) where
+  -- the words lent, once they hold h
+  unfoldable pub wordsFor : Hierarchy → List ℕ
+  wordsFor h = lay (allLevels levelWords (h .levels)) (filled (e .words) 0)
+
+  -- the floats lent
+  unfoldable pub floatsFor : Hierarchy → List Float
+  floatsFor h = lay (allLevels levelFloats (h .levels) ++ h .sums) (filled (e .floats) zero64)
+
+  -- the statistics lent
+  abbrev pub statisticsLent : List ℕ
+  statisticsLent = filled (e .statistics) 0
+
+  -- what is lent: words and floats of zeros
+  abbrev pub lent : Lent
+  lent = lentOf (filled (e .words) 0) (filled (e .floats) zero64) (length statisticsLent / 4)
+
+  -- an accepted solve, whose counters nobody looks at
+  abbrev pub given : Answer → Outcome Solution
+  given a = accepted (record { report = a .report; x = a .solution; counts = [] })
+
+-- What is left to an example, whose builds from the first and from the accepted values make these hierarchies.
+pub record Computes (e : Example) (before after : Hierarchy) : Type 0 where
+  pub weights : e .input .given ≡ true
+  pub built : buildOf (lent e) (e .input) ≡ accepted before
+  pub anew : buildOf (lent e) (withValues (e .input) (e .right)) ≡ accepted after
+  pub view : viewOf (length (before .levels)) (wordsFor e before) (floatsFor e before) 0 ≡ before
+  pub viewed : viewOf (length (before .levels)) (wordsFor e before) (floatsFor e after) 0 ≡ after
+  pub fits : wordsFit (length (before .levels)) (wordsFor e before) 0 ≡ true
+  pub refuses : updateOf (e .input .options) (shapesIn (before .levels)) (e .input .offsets) (e .input .columns) (e .wrong) ≡ refused (e .refusal)
+  pub accepts : updateOf (e .input .options) (shapesIn (before .levels)) (e .input .offsets) (e .input .columns) (e .right) ≡ accepted after
+  pub solves : solveOf (systemOf (e .input .options) before) (e .asked) (e .rhs) (e .start) [] ≡ given e (e .before)
+  pub solved : solveOf (systemOf (e .input .options) after) (e .asked) (e .rhs) (e .start) [] ≡ given e (e .after)
+
+-- To lay a list over another keeps its length.
+length-lay : {A : Type 0} (v t : List A) → length (lay v t) ≡ length t
+unfolding splice
+length-lay v t = length-splice 0 v t
+
+-- A solve keeps the length of the statistics.
+solve-length : (levels : ℕ) (t : List ℕ) (out : Outcome Solution) → length (solve.statisticsOf levels t out) ≡ length t
+solve-length levels t (accepted v) = length-lay _ t
+solve-length levels t (refused q) = refl
+
+module _ {e : Example} {before after : Hierarchy} (c : Computes e before after) where
+  -- the handle of the build
+  abbrev handle : Handle
+  handle = handleOf (e .input) before
+
+  -- the words, and the floats while they hold a hierarchy
+  abbrev words : List ℕ
+  words = wordsFor e before
+
+  abbrev floats : Hierarchy → List Float
+  floats h = floatsFor e h
+
+  -- As many floats hold either hierarchy.
+  floats-size : (h : Hierarchy) → length (floats h) ≡ length (filled (e .floats) zero64)
+  unfolding floatsFor
+  floats-size h = length-lay _ _
+
+  -- The build leaves these stores and these statistics.
+  pub new-done : NewDone (filled (e .words) 0) words (filled (e .floats) zero64) (floats before) (statisticsLent e)
+      (statisticsOf (length (statisticsLent e)) (accepted before)) (e .input) (Built.Made handle)
+  unfolding wordsFor
+  new-done = record {
+    built = record {
+      answer = rw (c .built) refl;
+      view = λ h k. let same : before ≡ h = accepted-one (sym (c .built) ∙ k) in rw⁻¹ same (c .view);
+      fits = λ h k. let same : before ≡ h = accepted-one (sym (c .built) ∙ k) in rw⁻¹ same (c .fits);
+      words = λ q k. let built = c .built in let z : _≡_ {A = ℕ} 0 1 = cc in absurd (omega arith);
+      floats = λ q k. let built = c .built in let z : _≡_ {A = ℕ} 0 1 = cc in absurd (omega arith);
+      wordsize = length-lay _ _;
+      floatsize = floats-size before;
     };
-    numbers = record { coefficients = []; diagonal = d ∷ []; inverse = i ∷ []; dic = zero64 ∷ []; factor = [] };
-  } ∷ [];
-  sums = zero64 ∷ [];
-}
+    statistics = rw (c .built) refl;
+  }
 
--- the words and the floats that hold it, in stores of exactly its charge
-abbrev words : List ℕ
-words = 1 ∷ 1 ∷ 0 ∷ 0 ∷ 1 ∷ 0 ∷ 0 ∷ 0 ∷ 0 ∷ filled 100 0
+  -- Its statistics are as long as they were.
+  statistics-size : length (statisticsOf (length (statisticsLent e)) (accepted before)) ≡ length (statisticsLent e)
+  unfolding statisticsOf
+  statistics-size = length-lay _ _ ∙ length-tab (λ _. 0) (length (statisticsLent e))
 
-abbrev floats : Float → Float → List Float
-floats d i = d ∷ d ∷ i ∷ zero64 ∷ zero64 ∷ filled 40 zero64
+  -- Stores of those sizes pass question 19.
+  sound : (h : Hierarchy) (t : List ℕ) → length t ≡ length (statisticsLent e) → soundOf handle words (length (floats h)) (length t / 4) ≡ true
+  sound h t size =
+      let first = new-sound new-done in
+      rw (floats-size h, size) (rw (floats-size before, statistics-size) at first)
 
--- The build of the cell.
-pub built : buildOf (lentOf words (floats one64 one64) 1) cell ≡ accepted (oneCell one64 one64)
-unfolding buildOf building.symmetricOf building.growOf refreshing.withSums csr.sizeOk csr.neverFall csr.offsetsOk csr.entryOk csr.rowOk csr.stepOk csr.rowAt csr.entryFrom csr.columnsOk checkweights.weightsOk checkweights.weightOk validOf isFinite lt le eq ofBits add sub mul div sqrtOf each tab for iter askRows mirrorsAgree mirrorsEqual pattern.some pattern.howMany pattern.those pattern.rowOf faces.above faces.facesOf faces.uppersOf faces.faceOffsetsOf faces.neighborsOf faces.hasEntry faces.standsAt faces.mirroredOf faces.lowersOf faces.diagonalsAsked faces.diagonalsOf faces.coupledOf faces.coupledCountOf faces.coupledRowsOf updateOf diagonalAsked isPositive tri cholesky.seekOf cholesky.getOf lessOf cholesky.restOf cholesky.columnOf cholesky.columnsOf cholesky.goodPivot cholesky.rowOf cholesky.rowsOf cholesky.choleskyOf
-built = refl
+  -- ---- a call
 
--- The build leaves these stores, whatever they held, and one record of statistics.
-pub new-done : NewDone words words (floats zero64 zero64) (floats one64 one64) (0 ∷ 0 ∷ 0 ∷ 0 ∷ []) (1 ∷ 0 ∷ 0 ∷ 0 ∷ []) cell (Built.Made handle)
-unfolding layout.viewOf layout.levelsAt layout.levelAt layout.wordsEnd layout.floatsEnd layout.imageEnd layout.wordsFit part lay splice tab tri statisticsOf fresh.freshOf
-new-done = record {
-  built = record {
-    answer = rw built;
-    view = λ h e. let same : h ≡ oneCell one64 one64 = accepted-one (sym e ∙ built) in rw same;
-    fits = λ h e. let same : h ≡ oneCell one64 one64 = accepted-one (sym e ∙ built) in rw same;
-    words = λ q e. let z : _≡_ {A = ℕ} 0 1 = cc (built) in absurd (omega arith);
-    floats = λ q e. let z : _≡_ {A = ℕ} 0 1 = cc (built) in absurd (omega arith);
-    wordsize = refl;
-    floatsize = refl;
-  };
-  statistics = rw built;
-}
+  module _ (h : Hierarchy) (v : viewOf (handle .levels) words (floats h) 0 ≡ h) (t : List ℕ) (n : length t ≡ length (statisticsLent e)) where
+    -- the solve's outcome
+    abbrev outcome : Outcome Solution
+    outcome = solvedOf handle words (floats h) t (e .rhs) (e .start) (e .asked)
 
--- the statistics after so many visits
-abbrev visited : ℕ → List ℕ
-visited n = 1 ∷ n ∷ 0 ∷ 0 ∷ []
+    -- It is one of the hierarchy.
+    outcome-is : outcome ≡ solveOf (systemOf (e .input .options) h) (e .asked) (e .rhs) (e .start) (solve.countersOf (handle .levels) t)
+    outcome-is = ask-yes _ unsoundStores _ (sound h t n)
+        ∙ ap (λ (b : Hierarchy). solveOf (systemOf (e .input .options) b) (e .asked) (e .rhs) (e .start) (solve.countersOf (handle .levels) t)) v
 
--- A solve for 1, from zero, gives 1,
-solves-first : SolveCall handle words (floats one64 one64) (floats one64 one64) (visited 0) (visited 1) (one64 ∷ []) (zero64 ∷ []) (one64 ∷ []) asked converged
-unfolding layout.viewOf layout.levelsAt layout.levelAt layout.wordsEnd layout.floatsEnd layout.imageEnd part lay splice tab tri sound.soundOf sound.handleSound sound.walkOf sound.headSound sound.arraysSound sound.allBelow sound.rowSound sound.rowsWalked sound.scratchEnd validOf isFinite lt le eq ofBits each solve.solveOf input.inputOk solve.runOf iterating.iterateOf iteration.stepOf iteration.movedOf cycle.cycleOf cycle.endOf cycle.countOf terminal.terminalOf terminal.solutionOf terminal.scatterOf terminal.gatherOf terminal.diagonalOf factor.solveFactorOf factor.lowRow factor.highRow factor.lowTerm factor.highTerm measure.measureOf measure.valueOf measure.squaresOf measure.squareAt measure.sumOf measure.sumTurn finite.allFinite dot.productOf normalization.normalizationOf solver.relativeOf matrix.applyOf matrix.spreadOf matrix.spreadRow matrix.spreadFace correction.subtractOf correction.addPlainOf maxNum sqrtOf for iter ne add sub mul div
-solves-first = record { done = record { answer = refl; solution = refl; statistics = refl; floats = record { below = refl; size = refl } }; view = refl; unsound = λ _. refl }
+    -- A solve can be made.
+    solve-made : (a : Answer) → solveOf (systemOf (e .input .options) h) (e .asked) (e .rhs) (e .start) [] ≡ given e a
+        → SolveCall handle words (floats h) (floats h) t (solve.statisticsOf (handle .levels) t outcome) (e .rhs) (e .start) (a .solution) (e .asked) (Solved.Report (a .report))
+    solve-made a k =
+        let y = systemOf (e .input .options) h in
+        let counters = solve.countersOf (handle .levels) t in
+        record {
+          done = record {
+            answer = sym (ap answerOf outcome-is ∙ same-answer y (e .asked) (e .rhs) (e .start) counters [] ∙ ap answerOf k);
+            solution = sym (ap (solve.solutionOf (e .start)) outcome-is ∙ same-solution y (e .asked) (e .rhs) (e .start) counters [] ∙ ap (solve.solutionOf (e .start)) k);
+            statistics = refl;
+            floats = record { below = refl; size = refl };
+          };
+          view = refl;
+          unsound = λ _. refl;
+        }
 
--- a second one too,
-solves-second : SolveCall handle words (floats one64 one64) (floats one64 one64) (visited 1) (visited 2) (one64 ∷ []) (zero64 ∷ []) (one64 ∷ []) asked converged
-unfolding layout.viewOf layout.levelsAt layout.levelAt layout.wordsEnd layout.floatsEnd layout.imageEnd part lay splice tab tri sound.soundOf sound.handleSound sound.walkOf sound.headSound sound.arraysSound sound.allBelow sound.rowSound sound.rowsWalked sound.scratchEnd validOf isFinite lt le eq ofBits each solve.solveOf input.inputOk solve.runOf iterating.iterateOf iteration.stepOf iteration.movedOf cycle.cycleOf cycle.endOf cycle.countOf terminal.terminalOf terminal.solutionOf terminal.scatterOf terminal.gatherOf terminal.diagonalOf factor.solveFactorOf factor.lowRow factor.highRow factor.lowTerm factor.highTerm measure.measureOf measure.valueOf measure.squaresOf measure.squareAt measure.sumOf measure.sumTurn finite.allFinite dot.productOf normalization.normalizationOf solver.relativeOf matrix.applyOf matrix.spreadOf matrix.spreadRow matrix.spreadFace correction.subtractOf correction.addPlainOf maxNum sqrtOf for iter ne add sub mul div
-solves-second = record { done = record { answer = refl; solution = refl; statistics = refl; floats = record { below = refl; size = refl } }; view = refl; unsound = λ _. refl }
+    -- It keeps the length of the statistics.
+    solve-size : length (solve.statisticsOf (handle .levels) t outcome) ≡ length (statisticsLent e)
+    solve-size = solve-length (handle .levels) t outcome ∙ n
 
--- and once the coefficient is 2 it gives a half.
-solves-third : SolveCall handle words (floats two half) (floats two half) (visited 2) (visited 3) (one64 ∷ []) (zero64 ∷ []) (half ∷ []) asked converged
-unfolding layout.viewOf layout.levelsAt layout.levelAt layout.wordsEnd layout.floatsEnd layout.imageEnd part lay splice tab tri sound.soundOf sound.handleSound sound.walkOf sound.headSound sound.arraysSound sound.allBelow sound.rowSound sound.rowsWalked sound.scratchEnd validOf isFinite lt le eq ofBits each solve.solveOf input.inputOk solve.runOf iterating.iterateOf iteration.stepOf iteration.movedOf cycle.cycleOf cycle.endOf cycle.countOf terminal.terminalOf terminal.solutionOf terminal.scatterOf terminal.gatherOf terminal.diagonalOf factor.solveFactorOf factor.lowRow factor.highRow factor.lowTerm factor.highTerm measure.measureOf measure.valueOf measure.squaresOf measure.squareAt measure.sumOf measure.sumTurn finite.allFinite dot.productOf normalization.normalizationOf solver.relativeOf matrix.applyOf matrix.spreadOf matrix.spreadRow matrix.spreadFace correction.subtractOf correction.addPlainOf maxNum sqrtOf for iter ne add sub mul div
-solves-third = record { done = record { answer = refl; solution = refl; statistics = refl; floats = record { below = refl; size = refl } }; view = refl; unsound = λ _. refl }
+    -- An update is one of the hierarchy's shapes.
+    update-is : (values : List Float) → updatedOf handle words (floats h) t (e .input .offsets) (e .input .columns) values
+        ≡ updateOf (e .input .options) (shapesIn (h .levels)) (e .input .offsets) (e .input .columns) values
+    update-is values = ask-yes _ unsoundStores _ (sound h t n)
+        ∙ ap (λ (b : Hierarchy). updateOf (e .input .options) (shapesIn (b .levels)) (e .input .offsets) (e .input .columns) values) v
 
--- An update to zero is refused by question 12,
-refused-update : UpdateCall handle words (floats one64 one64) (floats one64 one64) (visited 1) (0 ∷ 1 ∷ []) (0 ∷ []) (zero64 ∷ []) (Updated.Refused (badDiagonal 0 0))
-unfolding layout.viewOf layout.levelsAt layout.levelAt layout.wordsEnd layout.floatsEnd layout.imageEnd part lay splice tab tri sound.soundOf sound.handleSound sound.walkOf sound.headSound sound.arraysSound sound.allBelow sound.rowSound sound.rowsWalked sound.scratchEnd validOf isFinite lt le eq ofBits each update.updateOf update.renewOf update.sameList update.samePattern standing.diagonalStands standing.diagonalsStand askRows mirrorsAgree mirrorsEqual updateOf diagonalAsked isPositive cholesky.choleskyOf cholesky.rowsOf refreshing.withSums div for iter
-refused-update = record { done = record { answer = refl; view = refl; kept = λ q e. record { below = refl; size = refl }; size = refl }; unsound = λ _. refl }
+  -- The update that is refused can be made,
+  refused-update : (t : List ℕ) → length t ≡ length (statisticsLent e)
+      → UpdateCall handle words (floats before) (floats before) t (e .input .offsets) (e .input .columns) (e .wrong) (Updated.Refused (e .refusal))
+  refused-update t n =
+      let is = update-is before (c .view) t n (e .wrong) ∙ c .refuses in
+      record { done = record { answer = rw is refl; view = rw is refl; kept = λ q k. record { below = refl; size = refl }; size = refl }; unsound = λ _. refl }
 
--- one to 2 is accepted.
-accepted-update : UpdateCall handle words (floats one64 one64) (floats two half) (visited 2) (0 ∷ 1 ∷ []) (0 ∷ []) (two ∷ []) Updated.Done
-unfolding layout.viewOf layout.levelsAt layout.levelAt layout.wordsEnd layout.floatsEnd layout.imageEnd part lay splice tab tri sound.soundOf sound.handleSound sound.walkOf sound.headSound sound.arraysSound sound.allBelow sound.rowSound sound.rowsWalked sound.scratchEnd validOf isFinite lt le eq ofBits each update.updateOf update.renewOf update.sameList update.samePattern standing.diagonalStands standing.diagonalsStand askRows mirrorsAgree mirrorsEqual updateOf diagonalAsked isPositive cholesky.choleskyOf cholesky.rowsOf refreshing.withSums div for iter
-accepted-update = record {
-  done = record {
-    answer = refl;
-    view = refl;
-    kept = λ q e. let z : _≡_ {A = ℕ} 0 1 = cc in absurd (omega arith);
-    size = refl;
-  };
-  unsound = λ e. let z : _≡_ {A = ℕ} 0 1 = cc in absurd (omega arith);
-}
+  -- and so can the one that is accepted.
+  accepted-update : (t : List ℕ) → length t ≡ length (statisticsLent e)
+      → UpdateCall handle words (floats before) (floats after) t (e .input .offsets) (e .input .columns) (e .right) Updated.Done
+  accepted-update t n =
+      let is = update-is before (c .view) t n (e .right) ∙ c .accepts in
+      record {
+        done = record {
+          answer = rw is refl;
+          view = rw is (c .viewed);
+          kept = λ q k. let z : _≡_ {A = ℕ} 0 1 = cc in absurd (omega arith);
+          size = floats-size after ∙ sym (floats-size before);
+        };
+        unsound = λ k.
+            let passes = sound before t n in
+            let z : _≡_ {A = ℕ} 0 1 = cc in
+            absurd (omega arith);
+      }
 
--- The calls, each with what the one before left.
-pub calls-made : Trace handle words (floats one64 one64) (visited 0) calls
-calls-made = Trace.solve solves-first (Trace.update refused-update (Trace.solve solves-second (Trace.update accepted-update (Trace.solve solves-third Trace.nothing))))
+  -- ---- the calls, each with what the one before left
+  pub calls-made : Trace handle words (floats before) (statisticsOf (length (statisticsLent e)) (accepted before)) (calls e)
+  calls-made =
+      let t = statisticsOf (length (statisticsLent e)) (accepted before) in
+      let u = solve.statisticsOf (handle .levels) t (outcome before (c .view) t statistics-size) in
+      let n = solve-size before (c .view) t statistics-size in
+      let w = solve.statisticsOf (handle .levels) u (outcome before (c .view) u n) in
+      let m = solve-size before (c .view) u n in
+      Trace.solve (solve-made before (c .view) t statistics-size (e .before) (c .solves))
+      (Trace.update (refused-update u n)
+      (Trace.solve (solve-made before (c .view) u n (e .before) (c .solves))
+      (Trace.update (accepted-update w m)
+      (Trace.solve (solve-made after (c .viewed) w m (e .after) (c .solved)) Trace.nothing))))
 
--- The book's build after the accepted update is accepted too,
-pub built-anew : buildOf (lentOf words (floats one64 one64) 1) (withValues cell (two ∷ [])) ≡ accepted (oneCell two half)
-unfolding buildOf building.symmetricOf building.growOf refreshing.withSums csr.sizeOk csr.neverFall csr.offsetsOk csr.entryOk csr.rowOk csr.stepOk csr.rowAt csr.entryFrom csr.columnsOk checkweights.weightsOk checkweights.weightOk validOf isFinite lt le eq ofBits add sub mul div sqrtOf each tab for iter askRows mirrorsAgree mirrorsEqual pattern.some pattern.howMany pattern.those pattern.rowOf faces.above faces.facesOf faces.uppersOf faces.faceOffsetsOf faces.neighborsOf faces.hasEntry faces.standsAt faces.mirroredOf faces.lowersOf faces.diagonalsAsked faces.diagonalsOf faces.coupledOf faces.coupledCountOf faces.coupledRowsOf updateOf diagonalAsked isPositive tri cholesky.seekOf cholesky.getOf lessOf cholesky.restOf cholesky.columnOf cholesky.columnsOf cholesky.goodPivot cholesky.rowOf cholesky.rowsOf cholesky.choleskyOf
-built-anew = refl
-
--- so that each solve agrees with a build that there is.
-pub calls-agree : Agrees (lentOf words (floats one64 one64) 1) cell calls
-calls-agree = refreshed-is-fresh cell handle refl new-done calls-made (lentOf words (floats one64 one64) 1)
+  -- Each solve agrees with a build that there is.
+  pub calls-agree : Agrees (lent e) (e .input) (calls e)
+  calls-agree = refreshed-is-fresh (e .input) handle (c .weights) new-done calls-made (lent e)

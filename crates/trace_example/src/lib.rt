@@ -1,1 +1,2 @@
-// A list of calls in which updates are accepted and refused and the solution changes (specs/, proofs/). There is no code here.
+// Lists of calls in which updates are accepted and refused and the solution changes: on one cell, and on a ring of four cells with two
+// levels (specs/, proofs/). There is no code here.

@@ -1,0 +1,82 @@
+-- What is left to the examples, by computing, and what follows for their calls.
+-- Assumes nothing.
+use mathlib.Core.Path.{_≡_, refl}
+use mathlib.Core.Bool.{true, false}
+use mathlib.Core.List.{[], _∷_}
+use lib.Ieee.{ofInt, ofBits, add, sub, mul, div, lt, le, eq, ne}
+use Rattle.float.specs.Float.{one64, absOf, isFinite, maxNum}
+use Rattle.float.specs.Sqrt.{sqrtOf}
+use Rattle.store.specs.Loop.{iter, for}
+use Rattle.store.specs.Region.{part, lay, splice}
+use Rattle.store.specs.Vector.{tab, each}
+use Rattle.options.specs.Options.{validOf}
+use Rattle.refusal.specs.Outcome.{askRows}
+use Rattle.hierarchy.specs.Build as building
+use Rattle.hierarchy.specs.Refresh as refreshing
+use Rattle.aggregation.specs.Pairs as pairs
+use Rattle.galerkin.specs.Values as galerkin
+use Rattle.dic.specs.Dic as dic
+use Rattle.gauss_seidel.specs.Sweep as sweep
+use Rattle.smoother.specs.Smooth as smooth
+use Rattle.correction.specs.Scaling as scaling
+use Rattle.correction.specs.Scaled as scaled
+use Rattle.correction.specs.Transfer as transfer
+use Rattle.options.specs.Counts as counts
+use Rattle.acceleration.specs.Gcr as gcr
+use Rattle.acceleration.specs.Directions as directions
+use Rattle.acceleration.specs.Normal as normal
+use Rattle.acceleration.specs.Advance as advance
+use Rattle.coefficients.specs.Mirrors.{mirrorsAgree, mirrorsEqual}
+use Rattle.coefficients.specs.Update.{isPositive, diagonalAsked, updateOf}
+use Rattle.cholesky.specs.Triangle.{tri, lessOf}
+use Rattle.cholesky.specs.Factor as cholesky
+use Rattle.cholesky.specs.TriangularFactor as factor
+use Rattle.pattern.specs.Pattern as pattern
+use Rattle.faces.specs.Faces as faces
+use Rattle.csr.specs.Questions as csr
+use Rattle.csr.specs.Weights as weights
+use Rattle.vector.specs.Dot as dot
+use Rattle.vector.specs.Finite as finite
+use Rattle.matrix.specs.Kernel as matrix
+use Rattle.coarse.specs.Terminal as terminal
+use Rattle.correction.specs.Correction as correction
+use Rattle.residual_norm.specs.Measure as measure
+use Rattle.residual_norm.specs.Normalization as normalization
+use Rattle.solver.specs.Solver as solver
+use Rattle.layout.specs.Layout as layout
+use Rattle.cycle.specs.Cycle as cycle
+use Rattle.iterations.specs.Iteration as iteration
+use Rattle.iterations.specs.Iterate as iterating
+use Rattle.solve.specs.Input as input
+use Rattle.solve.specs.Solve as solve
+use Rattle.update_levels.specs.Standing as standing
+use Rattle.update_levels.specs.Update as update
+use Rattle.trace_example.proofs.Calls.{levelWords, levelFloats, allLevels, wordsFor, floatsFor, lent, Computes, calls-agree}
+use Rattle.hierarchy.specs.Build.{meshIn, paired}
+use Rattle.multigrid.specs.Trace.{Agrees}
+use Rattle.trace_example.specs.Calls.{calls}
+use Rattle.trace_example.specs.Cell.{two, half, cell}
+use Rattle.trace_example.specs.Ring.{ring}
+use Rattle.trace_example.proofs.Cell.{oneCell}
+use Rattle.trace_example.proofs.Ring.{fine, before, after}
+
+-- Of the cell and of the ring: the build with the first values and with the accepted ones; both hold in the stores; one update is refused, the
+-- other accepted; and the solve has its two answers.
+pub computed : Computes cell (oneCell one64 one64) (oneCell two half) × Computes ring before after
+unfolding building.buildOf building.symmetricOf building.growOf refreshing.withSums csr.sizeOk csr.neverFall csr.offsetsOk csr.entryOk csr.rowOk csr.stepOk csr.rowAt csr.entryFrom csr.columnsOk weights.weightsOk weights.weightOk validOf isFinite lt le eq ofBits add sub mul div sqrtOf each tab for iter askRows mirrorsAgree mirrorsEqual pattern.some pattern.howMany pattern.those pattern.rowOf faces.above faces.facesOf faces.uppersOf faces.faceOffsetsOf faces.neighborsOf faces.hasEntry faces.standsAt faces.mirroredOf faces.lowersOf faces.diagonalsAsked faces.diagonalsOf faces.coupledOf faces.coupledCountOf faces.coupledRowsOf updateOf diagonalAsked isPositive tri cholesky.seekOf cholesky.getOf lessOf cholesky.restOf cholesky.columnOf cholesky.columnsOf cholesky.goodPivot cholesky.rowOf cholesky.rowsOf cholesky.choleskyOf layout.viewOf layout.levelsAt layout.levelAt layout.wordsEnd layout.floatsEnd layout.imageEnd layout.wordsFit part lay splice levelWords levelFloats allLevels wordsFor floatsFor update.updateOf update.renewOf update.sameList update.samePattern standing.diagonalStands standing.diagonalsStand solve.solveOf input.inputOk solve.runOf iterating.iterateOf iteration.stepOf iteration.movedOf cycle.cycleOf cycle.endOf cycle.countOf terminal.terminalOf terminal.solutionOf terminal.scatterOf terminal.gatherOf terminal.diagonalOf factor.solveFactorOf factor.lowRow factor.highRow factor.lowTerm factor.highTerm measure.measureOf measure.valueOf measure.squaresOf measure.squareAt measure.sumOf measure.sumTurn finite.allFinite dot.termOf dot.blockOf dot.blockTurn dot.dotOf dot.productOf dot.rootOf dot.normOf normalization.normalizationOf solver.relativeOf matrix.applyOf matrix.spreadOf matrix.spreadRow matrix.spreadFace correction.subtractOf correction.addPlainOf maxNum ne ofInt absOf pairs.strengthsOf pairs.considerOf pairs.entryOf pairs.strongestOf pairs.placeOf pairs.pairRowOf pairs.turnOf pairs.pairsOf pattern.sumTo pattern.flat pattern.startOf pattern.placeOf pattern.joinsBy pattern.joins pattern.coarseOffsets pattern.coarseColumns pattern.coarsePositions pattern.composeOf galerkin.addEntry galerkin.sumsOf galerkin.averageFace galerkin.symmetrizeOf galerkin.zeroEntry galerkin.zeroEntries galerkin.zeroDiagonalOf building.mergeOf dic.isPivot dic.pivotFace dic.pivotRow dic.pivotsOf dic.reciprocalsOf dic.dicOf matrix.sumFace matrix.sumRow matrix.rowSumsOf sweep.gatherFace sweep.castFace sweep.freshOf sweep.forwardRow sweep.backwardRow sweep.gaussSeidelOf sweep.lowerRow sweep.upperRow sweep.dicSweepOf matrix.residualOf smooth.gaussSeidelsOf smooth.dicSweepsOf smooth.sweptOf smooth.smoothOf scaling.productsTurn scaling.productsOf scaling.quotientOf scaling.scaleOf scaling.correctionFactorOf scaled.addScaledOf transfer.gatherTurn transfer.gatherOf transfer.restrictOf transfer.prolongOf counts.preSweepsOf counts.postSweepsOf cycle.residualIn cycle.correctedOf cycle.upOf measure.sizeAt measure.sizesOf normalization.meanOf normalization.spreadOf normalization.spreadAt normalization.spreadsOf gcr.twiceOf gcr.keptOf gcr.correctOf directions.lessOf directions.stepOf directions.passOf normal.overOf normal.normalOf advance.moreOf advance.advanceOf
+computed = (
+  record { weights = refl; built = refl; anew = refl; view = refl; viewed = refl; fits = refl; refuses = refl; accepts = refl; solves = refl; solved = refl },
+  record { weights = refl; built = refl; anew = refl; view = refl; viewed = refl; fits = refl; refuses = refl; accepts = refl; solves = refl; solved = refl },
+)
+
+-- The ring is paired by its weights; by its values it would be paired otherwise.
+pub weights-decide : (paired true 0 (meshIn (ring .input)) .map ≡ fine .links) × (paired false 0 (meshIn (ring .input)) .map ≡ 0 ∷ 0 ∷ 1 ∷ 1 ∷ [])
+unfolding ofInt ofBits lt absOf for iter tab pairs.strengthsOf pairs.considerOf pairs.entryOf pairs.strongestOf pairs.placeOf pairs.pairRowOf pairs.turnOf pairs.pairsOf
+weights-decide = (refl, refl)
+
+-- Each solve of their calls agrees with a build that there is.
+pub cell-agrees : Agrees (lent cell) (cell .input) (calls cell)
+cell-agrees = calls-agree (computed .0)
+
+pub ring-agrees : Agrees (lent ring) (ring .input) (calls ring)
+ring-agrees = calls-agree (computed .1)
