@@ -100,13 +100,13 @@ fn hold_to_sums(sums: &Path, source: &Path, copies: &Path) -> Result<(), String>
         let said = String::from_utf8_lossy(&done.stderr);
         return Err(format!("sha256sum gives no sums: {}", said.trim_end()));
     }
-    if let Some(other) = found
+    let other = found
         .lines()
-        .find(|line| !wanted.lines().any(|sum| sum == *line))
-    {
+        .find(|line| !wanted.lines().any(|sum| sum == *line));
+    if let Some((sum, name)) = other.and_then(|line| line.split_once("  ")) {
         return Err(format!(
-            "{} holds another source than the one that is compared with: its SHA-256 is {other}, which is not in {}",
-            source.display(),
+            "{} is not the file that is compared with: its SHA-256 is {sum}, and {} has another",
+            source.join(name).display(),
             sums.display()
         ));
     }

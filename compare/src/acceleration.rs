@@ -11,13 +11,17 @@ use oracle::{LinearAlgebraError, parts};
 pub fn compare(report: &mut Report, random: &mut Random, effort: Effort) {
     for (name, draw) in DRAWS {
         for _ in 0..effort.times(250, 7_000) {
-            one_memory(report, random, name, draw);
+            let n = numbers::rows(random);
+            one_memory(report, random, name, draw, n);
+        }
+        for _ in 0..effort.times(20, 300) {
+            let n = numbers::many_rows(random);
+            one_memory(report, random, name, draw, n);
         }
     }
 }
 
-fn one_memory(report: &mut Report, random: &mut Random, name: &str, draw: Draw) {
-    let n = numbers::rows(random);
+fn one_memory(report: &mut Report, random: &mut Random, name: &str, draw: Draw, n: usize) {
     let krylov = 1 + random.index(5);
     let mut theirs = parts::Acceleration::new(n, krylov);
     let mut floats = Layout::default();
@@ -49,6 +53,7 @@ fn one_memory(report: &mut Report, random: &mut Random, name: &str, draw: Draw) 
         ];
         let (ours, kept) = floats.call(&written, |f| at.correct(f, used));
         let answer = theirs.correct(&mut direction, &mut image, &residual, &mut solution);
+        let terms = numbers::products(&image, &image);
         let next = if used == krylov { 1 } else { used + 1 };
         let due = answer
             .map(|()| next as u64)
@@ -56,13 +61,17 @@ fn one_memory(report: &mut Report, random: &mut Random, name: &str, draw: Draw) 
         let agrees = ours == due && same_floats(floats.at(at.solution, n), &solution);
         let kind = report.kind(&format!("acceleration/correct/{name}"));
         report.case(kind, agrees, || {
-            format!("used {used} of {krylov}: ours {ours:?} theirs {due:?} solution {solution:?}")
+            let solution = numbers::shown(&solution);
+            format!("used {used} of {krylov}: ours {ours:?} theirs {due:?} solution {solution}")
         });
         let kind = report.kind("acceleration/outside-unchanged");
         report.case(kind, kept, String::new);
         match due {
             Ok(now) => {
                 report.answer(&format!("acceleration/correct/used-{now}"));
+                if numbers::blocks_show(&terms) {
+                    report.answer("acceleration/correct/one-sum-would-show");
+                }
                 used = next;
             }
             Err(number) => {

@@ -2,7 +2,7 @@
 //! zeros in all that was lent where it refuses.
 
 pub mod expected;
-mod hand;
+pub mod hand;
 pub mod hierarchy;
 pub mod library;
 pub mod list;
@@ -24,10 +24,12 @@ const SHOWN: usize = 6;
 type Said = Result<u64, Refused>;
 
 pub fn compare(report: &mut Report, random: &mut Random, effort: Effort) {
+    report.set_hand_made(true);
     for (name, problem, said) in hand::problems() {
         one_problem(report, random, name, &problem, Some(said));
     }
-    for _ in 0..effort.times(4_000, 200_000) {
+    report.set_hand_made(false);
+    for _ in 0..effort.times(20_000, 200_000) {
         let (name, problem) = Problem::draw(random);
         one_problem(report, random, &name, &problem, None);
     }

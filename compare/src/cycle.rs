@@ -11,14 +11,20 @@ use crate::stores::{Layout, narrow, same_floats};
 pub fn compare(report: &mut Report, random: &mut Random, effort: Effort) {
     for (name, draw) in DRAWS {
         for _ in 0..effort.times(800, 13_000) {
-            transfers(report, random, name, draw);
-            corrected(report, random, name, draw);
+            let n = numbers::rows(random);
+            transfers(report, random, name, draw, n);
+            let n = numbers::rows(random);
+            corrected(report, random, name, draw, n);
+        }
+        for _ in 0..effort.times(40, 600) {
+            let n = numbers::many_rows(random);
+            transfers(report, random, name, draw, n);
+            corrected(report, random, name, draw, n);
         }
     }
 }
 
-fn transfers(report: &mut Report, random: &mut Random, name: &str, draw: Draw) {
-    let n = numbers::rows(random);
+fn transfers(report: &mut Report, random: &mut Random, name: &str, draw: Draw, n: usize) {
     let (map, count) = pattern::random_map(random, n);
     let (residual, coarse) = (
         numbers::vector(random, draw, n),
@@ -59,8 +65,7 @@ fn transfers(report: &mut Report, random: &mut Random, name: &str, draw: Draw) {
     told(report, "prolong", name, floats.at(below, n), &due, kept);
 }
 
-fn corrected(report: &mut Report, random: &mut Random, name: &str, draw: Draw) {
-    let n = numbers::rows(random);
+fn corrected(report: &mut Report, random: &mut Random, name: &str, draw: Draw, n: usize) {
     let [x, correction, residual, mut product, inverse] =
         [(); 5].map(|()| numbers::vector(random, draw, n));
     // A denominator that is so small has a quotient that is not finite.
@@ -116,13 +121,18 @@ fn corrected(report: &mut Report, random: &mut Random, name: &str, draw: Draw) {
     };
     let kind = report.kind(&format!("cycle/correction_factor/{name}"));
     report.case(kind, agrees, || {
-        format!("ours {ours:?} theirs {theirs:?} of {correction:?} {residual:?} {product:?}")
+        let operands = [&correction, &residual, &product].map(|vector| numbers::shown(vector));
+        format!("ours {ours:?} theirs {theirs:?} of {operands:?}")
     });
     report.answer(&match theirs {
         Ok(0.0) => "cycle/correction_factor/zero".to_string(),
         Ok(_) => "cycle/correction_factor/other".to_string(),
         Err(number) => format!("cycle/correction_factor/refused-{number}"),
     });
+    let terms = numbers::products(&correction, &residual);
+    if theirs.is_ok_and(|factor| factor != 0.0) && numbers::blocks_show(&terms) {
+        report.answer("cycle/correction_factor/blocks-would-show");
+    }
 
     let factor = if random.below(2) == 0 {
         draw(random)
@@ -172,7 +182,8 @@ fn factor(correction: &[f64], residual: &[f64], product: &[f64]) -> Result<f64, 
 fn told(report: &mut Report, call: &str, name: &str, ours: &[f64], due: &[f64], kept: bool) {
     let kind = report.kind(&format!("cycle/{call}/{name}"));
     report.case(kind, same_floats(ours, due), || {
-        format!("ours {ours:?} theirs {due:?}")
+        let [ours, due] = [ours, due].map(numbers::shown);
+        format!("ours {ours} theirs {due}")
     });
     let kind = report.kind("cycle/outside-unchanged");
     report.case(kind, kept, || call.to_string());

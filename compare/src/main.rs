@@ -4,6 +4,7 @@ mod acceleration;
 mod aggregation;
 mod agreement;
 mod build;
+mod classes;
 mod coarse;
 mod csr;
 mod cycle;
@@ -155,11 +156,13 @@ fn run(arguments: &Arguments) -> ExitCode {
     println!("seed {:#018x}", arguments.seed);
     let mut report = Report::default();
     let mut random = Random::new(arguments.seed);
+    let only = arguments.only.as_deref();
     for &(name, compare) in COMPARISONS {
-        if arguments.only.as_deref().is_none_or(|only| only == name) {
+        if only.is_none_or(|only| only == name) {
             compare(&mut report, &mut random, arguments.effort);
         }
     }
+    classes::compare(&mut report, arguments.effort, only);
     report.print();
     if report.differences() == 0 {
         ExitCode::SUCCESS

@@ -42,3 +42,41 @@ pub fn rows(random: &mut Random) -> usize {
     let most = random.pick(&[3, 8, 30, 30, 60, 200]);
     1 + random.index(most)
 }
+
+/// `dot` adds up blocks of so many products, and then the blocks; every other sum goes through all rows in order.
+pub const BLOCK: usize = 1_024;
+
+/// More rows than a block has, so that a sum in blocks and one that is not are two sums.
+pub fn many_rows(random: &mut Random) -> usize {
+    let any = BLOCK + 1 + random.index(3 * BLOCK);
+    random.pick(&[BLOCK + 1, 2 * BLOCK - 1, 2 * BLOCK, 2 * BLOCK + 1, any, any])
+}
+
+/// The sum as `dot` takes it.
+pub fn in_blocks(terms: &[f64]) -> f64 {
+    terms
+        .chunks(BLOCK)
+        .map(|block| block.iter().sum::<f64>())
+        .sum()
+}
+
+/// Whether the two ways of adding up give two sums.
+pub fn blocks_show(terms: &[f64]) -> bool {
+    let one = terms.iter().sum::<f64>();
+    one.is_finite() && one.to_bits() != in_blocks(terms).to_bits()
+}
+
+pub fn products(left: &[f64], right: &[f64]) -> Vec<f64> {
+    left.iter()
+        .zip(right)
+        .map(|(left, right)| left * right)
+        .collect()
+}
+
+/// The vector, or its length where it has more numbers than a matrix that is drawn has rows: the seed repeats it.
+pub fn shown(vector: &[f64]) -> String {
+    match vector.len() {
+        0..=200 => format!("{vector:?}"),
+        length => format!("{length} numbers"),
+    }
+}

@@ -1,4 +1,4 @@
-//! Counts cases and differences by kind, and shows the first differences of each.
+//! Counts cases and differences by kind, shows the first differences of each, and counts the answers that the cases meet.
 
 /// A kind that differs once often differs always: these many examples of it are enough.
 const EXAMPLES: u64 = 3;
@@ -6,13 +6,21 @@ const EXAMPLES: u64 = 3;
 #[derive(Default)]
 pub struct Report {
     kinds: Vec<Kind>,
-    answers: Vec<(String, u64)>,
+    answers: Vec<Answer>,
+    hand_made: bool,
 }
 
 struct Kind {
     name: String,
     cases: u64,
     differences: u64,
+}
+
+struct Answer {
+    name: String,
+    /// By cases that are drawn.
+    drawn: u64,
+    by_hand: u64,
 }
 
 /// A kind of the report that handed it out.
@@ -47,10 +55,43 @@ impl Report {
 
     /// Counts an answer, to show that the cases reach each of them.
     pub fn answer(&mut self, name: &str) {
-        match self.answers.iter_mut().find(|answer| answer.0 == name) {
-            Some(answer) => answer.1 += 1,
-            None => self.answers.push((name.to_string(), 1)),
-        }
+        let known = self.answers.iter().position(|answer| answer.name == name);
+        let known = known.unwrap_or_else(|| {
+            self.answers.push(Answer {
+                name: name.to_string(),
+                drawn: 0,
+                by_hand: 0,
+            });
+            self.answers.len() - 1
+        });
+        let answer = &mut self.answers[known];
+        let times = if self.hand_made {
+            &mut answer.by_hand
+        } else {
+            &mut answer.drawn
+        };
+        *times += 1;
+    }
+
+    /// Whether the answers that follow are those of hand-made cases.
+    pub fn set_hand_made(&mut self, hand_made: bool) {
+        self.hand_made = hand_made;
+    }
+
+    /// How often an answer was met by cases that are drawn, and by hand-made ones.
+    pub fn times(&self, name: &str) -> (u64, u64) {
+        let answer = self.answers.iter().find(|answer| answer.name == name);
+        answer.map_or((0, 0), |answer| (answer.drawn, answer.by_hand))
+    }
+
+    /// The cases of all kinds of that name or below it.
+    pub fn cases(&self, name: &str) -> u64 {
+        let below = |kind: &&Kind| {
+            let rest = kind.name.strip_prefix(name);
+            rest.is_some_and(|rest| rest.is_empty() || rest.starts_with('/'))
+        };
+        let kinds = self.kinds.iter().filter(below);
+        kinds.map(|kind| kind.cases).sum()
     }
 
     pub fn differences(&self) -> u64 {
@@ -61,7 +102,7 @@ impl Report {
     pub fn print(&self) {
         let (mut kinds, mut answers) = (Vec::from_iter(&self.kinds), Vec::from_iter(&self.answers));
         kinds.sort_by_key(|kind| &kind.name);
-        answers.sort();
+        answers.sort_by_key(|answer| &answer.name);
         println!("{:<44} {:>10} {:>12}", "kind", "cases", "differences");
         for kind in kinds {
             println!(
@@ -69,9 +110,12 @@ impl Report {
                 kind.name, kind.cases, kind.differences
             );
         }
-        println!("{:<44} {:>10}", "answer", "times");
-        for (name, times) in answers {
-            println!("{name:<44} {times:>10}");
+        println!("{:<44} {:>10} {:>12}", "answer", "times", "by hand");
+        for answer in answers {
+            println!(
+                "{:<44} {:>10} {:>12}",
+                answer.name, answer.drawn, answer.by_hand
+            );
         }
         println!("differences {}", self.differences());
     }

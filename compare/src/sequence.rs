@@ -12,17 +12,20 @@ use crate::boundary::kernels::Refused;
 use crate::build::hierarchy::Hierarchy;
 use crate::build::problem::{Lent, Problem, Stores, noisy};
 use crate::csr::Arrays;
+use crate::numbers::BLOCK;
 use crate::random::Random;
 use crate::report::{Report, hex, same};
 use multigrid::lent::{self, Handle};
 use multigrid::{LinearSolveReport, LinearSolverOptions, LinearSolverStatus, Refusal};
-use oracle::{AlgebraicMultigrid, during_build};
+use oracle::{AlgebraicMultigrid, MultigridResidualNorm, during_build};
 
 pub fn compare(report: &mut Report, random: &mut Random, effort: Effort) {
+    report.set_hand_made(true);
     for (name, problem, calls) in hand::sequences() {
         one_sequence(report, random, name, &problem, calls);
     }
-    for _ in 0..effort.times(2_000, 100_000) {
+    report.set_hand_made(false);
+    for _ in 0..effort.times(6_000, 100_000) {
         let problem = accepted(random);
         let calls = draw_calls(random, &problem);
         let name = match problem.weights {
@@ -31,7 +34,49 @@ pub fn compare(report: &mut Report, random: &mut Random, effort: Effort) {
         };
         one_sequence(report, random, name, &problem, calls);
     }
+    for turn in 0..effort.times(8, 200) {
+        large(report, random, turn);
+    }
     weeks(report, random, effort);
+}
+
+/// More rows than a block of `dot` has: each of the two norms with plain cycles and with GCR in turn, and a solve that iterates
+/// first.
+fn large(report: &mut Report, random: &mut Random, turn: u64) {
+    let (norm, gcr) = (turn % 2, turn / 2 % 2 == 1);
+    let problem = loop {
+        let mut problem = Problem::large(random);
+        problem.options.residual_norm = match norm {
+            0 => MultigridResidualNorm::AbsoluteL2,
+            _ => MultigridResidualNorm::NormalizedL1,
+        };
+        if gcr == (problem.options.krylov_dimension > 0)
+            && crate::build::expected::build(&problem).answer.is_ok()
+        {
+            break problem;
+        }
+    };
+    let rows = problem.arrays.rows;
+    let first = Call::Solve {
+        rhs: (0..rows).map(|_| random.unit()).collect(),
+        x: (0..rows).map(|_| random.unit()).collect(),
+        options: LinearSolverOptions {
+            max_iterations: 4,
+            ..LinearSolverOptions::default()
+        },
+    };
+    let others = [
+        draw_solve(random, rows),
+        Call::Update(draw_values(random, &problem)),
+    ];
+    let calls = [vec![first.clone()], others.to_vec(), vec![first]].concat();
+    let name = match (norm, gcr) {
+        (0, false) => "large/AbsoluteL2/plain",
+        (0, true) => "large/AbsoluteL2/gcr",
+        (_, false) => "large/NormalizedL1/plain",
+        (_, true) => "large/NormalizedL1/gcr",
+    };
+    one_sequence(report, random, name, &problem, calls);
 }
 
 /// One hierarchy, refreshed and solved with for long: the last answer is still that of a fresh build.
@@ -332,6 +377,15 @@ impl Session<'_> {
         let mut y = x.to_vec();
         let ours = lent::solve(&self.handle, &mut self.stores, rhs, &mut y, options).map_err(told);
         report.answer(&format!("sequence/solve/{}", outcome(&due.answer)));
+        if let (
+            Some(system),
+            Ok(LinearSolveReport {
+                iterations: 1.., ..
+            }),
+        ) = (self.large(), &due.answer)
+        {
+            report.answer(&format!("sequence/solve/{system}"));
+        }
         if let Some(found) = differs(&ours, &y, &due) {
             return Some(format!("solve: {found}"));
         }
@@ -344,6 +398,17 @@ impl Session<'_> {
             return Some(format!("solve: {found}"));
         }
         self.fresh(report, random, rhs, x, options, &due)
+    }
+
+    /// The norm and the kind of iterations, of a system with more rows than a block of `dot` has.
+    fn large(&self) -> Option<String> {
+        let options = &self.problem.options;
+        let (norm, rows) = (options.residual_norm, self.problem.arrays.rows);
+        let kind = match options.krylov_dimension {
+            0 => "plain",
+            _ => "gcr",
+        };
+        (rows > BLOCK).then(|| format!("large/{norm:?}/{kind}"))
     }
 
     /// Words are never written; refused, the statistics and the floats below the scratch stay.

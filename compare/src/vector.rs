@@ -3,6 +3,7 @@
 
 use crate::Effort;
 use crate::boundary;
+use crate::numbers;
 use crate::random::Random;
 use crate::report::{Report, hex};
 use std::hint::black_box;
@@ -123,6 +124,10 @@ fn products(report: &mut Report, name: &str, regions: &Regions) {
             format!("ours {ours} theirs {theirs} of [{left}] [{right}]")
         });
         tell_finite(report, call, answers[1].is_some());
+        let [left, right] = operands;
+        if answers[1].is_some() && numbers::blocks_show(&numbers::products(left, right)) {
+            report.answer(&format!("vector/{call}/one-sum-would-show"));
+        }
     }
 }
 

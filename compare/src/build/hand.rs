@@ -17,7 +17,7 @@ fn controls() -> MultigridOptions {
 }
 
 /// One cell on the coarsest level and no merging, so that two coupled rows make two levels.
-fn steep(smoother: MultigridSmoother) -> MultigridOptions {
+pub fn steep(smoother: MultigridSmoother) -> MultigridOptions {
     MultigridOptions {
         smoother,
         coarsest_cells: 1,
@@ -63,7 +63,7 @@ fn laplacian(pattern: &Pattern, share: f64) -> Arrays {
 }
 
 /// A matrix of few rows, from its full rows; zeros are no entries.
-fn small<const N: usize>(rows: [[f64; N]; N]) -> Arrays {
+pub fn small<const N: usize>(rows: [[f64; N]; N]) -> Arrays {
     let (mut offsets, mut columns, mut values) = (vec![0], Vec::new(), Vec::new());
     for row in rows {
         for (column, value) in row.into_iter().enumerate() {
@@ -198,15 +198,6 @@ fn places() -> Vec<(&'static str, Problem, Said)> {
         merge_levels: 4,
         ..steep(GaussSeidel)
     };
-    let least = f64::powi(2.0, -1000);
-    let [own, coupling] = [least * (1.0 + f64::EPSILON), -least];
-    let shrinking = small([[own, coupling], [coupling, own]]);
-    let weakening = small([
-        [10.0, -9.5, 2.0, 0.0],
-        [-9.5, 10.0, 0.0, 0.0],
-        [2.0, 0.0, 10.0, -9.5],
-        [0.0, 0.0, -9.5, 10.0],
-    ]);
     let huge = small([[f64::MAX, -1.0], [-1.0, f64::MAX]]);
     vec![
         (
@@ -239,12 +230,12 @@ fn places() -> Vec<(&'static str, Problem, Said)> {
         ("18", problem(huge, steep(GaussSeidel)), Err((18, 0, 0))),
         (
             "13-on-level-1",
-            problem(shrinking, steep(GaussSeidel)),
+            problem(shrinking(), steep(GaussSeidel)),
             Err((13, 1, 0)),
         ),
         (
             "16-on-level-1",
-            problem(weakening, steep(DicGaussSeidel)),
+            problem(weakening(), steep(DicGaussSeidel)),
             Err((16, 1, 1)),
         ),
         (
@@ -255,8 +246,25 @@ fn places() -> Vec<(&'static str, Problem, Said)> {
     ]
 }
 
+/// The row that both go together in is 2^-1051, and its reciprocal infinite.
+pub fn shrinking() -> Arrays {
+    let least = f64::powi(2.0, -1000);
+    let [own, coupling] = [least * (1.0 + f64::EPSILON), -least];
+    small([[own, coupling], [coupling, own]])
+}
+
+/// Rows 0 and 1 go together, and rows 2 and 3; then the diagonals are 1 and the coupling is 2.
+pub fn weakening() -> Arrays {
+    small([
+        [10.0, -9.5, 2.0, 0.0],
+        [-9.5, 10.0, 0.0, 0.0],
+        [2.0, 0.0, 10.0, -9.5],
+        [0.0, 0.0, -9.5, 10.0],
+    ])
+}
+
 /// Rows 0 and 1 go together, and rows 2 and 3 by their weight; the next level is that of `small_pivot`, times 4 in its first row.
-fn small_coarse_pivot() -> (Arrays, Vec<f64>) {
+pub fn small_coarse_pivot() -> (Arrays, Vec<f64>) {
     let coupling = f64::powi(2.0, -499);
     let own = f64::powi(2.0, -1001) * (1.0 + f64::EPSILON);
     let arrays = Arrays {

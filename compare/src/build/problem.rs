@@ -2,6 +2,7 @@
 
 use super::expected::{self, Charge};
 use crate::csr::{Arrays, DAMAGES, WEIGHTS, any};
+use crate::numbers;
 use crate::options;
 use crate::pattern::{Pattern, Shape};
 use crate::random::Random;
@@ -213,6 +214,32 @@ impl Problem {
             name = lent.to_string();
         }
         (name, problem)
+    }
+
+    /// More rows than a block of `dot` has, values with which a build is accepted, and what it asks for lent.
+    pub fn large(random: &mut Random) -> Self {
+        let rows = numbers::many_rows(random);
+        let shape = random.pick(&[Shape::Path, Shape::Grid, Shape::Random]);
+        let pattern = match shape {
+            Shape::Grid => Pattern::grid(1 + rows.isqrt()),
+            _ => shape.full(random, rows),
+        };
+        let pattern = pattern.reordered(random);
+        let mut values = pattern.numbers(true, || -0.001 - random.unit().abs());
+        set_diagonals(&pattern, &mut values, 1.1);
+        let given = random.below(2) == 0;
+        let weights = given.then(|| pattern.numbers(true, || random.unit().abs()));
+        let mut problem = Self {
+            arrays: arrays_of(&pattern, values),
+            weights,
+            options: controls(random),
+            lent: Lent::PLENTY,
+        };
+        problem.options.max_levels = 64;
+        let charges = expected::build(&problem).charges;
+        let last = charges.last().copied().unwrap_or_default();
+        problem.lent = Lent::of(last, 4 * problem.options.max_levels);
+        problem
     }
 
     /// Questions 1 to 11 pass, if the stores do.

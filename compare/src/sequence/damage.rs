@@ -14,7 +14,7 @@ use multigrid::lent::{self, Handle};
 
 pub fn compare(report: &mut Report, random: &mut Random, effort: Effort) {
     let kind = report.kind("damage/stores");
-    for _ in 0..effort.times(500, 36_000) {
+    for _ in 0..effort.times(6_000, 100_000) {
         let problem = accepted(random);
         let calls = draw_calls(random, &problem);
         let mut stores = noisy(random, &problem.lent);

@@ -1,15 +1,23 @@
-//! Sequences that random ones do not meet: the quotient of a correction that is not finite (27), and an update whose DIC
-//! reciprocal is not (17).
+//! Sequences that random ones do not meet: the quotient of a correction that is not finite (27), an update whose DIC
+//! reciprocal is not (17), and updates that are refused below the finest level.
 
 use super::Call;
 use crate::build::expected;
+use crate::build::hand::{shrinking, small, small_coarse_pivot, steep, weakening};
 use crate::build::problem::{Lent, Problem};
 use crate::csr::Arrays;
 use multigrid::LinearSolverOptions;
 use oracle::{MultigridCoarseSolver, MultigridOptions, MultigridResidualNorm, MultigridSmoother};
 
-pub fn sequences() -> Vec<(&'static str, Problem, Vec<Call>)> {
+type Sequence = (&'static str, Problem, Vec<Call>);
+
+/// Those that stand in the list for a replay too.
+pub fn listed() -> Vec<Sequence> {
     vec![infinite_quotient(), small_pivot()]
+}
+
+pub fn sequences() -> Vec<Sequence> {
+    [listed(), refused_below()].concat()
 }
 
 /// The stores that its build asks for.
@@ -30,7 +38,7 @@ fn cholesky() -> MultigridOptions {
 
 /// Six rows that are not definite, on which the correction's products with its image cancel exactly, beside two rows whose
 /// product is 2^-1060: the denominator is tiny and the numerator is not.
-fn infinite_quotient() -> (&'static str, Problem, Vec<Call>) {
+fn infinite_quotient() -> Sequence {
     let offsets = vec![0, 3, 8, 14, 18, 21, 26, 28, 30];
     let columns = vec![
         0, 1, 2, 0, 1, 2, 3, 5, 0, 1, 2, 3, 4, 5, 1, 2, 3, 5, 2, 4, 5, 1, 2, 3, 4, 5, 6, 7, 6, 7,
@@ -74,7 +82,7 @@ fn infinite_quotient() -> (&'static str, Problem, Vec<Call>) {
 
 /// A path of four rows; the update's first pivot leaves 2^-1052 of the second, whose reciprocal is infinite. The solves
 /// before and after are the same.
-fn small_pivot() -> (&'static str, Problem, Vec<Call>) {
+fn small_pivot() -> Sequence {
     let arrays = Arrays {
         rows: 4,
         offsets: vec![0, 2, 4, 6, 8],
@@ -85,20 +93,28 @@ fn small_pivot() -> (&'static str, Problem, Vec<Call>) {
     let coupling = f64::powi(2.0, -500);
     let own = f64::powi(2.0, -1000) * (1.0 + f64::EPSILON);
     refused.values[..4].copy_from_slice(&[1.0, coupling, coupling, own]);
+    let weights = vec![0.0, 1.0, 1.0, 0.0, 0.0, 1.0, 1.0, 0.0];
+    let options = MultigridOptions {
+        coarsest_cells: 1,
+        ..cholesky()
+    };
+    refreshed("hand-17", arrays, Some(weights), options, refused)
+}
+
+/// A build; then a solve, an update that is refused, the same solve, an update to twice the values, and a solve.
+fn refreshed(
+    name: &'static str,
+    arrays: Arrays,
+    weights: Option<Vec<f64>>,
+    options: MultigridOptions,
+    refused: Arrays,
+) -> Sequence {
     let mut doubled = arrays.clone();
     doubled.values.iter_mut().for_each(|value| *value *= 2.0);
-    let problem = lent(Problem {
-        arrays,
-        weights: Some(vec![0.0, 1.0, 1.0, 0.0, 0.0, 1.0, 1.0, 0.0]),
-        options: MultigridOptions {
-            coarsest_cells: 1,
-            ..cholesky()
-        },
-        lent: Lent::PLENTY,
-    });
+    let rows = arrays.rows;
     let solve = Call::Solve {
-        rhs: vec![1.0, 2.0, 3.0, 4.0],
-        x: vec![0.0; 4],
+        rhs: (1..=rows).map(|row| row as f64).collect(),
+        x: vec![0.0; rows],
         options: LinearSolverOptions::default(),
     };
     let calls = vec![
@@ -108,5 +124,48 @@ fn small_pivot() -> (&'static str, Problem, Vec<Call>) {
         Call::Update(doubled),
         solve,
     ];
-    ("hand-17", problem, calls)
+    let problem = lent(Problem {
+        arrays,
+        weights,
+        options,
+        lent: Lent::PLENTY,
+    });
+    (name, problem, calls)
+}
+
+/// The builds that are refused on level 1, as updates of one that is not; and 18, of the values of that level.
+fn refused_below() -> Vec<Sequence> {
+    use MultigridSmoother::{DicGaussSeidel, GaussSeidel};
+    let pair = small([[4.0, -2.0], [-2.0, 2.0]]);
+    let huge = small([[f64::MAX, -1.0], [-1.0, f64::MAX]]);
+    let mut weak = weakening();
+    for value in &mut weak.values {
+        *value = if *value == 2.0 { 0.25 } else { *value };
+    }
+    let (pivot, weights) = small_coarse_pivot();
+    let ordinary = Arrays {
+        values: vec![4.0, -3.0, 0.25, -3.0, 4.0, 0.25, 1.0, 0.0, 0.0, 1.0],
+        ..pivot.clone()
+    };
+    let one = |name, arrays, weights, smoother, refused| {
+        refreshed(name, arrays, weights, steep(smoother), refused)
+    };
+    vec![
+        one("hand-18", pair.clone(), None, GaussSeidel, huge),
+        one("hand-13-on-level-1", pair, None, GaussSeidel, shrinking()),
+        one(
+            "hand-16-on-level-1",
+            weak,
+            None,
+            DicGaussSeidel,
+            weakening(),
+        ),
+        one(
+            "hand-17-on-level-1",
+            ordinary,
+            Some(weights),
+            DicGaussSeidel,
+            pivot,
+        ),
+    ]
 }

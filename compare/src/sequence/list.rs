@@ -30,7 +30,7 @@ const MOST: usize = 60_000;
 
 /// The list, in which every kind of answer of a call is met by `each` sequences, or by as many as were found.
 pub fn write(random: &mut Random, each: usize) -> String {
-    let by_hand = hand::sequences().into_iter();
+    let by_hand = hand::listed().into_iter();
     let by_hand = by_hand.map(|(_, problem, calls)| (problem, calls));
     let drawn: Vec<(Problem, Vec<Call>)> = (0..DRAWN)
         .map(|_| {
