@@ -29,6 +29,7 @@ use Rattle.hierarchy.specs.Refresh.{withSums}
 use Rattle.hierarchy.specs.Build.{Charge, fixedCharge, andLevel, Mesh, Input, patternIn, meshIn, symmetricOf, growOf, buildOf}
 use Rattle.hierarchy.proofs.Depth as depth
 use Rattle.layout.specs.Layout.{imageEnd, wordsFit, viewOf}
+use Rattle.layout.specs.Headers.{headsAt, headsOf}
 use Rattle.coarsening.specs.declared.coarsen.Workspace.{Workspace}
 use Rattle.coarsening.specs.CoarsenContract.{WorkOk}
 use Rattle.build_level.specs.declared.laying.Frontier.{Frontier}
@@ -122,6 +123,7 @@ module _ {w z : List ℕ} {F H : List Float} {o : MultigridOptions} {given : Boo
           refusal = λ q e. absurd (one-way (told .is) e);
           view = λ ls e. subst (λ (l : List Level). viewOf (length l) z G 0 ≡ withSums o l) (same ls e) view;
           fits = λ ls e. levels .fits ls e;
+          heads = λ ls e. levels .heads ls e;
           wordsize = levels .words .size;
           floatsize = sums .wrote .size ∙ levels .floats .size;
         }
@@ -134,6 +136,7 @@ module _ {w z : List ℕ} {F H : List Float} {o : MultigridOptions} {given : Boo
         refusal = λ p a. ap Built.Refused (refused-one none-is a);
         view = λ ls a. absurd (one-way a none-is);
         fits = λ ls a. absurd (one-way a none-is);
+        heads = λ ls a. absurd (one-way a none-is);
         wordsize = levels .words .size;
         floatsize = levels .floats .size;
       }
@@ -169,6 +172,7 @@ refusing {w} {z} {F} {G} {x} {q} out e m n = record {
   answer = sym (ap (builtOf x) e);
   view = λ h a. absurd (one-way a e);
   fits = λ h a. absurd (one-way a e);
+  heads = λ h a. absurd (one-way a e);
   wordsize = m;
   floatsize = n;
 }
@@ -323,6 +327,9 @@ module _ {words floats : ℕ} {x : Input} {t : Workspace} (fit : Fitting words f
                 (ap (λ (l : List Level). viewOf (length l) v H 0) (levels-of (x .options) ls) ∙ done .view ls e);
             fits = λ h a. subst (λ (k : Hierarchy). wordsFit (length (k .levels)) v 0 ≡ true) (accepted-one (sym q ∙ a))
                 (ap (λ (l : List Level). wordsFit (length l) v 0) (levels-of (x .options) ls) ∙ done .fits ls e);
+            heads = λ h a. subst (λ (k : Hierarchy). headsAt (length (k .levels)) v 0 ≡ headsOf (k .levels)) (accepted-one (sym q ∙ a))
+                (ap (λ (l : List Level). headsAt (length l) v 0) (levels-of (x .options) ls) ∙ done .heads ls e
+                ∙ ap headsOf (sym (levels-of (x .options) ls)));
             wordsize = done .wordsize ∙ asked .words .size ∙ load .wordsize;
             floatsize = done .floatsize ∙ load .floatsize;
           }
@@ -354,6 +361,7 @@ module _ (records : ℕ) {w z : List ℕ} {F G : List Float} {x : Input} {r : Bu
     answer = sym e ∙ t .answer;
     view = t .view;
     fits = t .fits;
+    heads = t .heads;
     words = λ q a. absurd (not-both (sym e ∙ t .answer ∙ ap (builtOf x) a));
     floats = λ q a. absurd (not-both (sym e ∙ t .answer ∙ ap (builtOf x) a));
     wordsize = t .wordsize;
@@ -366,6 +374,7 @@ module _ (records : ℕ) {w z : List ℕ} {F G : List Float} {x : Input} {r : Bu
     answer = sym e ∙ t .answer;
     view = λ h k. absurd (not-both (sym (ap (builtOf x) k) ∙ sym (t .answer) ∙ e));
     fits = λ h k. absurd (not-both (sym (ap (builtOf x) k) ∙ sym (t .answer) ∙ e));
+    heads = λ h k. absurd (not-both (sym (ap (builtOf x) k) ∙ sym (t .answer) ∙ e));
     words = λ p k. c .words ∙ ap (λ (n : ℕ). filled n 0) (t .wordsize);
     floats = λ p k. c .floats ∙ ap (λ (n : ℕ). filled n zero64) (t .floatsize);
     wordsize = ap length (c .words) ∙ length-tab (λ _. 0) (length z) ∙ t .wordsize;

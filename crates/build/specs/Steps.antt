@@ -15,6 +15,7 @@ use Rattle.hierarchy.specs.Level.{Level, Hierarchy}
 use Rattle.hierarchy.specs.Refresh.{withSums}
 use Rattle.hierarchy.specs.Build.{Charge, fixedCharge, andLevel, Input, patternIn, meshIn, symmetricOf, growOf, buildOf}
 use Rattle.layout.specs.Layout.{viewOf, wordsFit}
+use Rattle.layout.specs.Headers.{headsAt, headsOf}
 use Rattle.coarsening.specs.declared.coarsen.Workspace.{Workspace}
 use Rattle.build_level.specs.LayingContract.{FrontierOk}
 use Rattle.solver.specs.declared.answers.Built.{Built}
@@ -47,6 +48,7 @@ pub record LevelsDone (w z : List ℕ) (F G : List Float) (o : MultigridOptions)
   pub refusal : (q : Refusal) → growAt o given w F t (finestOf o t) ≡ refused q → r ≡ Built.Refused q
   pub view : (ls : List Level) → growAt o given w F t (finestOf o t) ≡ accepted ls → viewOf (length ls) z G 0 ≡ withSums o ls
   pub fits : (ls : List Level) → growAt o given w F t (finestOf o t) ≡ accepted ls → wordsFit (length ls) z 0 ≡ true
+  pub heads : (ls : List Level) → growAt o given w F t (finestOf o t) ≡ accepted ls → headsAt (length ls) z 0 ≡ headsOf ls
   pub wordsize : length z ≡ length w
   pub floatsize : length G ≡ length F
 
@@ -55,6 +57,7 @@ pub record Tried (w z : List ℕ) (F G : List Float) (out : Outcome Hierarchy) (
   pub answer : r ≡ builtOf x out
   pub view : (h : Hierarchy) → out ≡ accepted h → viewOf (length (h .levels)) z G 0 ≡ h
   pub fits : (h : Hierarchy) → out ≡ accepted h → wordsFit (length (h .levels)) z 0 ≡ true
+  pub heads : (h : Hierarchy) → out ≡ accepted h → headsAt (length (h .levels)) z 0 ≡ headsOf (h .levels)
   pub wordsize : length z ≡ length w
   pub floatsize : length G ≡ length F
 

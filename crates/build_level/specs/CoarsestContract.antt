@@ -13,6 +13,7 @@ use Rattle.hierarchy.specs.Level.{Level}
 use Rattle.hierarchy.specs.Build.{lastLevel}
 use Rattle.layout.specs.declared.Place.{Place}
 use Rattle.layout.specs.Layout.{levelsAt, imageEnd, wordsFit}
+use Rattle.layout.specs.Headers.{headsAt, headsOf}
 use Rattle.layout.specs.Placed.{coefficientsAt}
 use Rattle.coarsening.specs.declared.coarsen.Workspace.{Workspace}
 use Rattle.coarsening.specs.CoarsenContract.{meshAt}
@@ -21,12 +22,13 @@ use Rattle.build_level.specs.LayingContract.{levelIn, ControlsOk, Choose
 use Rattle.build_level.specs.declared.coarsest.Growth.{Growth}
 
 -- What the levels from level number `level` on leave, whose outcome is `out`: the answer, and where it accepts, the levels in the
--- stores from a and b on, which end before the temporaries with room for the row sums of the finest. Below them nothing changed.
+-- stores from a and b on with their headers, which end before the temporaries with room for the row sums of the finest. Below them nothing changed.
 pub record Levels (w z : List ℕ) (F G : List Float) (t : Workspace) (level a b : ℕ) (out : Outcome (List Level)) (r : Growth) : Type 0 where
   pub made : (ls : List Level) → out ≡ accepted ls → r ≡ Growth.Made (level + length ls) (imageEnd (length ls) z a b)
   pub refusal : (q : Refusal) → out ≡ refused q → r ≡ Growth.Refused q
   pub view : (ls : List Level) → out ≡ accepted ls → levelsAt (length ls) z G a b ≡ ls
   pub fits : (ls : List Level) → out ≡ accepted ls → wordsFit (length ls) z a ≡ true
+  pub heads : (ls : List Level) → out ≡ accepted ls → headsAt (length ls) z a ≡ headsOf ls
   pub ends : (ls : List Level) → out ≡ accepted ls → imageEnd (length ls) z a b + t .rows ≤ t .values
   pub words : Kept a w z
   pub floats : Kept b F G

@@ -15,6 +15,7 @@ use Rattle.hierarchy.specs.Level.{Level}
 use Rattle.hierarchy.specs.Build.{Charge, Mesh, holds, paired, endsAt, lastLevel, innerLevel, growOf}
 use Rattle.layout.specs.declared.Place.{Place}
 use Rattle.layout.specs.Layout.{levelAt, wordsEnd, floatsEnd}
+use Rattle.layout.specs.Headers.{headAt, headOf}
 use Rattle.layout.specs.Placed.{coefficientsAt}
 use Rattle.coarsening.specs.declared.coarsen.Workspace.{Workspace}
 use Rattle.coarsening.specs.CoarsenContract.{meshAt}
@@ -48,11 +49,12 @@ pairedAt o given w F t s p =
 abbrev pub before : Level → Outcome (List Level) → Outcome (List Level)
 before l deeper = _>>=_ deeper (λ ls. accepted (l ∷ ls))
 
--- The frontier n lies ahead of s: the level at s is whole, it ends where n starts, and `out` is that level and those from n on.
+-- The frontier n lies ahead of s: the level at s is whole with its header, it ends where n starts, and `out` is that level and those from n on.
 pub record Ahead (w z : List ℕ) (F G : List Float) (o : MultigridOptions) (given : Bool) (t : Workspace) (s : Frontier) (out : Outcome (List Level)) (n : Frontier) : Type 0 where
   pub frontier : FrontierOk z (length G) o t n
   pub more : s .more ≡ n .more + 1
   pub level : n .level ≡ s .level + 1
+  pub head : headAt z (s .a) ≡ headOf (levelAt z G (s .a) (s .b) .shape)
   pub wordsend : wordsEnd z (s .a) ≡ n .a
   pub floatsend : floatsEnd z (s .a) (s .b) ≡ n .b
   pub above : s .a ≤ n .a

@@ -15,6 +15,7 @@ use Rattle.hierarchy.specs.Proper.{Proper}
 use Rattle.hierarchy.specs.Build.{Mesh, Merged, merged, innerShape, coarsenedAsked, mergeOf}
 use Rattle.layout.specs.declared.Place.{Place}
 use Rattle.layout.specs.Layout.{levelAt, wordsEnd, floatsEnd}
+use Rattle.layout.specs.Headers.{headAt, headOf}
 use Rattle.layout.specs.Placed.{coefficientsAt}
 use Rattle.coarsening.specs.declared.coarsen.Workspace.{Workspace}
 use Rattle.coarsening.specs.CoarsenContract.{meshAt, nextIn}
@@ -60,9 +61,10 @@ abbrev pub descentAt : MultigridOptions → Bool → List ℕ → List Float →
 descentAt o given w F t s p count =
     descentOf o given (s .level) (s .stage) (meshAt w F given (levelIn t p)) (coefficientsAt F p) (part (p .links) (p .rows) w) count
 
--- Where it accepts: the level is whole, the next one's matrix stands in the temporaries, with a proper pattern that is no larger.
+-- Where it accepts: the level is whole with its header, the next one's matrix stands in the temporaries, with a proper pattern that is no larger.
 pub record Arrived (z : List ℕ) (G : List Float) (given : Bool) (t : Workspace) (s : Frontier) (p : Place) (m : Mesh) (d : Descent) : Type 0 where
   pub level : levelAt z G (s .a) (s .b) ≡ record { shape = innerShape (m .pattern) (d .steps .map) (d .steps .mesh .pattern .rows); numbers = d .numbers }
+  pub head : headAt z (s .a) ≡ headOf (innerShape (m .pattern) (d .steps .map) (d .steps .mesh .pattern .rows))
   pub wordsend : wordsEnd z (s .a) ≡ p .positions + p .entries
   pub floatsend : floatsEnd z (s .a) (s .b) ≡ p .factor
   pub next : meshAt z G given (nextIn t (d .steps .mesh .pattern .rows) (entries (d .next .pattern))) ≡ nextOf d

@@ -23,8 +23,8 @@ use Rattle.smoother.specs.Smooth.{smoothOf}
 use Rattle.correction.specs.Transfer.{restrictOf, prolongOf}
 use Rattle.hierarchy.specs.Level.{Level}
 use Rattle.layout.specs.declared.Place.{Place}
-use Rattle.layout.specs.Layout.{rowsAt, lastAt, entriesAt, facesAt, locate, levelAt, levelsAt, wordsEnd, floatsEnd, imageEnd}
-use Rattle.layout.proofs.Views.{floats-to, wordsTo, levels-kept}
+use Rattle.layout.specs.Layout.{rowsAt, lastAt, entriesAt, facesAt, locate, levelAt, wordsEnd, floatsEnd, levelsAt, wordsTo, imageEnd}
+use Rattle.layout.proofs.Views.{floats-to, levels-kept}
 use Rattle.index_check.specs.declared.sound.Walk.{Walk}
 use Rattle.index_check.specs.Sound.{walkOf, scratchEnd}
 use Rattle.index_check.proofs.sound.Facts.{Here, Passed, passed, endsOf, targetsOf, sumsOf}

@@ -14,7 +14,7 @@ use Rattle.store.proofs.store.Each.{both-l, both-r}
 use Rattle.store.proofs.store.Region.{kept-part, kept-get}
 use Rattle.cholesky.specs.Triangle.{tri}
 use Rattle.layout.specs.declared.Place.{Place}
-use Rattle.layout.specs.Layout.{rowsAt, lastAt, coupledAt, entriesAt, facesAt, locate, shapeAt, numbersAt, levelAt, wordsEnd, floatsEnd, levelsAt, imageEnd, wordsFit}
+use Rattle.layout.specs.Layout.{rowsAt, lastAt, coupledAt, entriesAt, facesAt, locate, shapeAt, numbersAt, levelAt, wordsEnd, floatsEnd, levelsAt, wordsTo, imageEnd, wordsFit}
 
 -- ---- one level
 
@@ -40,8 +40,17 @@ positions-kept : {e : ℕ} {w z : List ℕ} (at rows entries : ℕ) (last : Bool
 positions-kept {e} {w} {z} at rows entries true k h = no-part at w z
 positions-kept {e} {w} {z} at rows entries false k h = kept-part k at entries (omega arith)
 
-module _ {e e' : ℕ} {w z : List ℕ} {F G : List Float} (a b : ℕ) (words : Kept e w z) (floats : Kept e' F G)
-    (below : wordsEnd w a ≤ e) (under : floatsEnd w a b ≤ e') where
+-- What the words of a level tell is the same in w and z: its sizes, its shape, and where it ends.
+pub record SameWords (w z : List ℕ) (a : ℕ) : Type 0 where
+  pub rows : rowsAt z a ≡ rowsAt w a
+  pub last : lastAt z a ≡ lastAt w a
+  pub coupled : coupledAt z a ≡ coupledAt w a
+  pub entries : entriesAt z a ≡ entriesAt w a
+  pub faces : facesAt z a ≡ facesAt w a
+  pub shape : shapeAt z (locate z a 0) (lastAt z a) (coupledAt z a) ≡ shapeAt w (locate w a 0) (lastAt w a) (coupledAt w a)
+  pub ends : wordsEnd z a ≡ wordsEnd w a
+
+module _ {e : ℕ} {w z : List ℕ} (a b : ℕ) (words : Kept e w z) (below : wordsEnd w a ≤ e) where
   -- the level's sizes, by the old words
   abbrev rows : ℕ
   rows = rowsAt w a
@@ -52,10 +61,6 @@ module _ {e e' : ℕ} {w z : List ℕ} {F G : List Float} (a b : ℕ) (words : K
   bounds : Ends e (p .links) (coupledAt w a) rows (entriesAt w a) (lastAt w a)
   unfolding wordsEnd
   bounds = ends e (p .links) (coupledAt w a) rows (entriesAt w a) (lastAt w a) below
-
-  top : p .factor + tri (coupledAt w a) ≤ e'
-  unfolding floatsEnd
-  top = under
 
   rows-kept : rowsAt z a ≡ rowsAt w a
   rows-kept = let h = bounds .before in kept-get words a 0 (omega arith)
@@ -87,20 +92,6 @@ module _ {e e' : ℕ} {w z : List ℕ} {F G : List Float} (a b : ℕ) (words : K
       let h9 = positions-kept (p .positions) rows (p .entries) (lastAt w a) words (h .located) in
       cc
 
-  numbers-kept : numbersAt G p (coupledAt w a) ≡ numbersAt F p (coupledAt w a)
-  numbers-kept =
-      let h = top in
-      let h2 : part (p .coefficients) (p .faces) G ≡ part (p .coefficients) (p .faces) F = kept-part floats (p .coefficients) (p .faces) (omega arith) in
-      let h3 : part (p .diagonal) (p .rows) G ≡ part (p .diagonal) (p .rows) F = kept-part floats (p .diagonal) (p .rows) (omega arith) in
-      let h4 : part (p .inverse) (p .rows) G ≡ part (p .inverse) (p .rows) F = kept-part floats (p .inverse) (p .rows) (omega arith) in
-      let h5 : part (p .dic) (p .rows) G ≡ part (p .dic) (p .rows) F = kept-part floats (p .dic) (p .rows) (omega arith) in
-      let h6 = kept-part floats (p .factor) (tri (coupledAt w a)) (omega arith) in
-      cc
-
-  level-same : levelAt z G a b ≡ levelAt w F a b
-  unfolding levelAt
-  level-same = rw (rows-kept, entries-kept, faces-kept, last-kept, coupled-kept, shape-kept, numbers-kept)
-
   words-same : wordsEnd z a ≡ wordsEnd w a
   unfolding wordsEnd
   words-same = rw (rows-kept, entries-kept, faces-kept, last-kept, coupled-kept)
@@ -109,39 +100,73 @@ module _ {e e' : ℕ} {w z : List ℕ} {F G : List Float} (a b : ℕ) (words : K
   unfolding floatsEnd
   floats-same = rw (rows-kept, entries-kept, faces-kept, last-kept, coupled-kept)
 
+  module _ {e' : ℕ} {F G : List Float} (floats : Kept e' F G) (under : floatsEnd w a b ≤ e') where
+    top : p .factor + tri (coupledAt w a) ≤ e'
+    unfolding floatsEnd
+    top = under
+
+    numbers-kept : numbersAt G p (coupledAt w a) ≡ numbersAt F p (coupledAt w a)
+    numbers-kept =
+        let h = top in
+        let h2 : part (p .coefficients) (p .faces) G ≡ part (p .coefficients) (p .faces) F = kept-part floats (p .coefficients) (p .faces) (omega arith) in
+        let h3 : part (p .diagonal) (p .rows) G ≡ part (p .diagonal) (p .rows) F = kept-part floats (p .diagonal) (p .rows) (omega arith) in
+        let h4 : part (p .inverse) (p .rows) G ≡ part (p .inverse) (p .rows) F = kept-part floats (p .inverse) (p .rows) (omega arith) in
+        let h5 : part (p .dic) (p .rows) G ≡ part (p .dic) (p .rows) F = kept-part floats (p .dic) (p .rows) (omega arith) in
+        let h6 = kept-part floats (p .factor) (tri (coupledAt w a)) (omega arith) in
+        cc
+
+    level-same : levelAt z G a b ≡ levelAt w F a b
+    unfolding levelAt
+    level-same = rw (rows-kept, entries-kept, faces-kept, last-kept, coupled-kept, shape-kept, numbers-kept)
+
+-- Words that are kept to where a level ends tell the same of it.
+pub words-told : (a : ℕ) {e : ℕ} {w z : List ℕ} → Kept e w z → wordsEnd w a ≤ e → SameWords w z a
+words-told a {e} {w} {z} k h =
+    let rows = rows-kept a 0 k h in
+    let last = last-kept a 0 k h in
+    let coupled = coupled-kept a 0 k h in
+    let entries = entries-kept a 0 k h in
+    let faces = faces-kept a 0 k h in
+    let shape = shape-kept a 0 k h in
+    record {
+      rows = rows;
+      last = rw last;
+      coupled = rw (last, coupled);
+      entries = rw (rows, entries);
+      faces = rw (rows, entries, faces);
+      shape = rw (rows, entries, faces, last, coupled, shape);
+      ends = words-same a 0 k h;
+    }
+
 -- Writes above a level leave the level, and where it ends, as they were.
 pub level-kept : (a b : ℕ) {e e' : ℕ} {w z : List ℕ} {F G : List Float} → Kept e w z → Kept e' F G → wordsEnd w a ≤ e → floatsEnd w a b ≤ e'
     → e ≤ length w → e' ≤ length F
     → (levelAt z G a b ≡ levelAt w F a b) × (wordsEnd z a ≡ wordsEnd w a) × (floatsEnd z a b ≡ floatsEnd w a b)
-level-kept a b k l h h' fits fits' = (level-same a b k l h h', words-same a b k l h h', floats-same a b k l h h')
+level-kept a b k l h h' fits fits' = (level-same a b k h l h', words-same a b k h, floats-same a b k h)
 
 -- ---- levels
 
--- where the words of so many levels end
-unfoldable pub wordsTo : ℕ → List ℕ → ℕ → ℕ
-wordsTo zero w a = a
-wordsTo (suc k) w a = wordsTo k w (wordsEnd w a)
-
--- A level's words end behind where they start,
-words-rise : (w : List ℕ) (a : ℕ) → a ≤ wordsEnd w a
+-- A level's words end behind its header,
+pub words-rise : (w : List ℕ) (a : ℕ) → a + 3 ≤ wordsEnd w a
 unfolding wordsEnd
 words-rise w a = go (lastAt w a)
   where
-    go : (last : Bool) → a ≤ cond last (locate w a 0 .links + coupledAt w a) (locate w a 0 .positions + entriesAt w a)
+    go : (last : Bool) → a + 3 ≤ cond last (locate w a 0 .links + coupledAt w a) (locate w a 0 .positions + entriesAt w a)
     go true = omega arith
     go false = omega arith
 
--- and so do its floats.
+-- and its floats behind where they start.
 floats-rise : (w : List ℕ) (a b : ℕ) → b ≤ floatsEnd w a b
 unfolding floatsEnd
 floats-rise w a b = omega arith
 
-words-to : (k : ℕ) (w : List ℕ) (a : ℕ) → a ≤ wordsTo k w a
+-- So many levels end behind where their words start,
+pub words-to : (k : ℕ) (w : List ℕ) (a : ℕ) → a ≤ wordsTo k w a
 unfolding wordsTo
 words-to zero w a = omega arith
 words-to (suc k) w a = omega (arith, words-rise w a, words-to k w (wordsEnd w a))
 
--- So many levels end behind where their floats start.
+-- and where their floats start.
 pub floats-to : (k : ℕ) (w : List ℕ) (a b : ℕ) → b ≤ imageEnd k w a b
 unfolding imageEnd
 floats-to zero w a b = omega arith

@@ -120,6 +120,11 @@ unfoldable pub levelsAt : ℕ → List ℕ → List Float → ℕ → ℕ → Li
 levelsAt zero w F a b = []
 levelsAt (suc k) w F a b = levelAt w F a b ∷ levelsAt k w F (wordsEnd w a) (floatsEnd w a b)
 
+-- where the words of so many levels end
+unfoldable pub wordsTo : ℕ → List ℕ → ℕ → ℕ
+wordsTo zero w a = a
+wordsTo (suc k) w a = wordsTo k w (wordsEnd w a)
+
 -- where the floats of so many levels end
 unfoldable pub imageEnd : ℕ → List ℕ → ℕ → ℕ → ℕ
 imageEnd zero w a b = b

@@ -1,3 +1,4 @@
 pub mod Layout
+pub mod Headers
 pub mod Parts
 pub mod Placed

@@ -22,6 +22,7 @@ use Rattle.hierarchy.specs.Level.{Level, Hierarchy}
 use Rattle.hierarchy.specs.Build.{Lent, buildOf}
 use Rattle.hierarchy.specs.First.{shapesIn}
 use Rattle.layout.specs.Layout.{viewOf, wordsFit}
+use Rattle.layout.specs.Headers.{headsAt, headsOf}
 use Rattle.index_check.specs.Sound.{soundOf}
 use Rattle.solver.specs.declared.answers.Built.{Built}
 use Rattle.solver.specs.declared.answers.Solved.{Solved}
@@ -89,6 +90,7 @@ pub record Computes (e : Example) (before after : Hierarchy) : Type 0 where
   pub view : viewOf (length (before .levels)) (wordsFor e before) (floatsFor e before) 0 ≡ before
   pub viewed : viewOf (length (before .levels)) (wordsFor e before) (floatsFor e after) 0 ≡ after
   pub fits : wordsFit (length (before .levels)) (wordsFor e before) 0 ≡ true
+  pub heads : headsAt (length (before .levels)) (wordsFor e before) 0 ≡ headsOf (before .levels)
   pub refuses : updateOf (e .input .options) (shapesIn (before .levels)) (e .input .offsets) (e .input .columns) (e .wrong) ≡ refused (e .refusal)
   pub accepts : updateOf (e .input .options) (shapesIn (before .levels)) (e .input .offsets) (e .input .columns) (e .right) ≡ accepted after
   pub solves : solveOf (systemOf (e .input .options) before) (e .asked) (e .rhs) (e .start) [] ≡ given e (e .before)
@@ -130,6 +132,7 @@ module _ {e : Example} {before after : Hierarchy} (c : Computes e before after) 
       answer = rw (c .built) refl;
       view = λ h k. let same : before ≡ h = accepted-one (sym (c .built) ∙ k) in rw⁻¹ same (c .view);
       fits = λ h k. let same : before ≡ h = accepted-one (sym (c .built) ∙ k) in rw⁻¹ same (c .fits);
+      heads = λ h k. let same : before ≡ h = accepted-one (sym (c .built) ∙ k) in rw⁻¹ same (c .heads);
       words = λ q k. let built = c .built in let z : _≡_ {A = ℕ} 0 1 = cc in absurd (omega arith);
       floats = λ q k. let built = c .built in let z : _≡_ {A = ℕ} 0 1 = cc in absurd (omega arith);
       wordsize = length-lay _ _;

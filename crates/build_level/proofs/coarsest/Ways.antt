@@ -33,6 +33,7 @@ use Rattle.hierarchy.specs.Level.{Shape, Numbers, Level, csrOf}
 use Rattle.hierarchy.specs.Build.{Mesh, lastShape, lastLevel}
 use Rattle.layout.specs.declared.Place.{Place}
 use Rattle.layout.specs.Layout.{lastAt, coupledAt, locate, shapeAt, numbersAt, levelAt, wordsEnd, floatsEnd, levelsAt, imageEnd, wordsFit}
+use Rattle.layout.specs.Headers.{headAt, headsAt, headOf, headsOf}
 use Rattle.layout.specs.Parts.{facesIn, terminalIn}
 use Rattle.layout.specs.Placed.{Shapes, coefficientsAt}
 use Rattle.layout.proofs.Places.{located}
@@ -90,6 +91,7 @@ module _ {w z : List ℕ} {F G : List Float} {t : Workspace} {level a b : ℕ} {
     refusal = λ r h. let same : q ≡ r = cc in rw same refl;
     view = λ ls h. let none : _≡_ {A = ℕ} 0 1 = cc in absurd (omega arith);
     fits = λ ls h. let none : _≡_ {A = ℕ} 0 1 = cc in absurd (omega arith);
+    heads = λ ls h. let none : _≡_ {A = ℕ} 0 1 = cc in absurd (omega arith);
     ends = λ ls h. let none : _≡_ {A = ℕ} 0 1 = cc in absurd (omega arith);
     words = words;
     floats = floats;
@@ -97,13 +99,14 @@ module _ {w z : List ℕ} {F G : List Float} {t : Workspace} {level a b : ℕ} {
 
   -- One level.
   levels-one : {l : Level} {end : ℕ} → out ≡ accepted (l ∷ []) → levelAt z G a b ≡ l → floatsEnd z a b ≡ end → wordsEnd z a ≤ length z
-      → end + t .rows ≤ t .values → Levels w z F G t level a b out (Growth.Made (level + 1) end)
-  unfolding levelsAt imageEnd wordsFit
-  levels-one {l} {end} e is top room low = record {
+      → headAt z a ≡ headOf (l .shape) → end + t .rows ≤ t .values → Levels w z F G t level a b out (Growth.Made (level + 1) end)
+  unfolding levelsAt imageEnd wordsFit headsAt headsOf
+  levels-one {l} {end} e is top room head low = record {
     made = λ ls h. rw (ls-is ls h, top) refl;
     refusal = λ r h. let none : _≡_ {A = ℕ} 0 1 = cc in absurd (omega arith);
     view = λ ls h. rw (ls-is ls h, is) refl;
     fits = λ ls h. rw (ls-is ls h, le-leb (wordsEnd z a) (length z) room) refl;
+    heads = λ ls h. rw (ls-is ls h, head) refl;
     ends = λ ls h. rw (ls-is ls h, top) low;
     words = words;
     floats = floats;
@@ -268,6 +271,14 @@ module _ {w : List ℕ} (F : List Float) {o : MultigridOptions} {t : Workspace} 
         let h8 = no-part (p .positions) z in
         cc
 
+    head-whole : headAt z (s .a) ≡ headOf (lastShape (patternAt w (facesIn p)))
+    head-whole =
+        let h0 = shapes-listed (ok .level .stands) l .head in
+        let h1 = l .last in
+        let h2 : idx z (s .a + 2) ≡ length (coupledRowsOf (patternAt w (facesIn p))) =
+        l .count ∙ count ∙ sym (coupled-long (patternAt w (facesIn p))) in
+        cc
+
     module _ {G : List Float} {v : Verdict} (d : FactorDone z F G p coupled (s .level) v) where
       low : Kept (s .a) w z
       low = kept-less (l .kept) (omega arith)
@@ -307,5 +318,6 @@ module _ {w : List ℕ} (F : List Float) {o : MultigridOptions} {t : Workspace} 
                 ∙ ap (λ (x : Numbers). record { shape = lastShape (patternAt w (facesIn p)); numbers = x }) numbers-whole)
                 (floats-listed stands l ∙ ap (λ (n : ℕ). p .factor + n) (sym is))
                 (rw (words-listed stands l, l .kept .size) (omega (arith, b .room)))
+                head-whole
                 (omega (arith, b .ends));
           }

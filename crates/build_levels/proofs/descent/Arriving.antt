@@ -3,7 +3,7 @@
 use mathlib.Core.Path.{_≡_, refl, sym, ap, subst, _∙_}
 use mathlib.Core.Bool.{Bool, true, false, cond}
 use mathlib.Core.List.{List, []}
-use Prim.Native.Nat.{ℕ, _+_, _≤_}
+use Prim.Native.Nat.{ℕ, _+_, _≤_, _<_}
 use native.Mathlib.Omega.{arith}
 use lib.Dec.{eqb}
 use lib.ListN.{length}
@@ -30,6 +30,7 @@ use Rattle.hierarchy.specs.Proper.{Proper}
 use Rattle.hierarchy.specs.Build.{Mesh, Merged, innerShape, coarsened, coarsenedAsked}
 use Rattle.layout.specs.declared.Place.{Place}
 use Rattle.layout.specs.Layout.{lastAt, coupledAt, entriesAt, locate, shapeAt, numbersAt, levelAt, wordsEnd, floatsEnd}
+use Rattle.layout.specs.Headers.{headAt, headOf}
 use Rattle.layout.specs.Placed.{Shapes, coefficientsAt}
 use Rattle.layout.proofs.Places.{located}
 use Rattle.coarsening.specs.declared.coarsen.Held.{Held}
@@ -119,15 +120,22 @@ module _ {w w1 : List ℕ} {size : ℕ} {o : MultigridOptions} {t : Workspace} {
         levels = ok .levels;
       }
 
-  -- Its words say that it is not the last.
-  last-told : idx w1 (s .a + 1) ≡ 0
-  last-told =
+  -- The two words of its header that a last level would tell of are zeros,
+  zeros-told : (k : ℕ) → k < 2 → idx w1 (s .a + 1 + k) ≡ 0
+  zeros-told k i =
       let l = ok .level .stands .placed in
       let work = ok .level .room .work in
       let below = words-below ok in
       let at : part (s .a + 1) 2 w1 ≡ filled 2 0 = wrote-at h (omega arith) in
-      ap (idx w1) (omega arith) ∙ sym (getD-part (s .a + 1) 2 w1 0 0 (omega arith)) ∙ ap (λ (v : List ℕ). idx v 0) at
-      ∙ getD-tab (λ _. 0) 2 0 0 (omega arith)
+      sym (getD-part (s .a + 1) 2 w1 k 0 i) ∙ ap (λ (v : List ℕ). idx v k) at ∙ getD-tab (λ _. 0) 2 k 0 i
+
+  -- the first, which says that it is not the last,
+  last-told : idx w1 (s .a + 1) ≡ 0
+  last-told = ap (idx w1) (omega arith) ∙ zeros-told 0 (omega arith)
+
+  -- and the second.
+  none-told : idx w1 (s .a + 2) ≡ 0
+  none-told = ap (idx w1) (omega arith) ∙ zeros-told 1 (omega arith)
 
 -- ---- the DIC data
 
@@ -339,11 +347,20 @@ module _ {w w1 : List ℕ} {F F1 : List Float} {o : MultigridOptions} {t : Works
         place-is : locate w3 (s .a) (s .b) ≡ p
         place-is = located (ok .level .stands .placed) shapes (ok .level .stands .proper .valid)
 
-        last : lastAt w3 (s .a) ≡ false
-        last =
+        header-stays : (i : ℕ) → i < s .a + 3 → idx w3 i ≡ idx w1 i
+        header-stays i k =
             let l = ok .level .stands .placed in
-            ap (λ (i : ℕ). eqb i 1) (kept-get (formed .words) (s .a + 1) 0 (omega arith)
-            ∙ kept-get (g .words) (s .a + 1) 0 (omega arith) ∙ last-told ok h)
+            kept-get (formed .words) i 0 (omega arith) ∙ kept-get (g .words) i 0 (omega arith)
+
+        last : lastAt w3 (s .a) ≡ false
+        last = ap (λ (i : ℕ). eqb i 1) (header-stays (s .a + 1) (omega arith) ∙ last-told ok h)
+
+        head-is : headAt w3 (s .a) ≡ headOf (innerShape own (x .map) (x .mesh .pattern .rows))
+        head-is =
+            let h0 = shapes .head in
+            let h1 = header-stays (s .a + 1) (omega arith) ∙ last-told ok h in
+            let h2 = header-stays (s .a + 2) (omega arith) ∙ none-told ok h in
+            cc
 
         links-stay : part (p .links) (p .rows) w3 ≡ x .map
         links-stay = let l = ok .level .stands .placed in kept-part (formed .words) (p .links) (p .rows) (omega arith) ∙ links-made
@@ -417,6 +434,7 @@ module _ {w w1 : List ℕ} {F F1 : List Float} {o : MultigridOptions} {t : Works
         arrives : Arrived w3 F3 given t s p (fine given) whole
         arrives = record {
           level = level-is;
+          head = head-is;
           wordsend = words-at w3 (s .a) (s .b) place-is last;
           floatsend = floats-at w3 (s .a) (s .b) place-is last;
           next = next-there;

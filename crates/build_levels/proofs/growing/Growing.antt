@@ -9,9 +9,9 @@ use lib.Dec.{eqb, leb}
 use lib.ListN.{length}
 use lib.Ieee.{Float}
 use borrow.Author.Tests.{leb-true, le-leb, lt-leb, eq-eqb, ne-eqb}
-use Rattle.store.specs.Region.{part, Kept}
+use Rattle.store.specs.Region.{idx, part, Kept}
 use Rattle.store.proofs.store.Each.{both-l, both-r}
-use Rattle.store.proofs.store.Region.{length-part, kept-self, kept-on, kept-less}
+use Rattle.store.proofs.store.Region.{length-part, kept-self, kept-on, kept-less, kept-get}
 use Rattle.options.specs.declared.options.MultigridOptions.{MultigridOptions}
 use Rattle.refusal.specs.declared.Refusal.{Refusal}
 use Rattle.refusal.specs.Refusal.{storeTooSmall}
@@ -32,9 +32,10 @@ use Rattle.hierarchy.proofs.Accepted.{then-split, ends-zero}
 use Rattle.hierarchy.proofs.Proper.{valid-range, first-joined}
 use Rattle.layout.specs.declared.Place.{Place}
 use Rattle.layout.specs.Layout.{placeOf, levelAt, wordsEnd, floatsEnd, levelsAt, imageEnd, wordsFit}
+use Rattle.layout.specs.Headers.{headAt, headsAt, headOf, headsOf}
 use Rattle.layout.specs.Placed.{Shapes, coefficientsAt}
 use Rattle.layout.proofs.Places.{placed}
-use Rattle.layout.proofs.Views.{level-kept}
+use Rattle.layout.proofs.Views.{level-kept, words-rise}
 use Rattle.coarsening.specs.declared.coarsen.Workspace.{Workspace}
 use Rattle.coarsening.specs.CoarsenContract.{patternAt, meshAt, nextIn}
 use Rattle.build_level.specs.declared.laying.Frontier.{Frontier}
@@ -171,6 +172,7 @@ module _ {w z : List ℕ} {F G : List Float} {t : Workspace} {level a b : ℕ} {
     refusal = λ q h. l .refusal q (sym e ∙ h);
     view = λ ls h. l .view ls (sym e ∙ h);
     fits = λ ls h. l .fits ls (sym e ∙ h);
+    heads = λ ls h. l .heads ls (sym e ∙ h);
     ends = λ ls h. l .ends ls (sym e ∙ h);
     words = kept-on words (l .words);
     floats = kept-on floats (l .floats);
@@ -190,6 +192,10 @@ module _ (k : ℕ) (z : List ℕ) (a b : ℕ) {a' b' : ℕ} (words : wordsEnd z 
   fit-front : a' ≤ length z → wordsFit k z a' ≡ true → wordsFit (suc k) z a ≡ true
   unfolding wordsFit
   fit-front h e = rw (words, le-leb a' (length z) h, e)
+
+  heads-front : headsAt (suc k) z a ≡ headAt z a ∷ headsAt k z a'
+  unfolding headsAt
+  heads-front = rw words
 
 module _ {w z y : List ℕ} {F G H : List Float} {o : MultigridOptions} {given : Bool} {t : Workspace} {s n : Frontier}
     {out : Outcome (List Level)} {r : Growth} (h : Ahead w z F G o given t s out n) (g : Grown z y G H o given t n r) where
@@ -248,6 +254,25 @@ module _ {w z y : List ℕ} {F G H : List Float} {o : MultigridOptions} {given :
       subst (λ (ls : List Level). wordsFit (length ls) y (s .a) ≡ true) (x .2)
       (fit-front (length (x .0)) y (s .a) (s .b) (k .1) (k .2) (omega arith) (deep .fits (x .0) (x .1)))
 
+  -- the header of the level before is as it was
+  head-still : headAt y (s .a) ≡ headOf (levelAt z G (s .a) (s .b) .shape)
+  head-still =
+      let e = h .wordsend in
+      let rise = words-rise z (s .a) in
+      let h0 : idx y (s .a) ≡ idx z (s .a) = kept-get (deep .words) (s .a) 0 (omega arith) in
+      let h1 : idx y (s .a + 1) ≡ idx z (s .a + 1) = kept-get (deep .words) (s .a + 1) 0 (omega arith) in
+      let h2 : idx y (s .a + 2) ≡ idx z (s .a + 2) = kept-get (deep .words) (s .a + 2) 0 (omega arith) in
+      let same : headAt y (s .a) ≡ headAt z (s .a) = cc in
+      same ∙ h .head
+
+  heads-on : (ls : List Level) → out ≡ accepted ls → headsAt (length ls) y (s .a) ≡ headsOf ls
+  unfolding headsOf
+  heads-on ls e =
+      let x = consed ls e in
+      let k = level-still in
+      subst (λ (ls : List Level). headsAt (length ls) y (s .a) ≡ headsOf ls) (x .2)
+      (heads-front (length (x .0)) y (s .a) (s .b) (k .1) (k .2) ∙ rw (head-still, deep .heads (x .0) (x .1)))
+
   ends-on : (ls : List Level) → out ≡ accepted ls → imageEnd (length ls) y (s .a) (s .b) + t .rows ≤ t .values
   ends-on ls e =
       let x = consed ls e in
@@ -262,6 +287,7 @@ module _ {w z y : List ℕ} {F G H : List Float} {o : MultigridOptions} {given :
     refusal = refused-on;
     view = view-on;
     fits = fits-on;
+    heads = heads-on;
     ends = ends-on;
     words = kept-on (h .words) (kept-less (deep .words) (h .above));
     floats = kept-on (h .floats) (kept-less (deep .floats) (h .over));
@@ -330,6 +356,7 @@ module _ {w z : List ℕ} {F G : List Float} {o : MultigridOptions} {given : Boo
       frontier = h .frontier;
       more = h .more;
       level = h .level;
+      head = h .head;
       wordsend = h .wordsend;
       floatsend = h .floatsend;
       above = h .above;
@@ -648,6 +675,7 @@ module _ {w z : List ℕ} {F : List Float} {o : MultigridOptions} {given : Bool}
           frontier = next-frontier fit;
           more = let more = some-more in omega arith;
           level = refl;
+          head = arrived .head ∙ sym (ap (λ (l : Level). headOf (l .shape)) (arrived .level));
           wordsend = arrived .wordsend;
           floatsend = arrived .floatsend;
           above = edges .above;

@@ -121,6 +121,7 @@ module _ (rows : ℕ) (offsets columns : List ℕ) (values weights : List Float)
           answer = b .answer ∙ ap (builtOf with-some) same ∙ answer-unread (buildOf l with-none);
           view = λ h e. b .view h (same ∙ e);
           fits = λ h e. b .fits h (same ∙ e);
+          heads = λ h e. b .heads h (same ∙ e);
           words = λ q e. b .words q (same ∙ e);
           floats = λ q e. b .floats q (same ∙ e);
           wordsize = b .wordsize;
