@@ -1,1 +1,4 @@
 pub mod Trace
+pub mod ScratchWords
+pub mod ScratchFloats
+pub mod Scratch

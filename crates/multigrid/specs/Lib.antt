@@ -3,4 +3,5 @@ pub mod Stores
 pub mod UpdatingCall
 pub mod SolvingCall
 pub mod CountingCall
+pub mod Scratch
 pub mod Trace
