@@ -43,7 +43,7 @@ use Rattle.multigrid.specs.New.{statisticsOf, NewDone}
 use Rattle.multigrid.proofs.building.Builds.{made-is}
 use Rattle.multigrid.specs.UpdatingCall.{updatedOf, UpdateCall}
 use Rattle.multigrid.specs.SolvingCall.{solvedOf, SolveCall}
-use Rattle.multigrid.specs.Trace.{Event, Trace, withValues, booked, Fresh, Agrees}
+use Rattle.multigrid.specs.Trace.{Event, Trace, floatsAfter, statisticsAfter, withValues, booked, bookOf, Fresh, Agrees}
 use Rattle.solve.proofs.Counters.{same-answer, same-solution}
 use Rattle.update.proofs.refresh.First.{update-first}
 
@@ -236,3 +236,25 @@ fresh-call {w} {z} {F} {G} {H} {s} {t} {u} {x} {h} {rhs} {start} {y} {y'} {o} {r
       f .answer (m .0) k (m .1) ∙ sym (c .done .answer ∙ ap answerOf same),
       f .solution (m .0) k (m .1) ∙ sym (c .done .solution ∙ ap (solutionOf start) same),
     )
+
+-- ---- calls beside calls
+
+-- What holds before calls holds after them, of what the book then has.
+trace-holds : {h : Handle} {w : List ℕ} {F : List Float} {t : List ℕ} {x : Input} {events : List Event} (trace : Trace h w F t events)
+    → Holds h w F t x → Holds h w (floatsAfter trace) (statisticsAfter trace) (bookOf x events)
+unfolding floatsAfter statisticsAfter bookOf
+trace-holds Trace.nothing i = i
+trace-holds (Trace.update c rest) i = trace-holds rest (update-holds i c)
+trace-holds (Trace.solve c rest) i = trace-holds rest (solve-holds i c)
+
+-- After a build with weights and any calls, a solve has the answer and the solution of any other build and solve whose build was given
+-- what the book holds after those calls, in whatever stores, and whose solve was given the same as this one.
+pub refreshed-beside-fresh : {w z w' z' : List ℕ} {F G H F' G' H' : List Float} {s t u s' t' u' : List ℕ} {x : Input} {h h' : Handle}
+    {events : List Event} {rhs start y y' : List Float} {o : LinearSolverOptions} {r r' : Solved}
+    → x .given ≡ true → NewDone w z F G s t x (Built.Made h) → (trace : Trace h z G t events)
+    → SolveCall h z (floatsAfter trace) H (statisticsAfter trace) u rhs start y o r
+    → NewDone w' z' F' G' s' t' (bookOf x events) (Built.Made h') → SolveCall h' z' G' H' t' u' rhs start y' o r'
+    → (r ≡ r') × (y ≡ y')
+refreshed-beside-fresh {w' = w'} {F' = F'} {s' = s'} {x = x} {h = h} given d trace c d' c' =
+    let i = trace-holds trace (built-holds x h given d (new-sound d)) in
+    fresh-call (solve-fresh i c (lentOf w' F' (length s' / 4))) d' c'

@@ -37,6 +37,18 @@ pub data Trace (h : Handle) (w : List ℕ) : List Float → List ℕ → List Ev
       → SolveCall h w F G t u rhs x y s r → Trace h w G u rest
       → Trace h w F t (solved rhs x s r y ∷ rest)
 
+-- the floats as the calls leave them
+unfoldable pub floatsAfter : {h : Handle} {w : List ℕ} {F : List Float} {t : List ℕ} {events : List Event} → Trace h w F t events → List Float
+floatsAfter {F = F} Trace.nothing = F
+floatsAfter (Trace.update c rest) = floatsAfter rest
+floatsAfter (Trace.solve c rest) = floatsAfter rest
+
+-- and the statistics
+unfoldable pub statisticsAfter : {h : Handle} {w : List ℕ} {F : List Float} {t : List ℕ} {events : List Event} → Trace h w F t events → List ℕ
+statisticsAfter {t = t} Trace.nothing = t
+statisticsAfter (Trace.update c rest) = statisticsAfter rest
+statisticsAfter (Trace.solve c rest) = statisticsAfter rest
+
 -- ---- the book: what it holds are the arguments of a build, at first of the one before the calls
 
 -- the same with other values
@@ -55,6 +67,12 @@ withValues x values = record {
 abbrev pub booked : Input → List Float → Updated → Input
 booked x values Updated.Done = withValues x values
 booked x values (Updated.Refused q) = x
+
+-- after calls: that of each update, in turn; a solve changes nothing
+unfoldable pub bookOf : Input → List Event → Input
+bookOf x [] = x
+bookOf x (Event.updated offsets columns values r ∷ rest) = bookOf (booked x values r) rest
+bookOf x (Event.solved rhs start s r y ∷ rest) = bookOf x rest
 
 -- A solve with the answer r and the solution y has those of the book, which holds x: wherever a build of x in what is lent gives a hierarchy
 -- b, they are those of a solve of b, whatever the counters c so far.
