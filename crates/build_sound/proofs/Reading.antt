@@ -25,8 +25,7 @@ use Rattle.hierarchy.specs.Build.{shapeOf, lastShape, innerShape}
 use Rattle.hierarchy.specs.Proper.{Proper}
 use Rattle.hierarchy.proofs.First.{length-uppers}
 use Rattle.layout.specs.Layout.{rowsAt, lastAt, coupledAt, entriesAt, facesAt, locate, levelAt, wordsEnd, floatsEnd, levelsAt, wordsFit}
-use Rattle.index_check.specs.declared.sound.Walk.{Walk}
-use Rattle.index_check.specs.Sound.{allBelow, headSound, shapeIn, arraysSound, rowSound, rowsWalked}
+use Rattle.index_check.specs.Sound.{allBelow, headSound, shapeIn, arraysSound, rowPlaced}
 use Rattle.build_sound.specs.Laid.{Small}
 
 -- ---- lists
@@ -70,9 +69,9 @@ module _ {p : Pattern} (f : Proper p) where
         s,
       ) refl
 
-  -- Its rows are sound.
-  row-shape : (terminal : Bool) (links positions : List ℕ) (row : ℕ) → row < p .rows → rowSound (shapeOf p terminal links positions) row ≡ true
-  unfolding rowSound
+  -- Its rows stand in order.
+  row-shape : (terminal : Bool) (links positions : List ℕ) (row : ℕ) → row < p .rows → rowPlaced (shapeOf p terminal links positions) row ≡ true
+  unfolding rowPlaced
   row-shape terminal links positions row h =
       let v = f .valid in
       let d = diagonal-entry v (f .rising) (f .diagonal) row h in
@@ -104,14 +103,6 @@ module _ {p : Pattern} (f : Proper p) where
       let size = length-tab (λ e. placeOf count (joins p map) (idx map (rowOf p e)) (idx map (columnOf p e))) (entries p) in
       arrays-shape count (entries (coarse p map count)) false map (coarsePositions p map count) (all-below map (m .size) (m .below))
       (all-below (coarsePositions p map count) size (position-below p map count (f .valid) m))
-
--- So many rows that are sound are walked.
-pub rows-walked : (s : Shape) (level more row : ℕ) → ((i : ℕ) → row ≤ i → i < row + more → rowSound s i ≡ true)
-    → rowsWalked s level more row ≡ Walk.Sound
-unfolding rowsWalked
-rows-walked s level zero row all = refl
-rows-walked s level (suc more) row all = rw (all row (omega arith) (omega arith))
-    (rows-walked s level more (row + 1) (λ i l h. all i (omega arith) (omega arith)))
 
 -- ---- the words of a level
 
@@ -150,10 +141,9 @@ module _ (w : List ℕ) (a : ℕ) {p : Pattern} {terminal : Bool} {links positio
         le-leb (coupledAt w a) (rowsAt w a) (omega arith),
       ) refl
 
-  -- The rows are walked.
-  pub rows-sound : (level : ℕ) → rowsWalked (shapeIn w a) level (rowsAt w a) 0 ≡ Walk.Sound
-  rows-sound level = rw (is, rows-told) (rows-walked (shapeOf p terminal links positions) level (p .rows) 0
-      (λ i _ h. row-shape (small .proper) terminal links positions i (omega arith)))
+  -- The rows stand in order.
+  pub rows-placed : (row : ℕ) → row < rowsAt w a → rowPlaced (shapeIn w a) row ≡ true
+  rows-placed row h = let r = rows-told in rw is (row-shape (small .proper) terminal links positions row (omega arith))
 
 -- The first of two ends, where the test says so.
 first-of : (b : Bool) (x y : ℕ) {n : ℕ} → b ≡ true → cond b x y ≤ n → x ≤ n

@@ -1,9 +1,9 @@
 -- What a build left passes question 19.
 -- Assumes nothing.
 use mathlib.Core.Path.{_≡_, refl, sym, ap, _∙_, subst}
-use mathlib.Core.Bool.{Bool, true, false, not, _&&_}
+use mathlib.Core.Bool.{Bool, true, false, _&&_}
 use mathlib.Core.List.{List}
-use Prim.Native.Nat.{ℕ, zero, suc, _+_, _-_, _≤_}
+use Prim.Native.Nat.{ℕ, zero, suc, _+_, _-_, _≤_, _<_}
 use native.Mathlib.Omega.{arith}
 use lib.ListN.{length}
 use lib.Ieee.{Float}
@@ -23,10 +23,11 @@ use Rattle.hierarchy.proofs.Depth.{levels-kept, build-levels}
 use Rattle.layout.specs.Layout.{rowsAt, lastAt, entriesAt, wordsEnd, floatsEnd, levelsAt, wordsFit, viewOf}
 use Rattle.build.specs.Contract.{handleOf}
 use Rattle.index_check.specs.declared.sound.Walk.{Walk}
-use Rattle.index_check.specs.Sound.{headSound, shapeIn, arraysSound, goOn, andThen, rowsWalked, linked, walkOf, isSound, scratchEnd, cycleStart, handleSound, soundOf}
+use Rattle.index_check.specs.Sound.{headSound, shapeIn, arraysSound, rowPlaced, targetsOf, sumsOf, walkOf, isSound, scratchEnd, cycleStart, handleSound, soundOf}
+use Rattle.index_check.proofs.sound.Walks.{endsOf, head-fits, level-walked, walk-closed, walk-none}
 use Rattle.build_sound.specs.Laid.{Small, Laid, last, inner, chargesOf}
 use Rattle.build_sound.proofs.Growth.{grow-diagonal, grow-laid, held, grow-paid}
-use Rattle.build_sound.proofs.Reading.{last-arrays, inner-arrays, rows-told, last-told, entries-told, head-told, rows-sound, coupled-told, coupled-none, view-first, shape-told, fit-split}
+use Rattle.build_sound.proofs.Reading.{last-arrays, inner-arrays, rows-told, last-told, entries-told, head-told, rows-placed, coupled-told, coupled-none, view-first, shape-told, fit-split}
 use Rattle.build_sound.proofs.Charges.{solve-fits}
 
 -- ---- the walk
@@ -42,28 +43,18 @@ record Walked (w : List ℕ) (a level k : ℕ) (p : Pattern) : Type 0 where
 both : {a b : Bool} → a ≡ true → b ≡ true → (a && b) ≡ true
 both e f = rw (e, f) refl
 
--- Where the head and the links of a level are sound, its rows walked and the rest too, all is walked.
-gone : {head links : Bool} {rows rest : Walk} (stop : Walk) → head ≡ true → links ≡ true → rows ≡ Walk.Sound → rest ≡ Walk.Sound
-    → goOn (head && links) stop (andThen rows rest) ≡ Walk.Sound
-gone stop h l r e = rw (h, l, r, e) refl
+module _ (w : List ℕ) (level a : ℕ) (head : headSound w a ≡ true) (placed : (row : ℕ) → row < rowsAt w a → rowPlaced (shapeIn w a) row ≡ true) where
+  -- A level is walked with those after it,
+  walked-on : (k : ℕ) → lastAt w a ≡ endsOf k → arraysSound (targetsOf k w a) (sumsOf k w a) (shapeIn w a) ≡ true
+      → walkOf k w (level + 1) (wordsEnd w a) ≡ Walk.Sound → walkOf (suc k) w level a ≡ Walk.Sound
+  walked-on k l arrays rest = walk-closed k w level a
+      (record { head = head-fits w a k head l; here = level-walked w a (targetsOf k w a) (sumsOf k w a) level head arrays placed; rest = rest })
 
--- A level is walked with those after it.
-walked-on : (k : ℕ) (w : List ℕ) (level a : ℕ) → headSound w a ≡ true → linked k w a ≡ true
-    → rowsWalked (shapeIn w a) level (rowsAt w a) 0 ≡ Walk.Sound → walkOf k w (level + 1) (wordsEnd w a) ≡ Walk.Sound
-    → walkOf (suc k) w level a ≡ Walk.Sound
-unfolding walkOf
-walked-on k w level a h l r e = gone (Walk.Stopped level 0) h l r e
-
--- No level is walked.
-walked-none : (w : List ℕ) (level a : ℕ) → walkOf 0 w level a ≡ Walk.Sound
-unfolding walkOf
-walked-none w level a = refl
-
--- A level with aggregates is linked to the next.
-linked-inner : (k : ℕ) (w : List ℕ) (a : ℕ) → 1 ≤ k → lastAt w a ≡ false → headSound w (wordsEnd w a) ≡ true
-    → arraysSound (rowsAt w (wordsEnd w a)) (entriesAt w (wordsEnd w a)) (shapeIn w a) ≡ true → linked k w a ≡ true
-linked-inner zero w a some l h s = absurd (omega arith)
-linked-inner (suc k) w a some l h s = both (both (ap not l) h) s
+  -- and so is one with aggregates, whose links lead to the next.
+  walked-inner : (k : ℕ) → 1 ≤ k → lastAt w a ≡ false → arraysSound (rowsAt w (wordsEnd w a)) (entriesAt w (wordsEnd w a)) (shapeIn w a) ≡ true
+      → walkOf k w (level + 1) (wordsEnd w a) ≡ Walk.Sound → walkOf (suc k) w level a ≡ Walk.Sound
+  walked-inner zero some l arrays rest = absurd (omega arith)
+  walked-inner (suc k) some l arrays rest = walked-on (suc k) l arrays rest
 
 -- There is a level.
 laid-some : {most : ℕ} {p : Pattern} {levels : List Level} → Laid most p levels → 1 ≤ length levels
@@ -84,8 +75,7 @@ walk-laid {most} {p} (last small few is) w F a b level view fits =
       rows = r;
       long = entries-told w a small here;
       head = head;
-      walk = walked-on 0 w level a head (both (last-told w a small here) arrays) (rows-sound w a small here level)
-          (walked-none w (level + 1) (wordsEnd w a));
+      walk = walked-on w level a head (rows-placed w a small here) 0 (last-told w a small here) arrays (walk-none w (level + 1) (wordsEnd w a));
     }
 walk-laid {most} {p} (inner {rest = rest} {map = map} {count = count} small maps is on) w F a b level view fits =
     let v = view-first w F a b (length rest) view in
@@ -100,8 +90,7 @@ walk-laid {most} {p} (inner {rest = rest} {map = map} {count = count} small maps
       rows = rows-told w a small here;
       long = entries-told w a small here;
       head = head;
-      walk = walked-on (length rest) w level a head
-          (linked-inner (length rest) w a (laid-some on) (last-told w a small here) (next .head) arrays) (rows-sound w a small here level) (next .walk);
+      walk = walked-inner w level a head (rows-placed w a small here) (length rest) (laid-some on) (last-told w a small here) arrays (next .walk);
     }
 
 -- ---- the build

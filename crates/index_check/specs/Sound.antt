@@ -1,10 +1,10 @@
 -- Question 19: what the index check asks of a handle and of stores that anybody may have written. Definitions only.
 use mathlib.Core.Bool.{Bool, true, false, not, _&&_}
 use mathlib.Core.List.{List}
-use Prim.Native.Nat.{ℕ, zero, suc, _+_, _*_}
+use Prim.Native.Nat.{ℕ, zero, suc, _+_, _*_, _-_}
 use lib.Dec.{eqb, leb, ltb}
 use lib.ListN.{length}
-use Rattle.store.specs.Region.{idx}
+use Rattle.store.specs.Region.{idx, part}
 use Rattle.store.specs.Vector.{each}
 use Rattle.options.specs.declared.options.Handle.{Handle}
 use Rattle.options.specs.Options.{validOf, isCholesky}
@@ -32,7 +32,7 @@ headSound w a =
 abbrev pub shapeIn : List ℕ → ℕ → Shape
 shapeIn w a = shapeAt w (locate w a 0) (lastAt w a) (coupledAt w a)
 
--- the columns and positions of a shape whose links lead to so many rows, and its positions to so many entries
+-- the tables of a shape whose links lead to so many rows, and its positions to so many entries
 unfoldable pub arraysSound : ℕ → ℕ → Shape → Bool
 arraysSound targets sums s =
     allBelow (s .pattern .rows) (s .pattern .columns)
@@ -42,12 +42,42 @@ arraysSound targets sums s =
     && allBelow targets (s .links)
     && allBelow sums (s .positions)
 
--- a row: neither its entries nor its faces end before they start, and its diagonal entry is an entry
-unfoldable pub rowSound : Shape → ℕ → Bool
-rowSound s row =
+-- ---- one row
+
+-- where a row stands: neither its entries nor its faces end before they start, and its diagonal entry is an entry
+unfoldable pub rowPlaced : Shape → ℕ → Bool
+rowPlaced s row =
     leb (idx (s .pattern .offsets) row) (idx (s .pattern .offsets) (row + 1))
     && leb (idx (s .starts) row) (idx (s .starts) (row + 1))
     && ltb (idx (s .diagonals) row) (entries (s .pattern))
+
+-- the entries from one to before another: there are so many, their columns are rows, and their positions, which the last level has none of,
+-- are entries of the next level
+unfoldable pub entriesSound : ℕ → Shape → ℕ → ℕ → Bool
+entriesSound sums s from to =
+    leb to (entries (s .pattern))
+    && allBelow (s .pattern .rows) (part from (to - from) (s .pattern .columns))
+    && allBelow sums (part from (to - from) (s .positions))
+
+-- the faces from one to before another: there are so many, the column of each is a row, and each stands for two entries
+unfoldable pub facesSound : Shape → ℕ → ℕ → Bool
+facesSound s from to =
+    leb to (length (s .neighbors))
+    && allBelow (s .pattern .rows) (part from (to - from) (s .neighbors))
+    && allBelow (entries (s .pattern)) (part from (to - from) (s .uppers))
+    && allBelow (entries (s .pattern)) (part from (to - from) (s .lowers))
+
+-- the link of a row, which on the last level only as many rows have as are coupled
+unfoldable pub linkSound : ℕ → Shape → ℕ → Bool
+linkSound targets s row = allBelow targets (part row 1 (s .links))
+
+-- a row: where it stands, its entries, its faces and its link
+unfoldable pub rowSound : ℕ → ℕ → Shape → ℕ → Bool
+rowSound targets sums s row =
+    rowPlaced s row
+    && entriesSound sums s (idx (s .pattern .offsets) row) (idx (s .pattern .offsets) (row + 1))
+    && facesSound s (idx (s .starts) row) (idx (s .starts) (row + 1))
+    && linkSound targets s row
 
 -- ---- the walk over levels and rows
 
@@ -61,25 +91,47 @@ abbrev pub andThen : Walk → Walk → Walk
 andThen Walk.Sound rest = rest
 andThen (Walk.Stopped level row) rest = Walk.Stopped level row
 
+-- the head of a level after which so many come: the last level alone is terminal
+abbrev pub headFits : ℕ → List ℕ → ℕ → Bool
+headFits zero w a = headSound w a && lastAt w a
+headFits (suc more) w a = headSound w a && not (lastAt w a)
+
+-- the heads of so many levels, the first of which is `level` and starts at a: a head is told with row 0
+unfoldable pub headsWalked : ℕ → List ℕ → ℕ → ℕ → Walk
+headsWalked zero w level a = Walk.Sound
+headsWalked (suc more) w level a = goOn (headFits more w a) (Walk.Stopped level 0) (headsWalked more w (level + 1) (wordsEnd w a))
+
 -- so many rows of a level from `row` on
-unfoldable pub rowsWalked : Shape → ℕ → ℕ → ℕ → Walk
-rowsWalked s level zero row = Walk.Sound
-rowsWalked s level (suc more) row = goOn (rowSound s row) (Walk.Stopped level row) (rowsWalked s level more (row + 1))
+unfoldable pub rowsWalked : ℕ → ℕ → Shape → ℕ → ℕ → ℕ → Walk
+rowsWalked targets sums s level zero row = Walk.Sound
+rowsWalked targets sums s level (suc more) row =
+    goOn (rowSound targets sums s row) (Walk.Stopped level row) (rowsWalked targets sums s level more (row + 1))
 
--- the level at a, after which so many come: the last one alone is terminal, and its links are rows of its own; those of another lead to
--- the next level, whose head must be sound for that
-abbrev pub linked : ℕ → List ℕ → ℕ → Bool
-linked zero w a = lastAt w a && arraysSound (rowsAt w a) 0 (shapeIn w a)
-linked (suc more) w a =
-    let b = wordsEnd w a in
-    not (lastAt w a) && headSound w b && arraysSound (rowsAt w b) (entriesAt w b) (shapeIn w a)
+-- a level: its rows, and then its tables whole, because a store that no build left may hold entries and faces before those of the first row:
+-- what no row has is told with row 0
+abbrev pub levelWalked : ℕ → ℕ → Shape → ℕ → Walk
+levelWalked targets sums s level =
+    andThen (rowsWalked targets sums s level (s .pattern .rows) 0) (goOn (arraysSound targets sums s) (Walk.Stopped level 0) Walk.Sound)
 
--- so many levels, the first of which is `level` and starts at a
+-- what the links of a level, after which so many come, are below: those of the last lead to rows of its own, those of another to the next
+abbrev pub targetsOf : ℕ → List ℕ → ℕ → ℕ
+targetsOf zero w a = rowsAt w a
+targetsOf (suc more) w a = rowsAt w (wordsEnd w a)
+
+-- what its positions are below
+abbrev pub sumsOf : ℕ → List ℕ → ℕ → ℕ
+sumsOf zero w a = 0
+sumsOf (suc more) w a = entriesAt w (wordsEnd w a)
+
+-- so many levels, the first of which is `level` and starts at a, row by row
+unfoldable pub levelsWalked : ℕ → List ℕ → ℕ → ℕ → Walk
+levelsWalked zero w level a = Walk.Sound
+levelsWalked (suc more) w level a =
+    andThen (levelWalked (targetsOf more w a) (sumsOf more w a) (shapeIn w a) level) (levelsWalked more w (level + 1) (wordsEnd w a))
+
+-- first the heads, level by level, because a level's links and positions are asked against the next one's head; then the rows
 unfoldable pub walkOf : ℕ → List ℕ → ℕ → ℕ → Walk
-walkOf zero w level a = Walk.Sound
-walkOf (suc more) w level a =
-    goOn (headSound w a && linked more w a) (Walk.Stopped level 0)
-    (andThen (rowsWalked (shapeIn w a) level (rowsAt w a) 0) (walkOf more w (level + 1) (wordsEnd w a)))
+walkOf levels w level a = andThen (headsWalked levels w level a) (levelsWalked levels w level a)
 
 -- whether a walk went through
 abbrev pub isSound : Walk → Bool

@@ -1,40 +1,66 @@
 // The index check of question 19, which solve, update and statistics make before they read a store.
 ghost use mathlib.Core.Path.{_≡_};
-ghost use Rattle.index_check.specs.Sound.{walkOf, handleSound, soundOf};
-ghost use Rattle.index_check.specs.CheckContract.{SizesOk, sizesAsked};
-use crate::level;
+ghost use Rattle.index_check.specs.declared.sound.Walk.{Walk};
+ghost use Rattle.index_check.specs.Sound.{headsWalked, levelsWalked, walkOf, handleSound, soundOf};
+ghost use Rattle.index_check.specs.CheckContract.{HeadsOk, SizesOk, sizesAsked};
+use crate::head;
+use crate::row;
 use crate::sound;
 use crate::sound::Walk;
+use crate::tables;
 use options::Handle;
-use options::MultigridCoarseSolver;
+use refusal::Verdict;
 
-// The first level or row that fails ends the walk. Rows are asked one by one only where one of the level fails: no other is left to ask.
-fn walk_levels(w: &[u32], levels: u64) -> Walk
-    ensures { λ r. ⌜ r ≡ walkOf levels (now (w .entry)) 0 0 ⌝ }
+// The walk ended at this row of this level.
+fn stopped(level: u64, row: usize) -> Walk
+    ensures { λ r. ⌜ r ≡ Walk.Stopped level row ⌝ }
+{
+    Walk::Stopped {
+        level: level,
+        row: row as u64,
+    }
+}
+
+// The first head that fails ends the walk over the heads.
+fn walk_heads(w: &[u32], levels: u64) -> Walk
+    ensures { λ r. ⌜ r ≡ headsWalked levels (now (w .entry)) 0 0 ⌝ }
+{
+    let mut level: u64 = 0;
+    let mut a: usize = 0;
+    while level < levels {
+        if !head::head_fits(w, a, levels - level - 1) {
+            return stopped(level, 0);
+        }
+        a = layout::words_end(w, a);
+        level += 1;
+    }
+    Walk::Sound
+}
+
+// The first entry that fails ends the walk over levels and rows. The rows of a level are asked one by one only where its tables, asked
+// all at once, fail; where each row passes, what fails belongs to none.
+fn walk_rows(w: &[u32], levels: u64) -> Walk
+    requires { ⌜ HeadsOk (now w) levels ⌝ }
+    ensures { λ r. ⌜ r ≡ levelsWalked levels (now (w .entry)) 0 0 ⌝ }
 {
     let mut at = Walk::Sound;
     let mut level: u64 = 0;
     let mut a: usize = 0;
     'walk: while level < levels {
-        if !level::level_sound(w, a, levels - level - 1) {
-            at = Walk::Stopped {
-                level: level,
-                row: 0,
-            };
-            break 'walk;
-        }
         let p = sound::place_at(w, a, 0);
-        let mut row = level::rows_from(w, p);
-        while row < p.rows {
-            if level::row_sound(w, p, row) {
-                row += 1;
-            } else {
-                at = Walk::Stopped {
-                    level: level,
-                    row: row as u64,
-                };
-                break 'walk;
+        let t = tables::targets_at(w, a, levels - level - 1);
+        if !tables::level_sound(w, p, t) {
+            let mut row = 0;
+            while row < p.rows {
+                if row::row_sound(w, p, t, row) {
+                    row += 1;
+                } else {
+                    at = stopped(level, row);
+                    break 'walk;
+                }
             }
+            at = stopped(level, 0);
+            break 'walk;
         }
         a = layout::words_end(w, a);
         level += 1;
@@ -42,17 +68,24 @@ fn walk_levels(w: &[u32], levels: u64) -> Walk
     at
 }
 
+// The heads, against which links and positions are asked, and then the rows.
+fn walk(w: &[u32], levels: u64) -> Walk
+    ensures { λ r. ⌜ r ≡ walkOf levels (now (w .entry)) 0 0 ⌝ }
+{
+    let heads = walk_heads(w, levels);
+    match heads {
+        Walk::Sound => walk_rows(w, levels),
+        Walk::Stopped { level: _, row: _ } => heads,
+    }
+}
+
 // The controls of the handle pass questions 6 and 7, and it has a row and a level.
 fn handle_sound(h: Handle) -> bool
     ensures { λ r. ⌜ r ≡ handleSound h ⌝ }
 {
-    let options = h.options;
-    let coarse_solver = options.coarse_solver;
-    match coarse_solver {
-        MultigridCoarseSolver::PcgDic => false,
-        MultigridCoarseSolver::Cholesky => {
-            options.validate() & (1 <= h.rows) & (1 <= h.levels) & (h.levels <= options.max_levels)
-        }
+    match options::check_controls(h.options) {
+        Verdict::Passed => { (1 <= h.rows) & (1 <= h.levels) & (h.levels <= h.options.max_levels) }
+        Verdict::Refused(_) => false,
     }
 }
 
@@ -78,7 +111,7 @@ pub fn check(h: Handle, w: &[u32], floats: usize, records: usize) -> bool
     if (records as u64) < h.levels {
         return false;
     }
-    match walk_levels(w, h.levels) {
+    match walk(w, h.levels) {
         Walk::Sound => sizes_sound(h, w, floats),
         Walk::Stopped { level: _, row: _ } => false,
     }

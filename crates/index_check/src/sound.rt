@@ -1,10 +1,10 @@
 // Question 19: the places and sizes of levels that pass it. Its definition is in specs/.
-mod level;
+mod place;
 mod scratch;
 
-pub use level::coupled_at;
-pub use level::place_at;
-pub use level::word_at;
+pub use place::coupled_at;
+pub use place::place_at;
+pub use place::word_at;
 pub use scratch::cycle_start;
 pub use scratch::scratch_end;
 pub use scratch::scratch_start;

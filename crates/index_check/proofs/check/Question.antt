@@ -1,48 +1,88 @@
 -- Question 19: the handle, the sizes, and what each way out of the check gives.
 -- Assumes nothing.
-use mathlib.Core.Path.{_≡_, refl, sym, ap, _∙_}
+use mathlib.Core.Path.{_≡_, refl, sym, _∙_}
 use mathlib.Core.Bool.{Bool, true, false, _&&_}
 use mathlib.Core.List.{List}
 use Prim.Native.Nat.{ℕ, _≤_, _<_}
+use native.Mathlib.Omega.{arith}
 use lib.Dec.{eqb, leb}
 use borrow.Author.Tests.{le-leb, lt-leb}
+use Rattle.refusal.specs.declared.Refusal.{Refusal}
+use Rattle.refusal.specs.declared.Verdict.{Verdict}
+use Rattle.refusal.specs.Refusal.{invalidControls, notCholesky}
+use Rattle.refusal.specs.Outcome.{passed, refused, ask, verdictOf}
+use Rattle.refusal.proofs.Outcome.{passes, refuses}
 use Rattle.options.specs.declared.options.Handle.{Handle}
-use Rattle.options.specs.declared.options.MultigridCoarseSolver.{MultigridCoarseSolver}
-use Rattle.options.specs.Options.{validOf, isCholesky}
+use Rattle.options.specs.declared.options.MultigridOptions.{MultigridOptions}
+use Rattle.options.specs.Options.{validOf, isCholesky, controlsAsked}
 use Rattle.layout.specs.declared.Place.{Place}
 use Rattle.layout.specs.Layout.{rowsAt, entriesAt, locate}
 use Rattle.index_check.specs.declared.sound.Walk.{Walk}
-use Rattle.index_check.specs.Sound.{walkOf, isSound, handleSound, cycleStart, scratchEnd, soundOf}
+use Rattle.index_check.specs.Sound.{headsWalked, levelsWalked, walkOf, isSound, handleSound, cycleStart, scratchEnd, soundOf}
 use Rattle.index_check.specs.SoundContract.{LevelsOk, MemoryOk, ScratchOk}
 use Rattle.index_check.proofs.sound.Sizes.{cycle-bound}
 use Rattle.index_check.proofs.sound.Question.{handle-few}
-use Rattle.index_check.proofs.level.Laws.{and-true}
-use Rattle.index_check.specs.CheckContract.{SizesOk, sizesAsked}
+use Rattle.index_check.specs.CheckContract.{HeadsOk, SizesOk, sizesAsked}
 
 -- ---- the handle
 
--- The second of five tests fails,
-second-no : (a b c d e : Bool) → b ≡ false → false ≡ a && b && c && d && e
-second-no true b c d e n = rw n
-second-no false b c d e n = refl
+-- Tests in a row of which the first two are one.
+pair-first : (a b c d e : Bool) → a ≡ true → b ≡ true → c && d && e ≡ a && b && c && d && e
+pair-first a b c d e ea eb = rw (ea, eb)
 
--- or it passes and need not be made.
-second-yes : (a b c d e : Bool) {v : Bool} → v ≡ a → b ≡ true → v && c && d && e ≡ a && b && c && d && e
-second-yes a b c d e ev y = rw (y, ev, and-true a)
+-- One of the first two fails.
+pair-no : (a b c d e : Bool) → a && b ≡ false → false ≡ a && b && c && d && e
+pair-no a b c d e n = rw n
 
-module _ (h : Handle) where
-  -- Another coarse solver.
-  pub handle-other : h .options .«coarse_solver» ≡ MultigridCoarseSolver.PcgDic → false ≡ handleSound h
+-- Questions 6 and 7 pass where both tests do,
+controls-pass : (o : MultigridOptions) → controlsAsked o ≡ passed → (validOf o ≡ true) × (isCholesky (o .«coarse_solver») ≡ true)
+controls-pass o e = both-pass (validOf o) (isCholesky (o .«coarse_solver»)) e
+  where
+    both-pass : (a b : Bool) → ask a invalidControls (ask b notCholesky passed) ≡ passed → (a ≡ true) × (b ≡ true)
+    both-pass true true e = (refl, refl)
+    both-pass true false e = let none : _≡_ {A = ℕ} 0 1 = cc in absurd (omega arith)
+    both-pass false b e = let none : _≡_ {A = ℕ} 0 1 = cc in absurd (omega arith)
+
+-- and are refused where one does not.
+controls-no : (o : MultigridOptions) {q : Refusal} → controlsAsked o ≡ refused q → validOf o && isCholesky (o .«coarse_solver») ≡ false
+controls-no o {q} e = both-no (validOf o) (isCholesky (o .«coarse_solver»)) e
+  where
+    both-no : (a b : Bool) → ask a invalidControls (ask b notCholesky passed) ≡ refused q → a && b ≡ false
+    both-no true true e = let none : _≡_ {A = ℕ} 0 1 = cc in absurd (omega arith)
+    both-no true false e = refl
+    both-no false b e = refl
+
+module _ (h : Handle) {v : Verdict} (ev : v ≡ verdictOf (controlsAsked (h .options))) where
+  -- Its controls are refused.
+  pub handle-no : {q : Refusal} → v ≡ Verdict.Refused q → false ≡ handleSound h
   unfolding handleSound
-  handle-other e = second-no (validOf (h .options)) (isCholesky (h .options .«coarse_solver»)) (leb 1 (h .rows)) (leb 1 (h .levels))
-      (leb (h .levels) (h .options .«max_levels»)) (ap isCholesky e)
+  handle-no told = pair-no (validOf (h .options)) (isCholesky (h .options .«coarse_solver»)) (leb 1 (h .rows)) (leb 1 (h .levels))
+      (leb (h .levels) (h .options .«max_levels»)) (controls-no (h .options) (refuses (controlsAsked (h .options)) ev told))
 
-  -- Cholesky.
-  pub handle-told : {v : Bool} → v ≡ validOf (h .options) → h .options .«coarse_solver» ≡ MultigridCoarseSolver.Cholesky
-      → v && leb 1 (h .rows) && leb 1 (h .levels) && leb (h .levels) (h .options .«max_levels») ≡ handleSound h
+  -- They pass.
+  pub handle-told : v ≡ Verdict.Passed → leb 1 (h .rows) && leb 1 (h .levels) && leb (h .levels) (h .options .«max_levels») ≡ handleSound h
   unfolding handleSound
-  handle-told ev e = second-yes (validOf (h .options)) (isCholesky (h .options .«coarse_solver»)) (leb 1 (h .rows)) (leb 1 (h .levels))
-      (leb (h .levels) (h .options .«max_levels»)) ev (ap isCholesky e)
+  handle-told told =
+      let t = controls-pass (h .options) (passes (controlsAsked (h .options)) ev told) in
+      pair-first (validOf (h .options)) (isCholesky (h .options .«coarse_solver»)) (leb 1 (h .rows)) (leb 1 (h .levels))
+      (leb (h .levels) (h .options .«max_levels»)) (t .0) (t .1)
+
+-- ---- the walk
+
+module _ (w : List ℕ) (levels : ℕ) {v : Walk} (ev : v ≡ headsWalked levels w 0 0) where
+  -- A head stopped it,
+  pub walk-stopped : {level row : ℕ} → v ≡ Walk.Stopped level row → v ≡ walkOf levels w 0 0
+  unfolding walkOf
+  walk-stopped told = let e = sym ev ∙ told in told ∙ rw e
+
+  -- or the rows come next,
+  pub walk-rows-ok : v ≡ Walk.Sound → HeadsOk w levels
+  walk-rows-ok told = record { heads = sym ev ∙ told }
+
+  -- and decide.
+  pub walk-through : v ≡ Walk.Sound → {r : Walk} → r ≡ levelsWalked levels w 0 0 → r ≡ walkOf levels w 0 0
+  unfolding walkOf
+  walk-through told er = let e = sym ev ∙ told in rw e er
 
 -- ---- the sizes
 

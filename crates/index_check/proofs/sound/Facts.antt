@@ -1,23 +1,26 @@
 -- What the index check tells of a level that it passed: bounds on its sizes and on each of its words, and the levels after it.
 -- Assumes nothing.
-use mathlib.Core.Path.{_≡_, refl, ap, _∙_}
-use mathlib.Core.Bool.{Bool, true, false, not, cond, _&&_}
+use mathlib.Core.Path.{_≡_, ap, _∙_}
+use mathlib.Core.Bool.{Bool, true, false, cond}
 use mathlib.Core.List.{List}
-use Prim.Native.Nat.{ℕ, zero, suc, _+_, _-_, _≤_, _<_}
+use Prim.Native.Nat.{ℕ, suc, _+_, _≤_, _<_}
 use native.Mathlib.Nat.{not-suc-le-zero}
 use native.Mathlib.Omega.{arith}
 use lib.Dec.{leb, ltb}
 use lib.ListN.{length}
-use borrow.Author.Tests.{leb-true, ltb-true, not-true}
+use borrow.Author.Tests.{leb-true, ltb-true}
 use Rattle.store.specs.Region.{idx, part}
-use Rattle.store.proofs.store.Each.{both-l, both-r, each-at}
+use Rattle.store.proofs.store.Each.{each-at}
 use Rattle.store.proofs.store.Region.{getD-part, length-part}
-use Rattle.hierarchy.specs.Level.{Shape}
 use Rattle.pattern.specs.Pattern.{entries}
 use Rattle.layout.specs.declared.Place.{Place}
 use Rattle.layout.specs.Layout.{rowsAt, lastAt, coupledAt, entriesAt, facesAt, locate, wordsEnd}
 use Rattle.index_check.specs.declared.sound.Walk.{Walk}
-use Rattle.index_check.specs.Sound.{allBelow, headSound, shapeIn, arraysSound, rowSound, goOn, andThen, rowsWalked, linked, walkOf}
+use Rattle.index_check.specs.Sound.{allBelow, shapeIn, arraysSound, rowPlaced, goOn, rowsWalked, walkOf}
+pub use Rattle.index_check.specs.Sound.{targetsOf, sumsOf}
+use Rattle.index_check.proofs.sound.Laws.{Head, head-told}
+use Rattle.index_check.proofs.sound.Walks.{all3, all6, reach, row-placed, go-on, and-then, row-at, fits-head, fits-last, as-many, opened}
+pub use Rattle.index_check.proofs.sound.Walks.{endsOf}
 
 -- The level at a: its sizes, where its words end, and the bound of each of its words. Its links are below `targets`, its positions
 -- below `sums`.
@@ -30,9 +33,7 @@ pub record Here (w : List ℕ) (a targets sums : ℕ) : Type 0 where
   pub heads : locate w a 0 .links ≤ length w
   pub linked : locate w a 0 .links + cond (lastAt w a) (coupledAt w a) (rowsAt w a) ≤ length w
   pub placed : locate w a 0 .positions + cond (lastAt w a) 0 (entriesAt w a) ≤ length w + cond (lastAt w a) (rowsAt w a) 0
-  pub offsetsRise : (k : ℕ) → k < rowsAt w a → idx w (locate w a 0 .offsets + k) ≤ idx w (locate w a 0 .offsets + k + 1)
   pub offsets : (k : ℕ) → k < rowsAt w a → idx w (locate w a 0 .offsets + k + 1) ≤ idx w (locate w a 0 .offsets + rowsAt w a)
-  pub startsRise : (k : ℕ) → k < rowsAt w a → idx w (locate w a 0 .starts + k) ≤ idx w (locate w a 0 .starts + k + 1)
   pub starts : (k : ℕ) → k < rowsAt w a → idx w (locate w a 0 .starts + k + 1) ≤ idx w (locate w a 0 .starts + rowsAt w a)
   pub diagonals : (k : ℕ) → k < rowsAt w a → idx w (locate w a 0 .diagonals + k) < entriesAt w a
   pub columns : (k : ℕ) → k < entriesAt w a → idx w (locate w a 0 .columns + k) < rowsAt w a
@@ -41,20 +42,6 @@ pub record Here (w : List ℕ) (a targets sums : ℕ) : Type 0 where
   pub lowers : (k : ℕ) → k < facesAt w a → idx w (locate w a 0 .lowers + k) < entriesAt w a
   pub links : (k : ℕ) → k < cond (lastAt w a) (coupledAt w a) (rowsAt w a) → idx w (locate w a 0 .links + k) < targets
   pub positions : (k : ℕ) → k < cond (lastAt w a) 0 (entriesAt w a) → idx w (locate w a 0 .positions + k) < sums
-
--- ---- tests that hold together
-
--- Of five tests each.
-all5 : (a b c d e : Bool) → a && b && c && d && e ≡ true → (a ≡ true) × (b ≡ true) × (c ≡ true) × (d ≡ true) × (e ≡ true)
-all5 a b c d e h =
-    let h4 = both-l (a && b && c && d) e h in
-    let h3 = both-l (a && b && c) d h4 in
-    let h2 = both-l (a && b) c h3 in
-    (both-l a b h2, both-r a b h2, both-r (a && b) c h3, both-r (a && b && c) d h4, both-r (a && b && c && d) e h)
-
--- Of three tests each.
-all3 : (a b c : Bool) → a && b && c ≡ true → (a ≡ true) × (b ≡ true) × (c ≡ true)
-all3 a b c h = let h2 = both-l (a && b) c h in (both-l a b h2, both-r a b h2, both-r (a && b) c h)
 
 -- ---- lists
 
@@ -69,73 +56,14 @@ below-at bound base n w h e k l =
     let b : idx (part base n w) k < bound = ltb-true (idx (part base n w) k) bound t in
     omega arith
 
--- Offsets that never fall reach the last.
-climb : (w : List ℕ) (base rows d k : ℕ) → ((k : ℕ) → k < rows → idx w (base + k) ≤ idx w (base + k + 1)) → k + d ≡ rows
-    → idx w (base + k) ≤ idx w (base + rows)
-climb w base rows zero k step e =
-    let z : idx w (base + k) ≡ idx w (base + rows) = ap (idx w) (omega arith) in
-    omega arith
-climb w base rows (suc d) k step e =
-    let one = step k (omega arith) in
-    let z : idx w (base + (k + 1)) ≡ idx w (base + k + 1) = ap (idx w) (omega arith) in
-    let more = climb w base rows d (k + 1) step (omega arith) in
-    omega arith
-
--- So each but the first is at most the last.
-reach : (w : List ℕ) (base rows : ℕ) → ((k : ℕ) → k < rows → idx w (base + k) ≤ idx w (base + k + 1)) → (k : ℕ) → k < rows
+-- Numbers of a table that never fall are at most the last.
+reach-at : (w : List ℕ) (base rows : ℕ) → ((k : ℕ) → k < rows → idx w (base + k) ≤ idx w (base + k + 1)) → (k : ℕ) → k < rows
     → idx w (base + k + 1) ≤ idx w (base + rows)
-reach w base rows step k h =
-    let z : idx w (base + (k + 1)) ≡ idx w (base + k + 1) = ap (idx w) (omega arith) in
-    let more = climb w base rows (rows - (k + 1)) (k + 1) step (omega arith) in
-    omega arith
-
--- ---- the walk
-
--- A test that did not end the walk holds, and the rest went through.
-go-on : (t : Bool) (level row : ℕ) (rest : Walk) → goOn t (Walk.Stopped level row) rest ≡ Walk.Sound → (t ≡ true) × (rest ≡ Walk.Sound)
-go-on true level row rest e = (refl, e)
-go-on false level row rest e = let none : _≡_ {A = ℕ} 0 1 = cc in absurd (omega arith)
-
--- Of two walks each went through.
-and-then : (v rest : Walk) → andThen v rest ≡ Walk.Sound → (v ≡ Walk.Sound) × (rest ≡ Walk.Sound)
-and-then Walk.Sound rest e = (refl, e)
-and-then (Walk.Stopped level row) rest e = let none : _≡_ {A = ℕ} 0 1 = cc in absurd (omega arith)
-
--- Each row is sound.
-row-at : (s : Shape) (level more row : ℕ) → rowsWalked s level more row ≡ Walk.Sound → (k : ℕ) → k < more → rowSound s (row + k) ≡ true
-unfolding rowsWalked
-row-at s level zero row e k h = absurd (not-suc-le-zero h)
-row-at s level (suc more) row e zero h =
-    let z : row ≡ row + 0 = omega arith in
-    rw z at (go-on (rowSound s row) level row (rowsWalked s level more (row + 1)) e .0)
-row-at s level (suc more) row e (suc k) h =
-    let rest = go-on (rowSound s row) level row (rowsWalked s level more (row + 1)) e .1 in
-    let z : row + 1 + k ≡ row + suc k = omega arith in
-    rw z at (row-at s level more (row + 1) rest k (omega arith))
+reach-at w base rows step k h =
+    let z : (k : ℕ) → idx w (base + (k + 1)) ≡ idx w (base + k + 1) = λ k. ap (idx w) (omega arith) in
+    rw (z k) at (reach (λ i. idx w (base + i)) rows (λ k h. rw (z k) (step k h)) k h)
 
 -- ---- one level
-
--- the sizes of the level at a
-record Head (w : List ℕ) (a : ℕ) : Type 0 where
-  words : wordsEnd w a ≤ length w
-  most : rowsAt w a ≤ 65536
-  many : entriesAt w a ≤ 1048576
-  fewer : facesAt w a ≤ entriesAt w a
-  few : coupledAt w a ≤ rowsAt w a
-
--- The test of the head tells them.
-head-of : (w : List ℕ) (a : ℕ) → headSound w a ≡ true → Head w a
-unfolding headSound
-head-of w a e =
-    let t = all5 (leb (wordsEnd w a) (length w)) (leb (rowsAt w a) 65536) (leb (entriesAt w a) 1048576) (leb (facesAt w a) (entriesAt w a))
-    (leb (coupledAt w a) (rowsAt w a)) e in
-    record {
-      words = leb-true (wordsEnd w a) (length w) (t .0);
-      most = leb-true (rowsAt w a) 65536 (t .1);
-      many = leb-true (entriesAt w a) 1048576 (t .2);
-      fewer = leb-true (facesAt w a) (entriesAt w a) (t .3);
-      few = leb-true (coupledAt w a) (rowsAt w a) (t .4);
-    }
 
 -- where the links and the positions of a level end
 record Ends (e links coupled rows entries : ℕ) (last : Bool) : Type 0 where
@@ -170,16 +98,12 @@ module _ (w : List ℕ) (a : ℕ) (head : Head w a) where
 
   -- its words end in the store
   ended : Ends (length w) (p .links) (coupledAt w a) rows (entriesAt w a) (lastAt w a)
-  ended = ends-of w a (head .words)
+  ended = ends-of w a (head .ends)
 
-  -- The pattern has the entries that its offsets end with.
-  as-many : entries (shapeIn w a .pattern) ≡ entriesAt w a
-  as-many = let h = ended .before in length-part (p .columns) (p .entries) w (omega arith)
-
-  -- What a sound row tells,
-  row-of : (k : ℕ) → k < rows → rowSound (shapeIn w a) k ≡ true
+  -- What a row that stands in order tells,
+  row-of : (k : ℕ) → k < rows → rowPlaced (shapeIn w a) k ≡ true
       → (idx w (p .offsets + k) ≤ idx w (p .offsets + k + 1)) × (idx w (p .starts + k) ≤ idx w (p .starts + k + 1)) × (idx w (p .diagonals + k) < entriesAt w a)
-  unfolding rowSound
+  unfolding rowPlaced
   row-of k h e =
       let s = shapeIn w a in
       let t = all3 (leb (idx (s .pattern .offsets) k) (idx (s .pattern .offsets) (k + 1))) (leb (idx (s .starts) k) (idx (s .starts) (k + 1)))
@@ -194,17 +118,17 @@ module _ (w : List ℕ) (a : ℕ) (head : Head w a) where
       let h0 = leb-true (idx (s .pattern .offsets) k) (idx (s .pattern .offsets) (k + 1)) (t .0) in
       let h1 = leb-true (idx (s .starts) k) (idx (s .starts) (k + 1)) (t .1) in
       let h2 = ltb-true (idx (s .diagonals) k) (entries (s .pattern)) (t .2) in
-      let m = as-many in
+      let m = as-many w a head in
       (omega arith, omega arith, omega arith)
 
   module _ (level targets sums : ℕ) (arrays : arraysSound targets sums (shapeIn w a) ≡ true)
-      (walked : rowsWalked (shapeIn w a) level rows 0 ≡ Walk.Sound) where
+      (walked : rowsWalked targets sums (shapeIn w a) level rows 0 ≡ Walk.Sound) where
     -- of each row.
     row-is : (k : ℕ) → k < rows
         → (idx w (p .offsets + k) ≤ idx w (p .offsets + k + 1)) × (idx w (p .starts + k) ≤ idx w (p .starts + k + 1)) × (idx w (p .diagonals + k) < entriesAt w a)
     row-is k h =
         let z : 0 + k ≡ k = omega arith in
-        row-of k h (rw z at (row-at (shapeIn w a) level rows 0 walked k h))
+        row-of k h (row-placed targets sums (shapeIn w a) k (rw z at (row-at targets sums (shapeIn w a) level rows 0 walked k h)))
 
     -- The bounds of the arrays, one by one.
     arrays-are : (allBelow rows (part (p .columns) (p .entries) w) ≡ true) × (allBelow rows (part (p .neighbors) (p .faces) w) ≡ true)
@@ -220,8 +144,8 @@ module _ (w : List ℕ) (a : ℕ) (head : Head w a) where
         let a4 = allBelow (entries (s .pattern)) (s .lowers) in
         let a5 = allBelow targets (s .links) in
         let a6 = allBelow sums (s .positions) in
-        let t = all5 a1 a2 a3 a4 a5 (both-l (a1 && a2 && a3 && a4 && a5) a6 arrays) in
-        (t .0, t .1, rw as-many at (t .2), rw as-many at (t .3), t .4, both-r (a1 && a2 && a3 && a4 && a5) a6 arrays)
+        let t = all6 a1 a2 a3 a4 a5 a6 arrays in
+        (t .0, t .1, rw (as-many w a head) at (t .2), rw (as-many w a head) at (t .3), t .4, t .5)
 
     -- A level that the walk passed.
     here : Here w a targets sums
@@ -230,18 +154,16 @@ module _ (w : List ℕ) (a : ℕ) (head : Head w a) where
         let b = e .before in
         let t = arrays-are in
         record {
-          words = head .words;
-          most = head .most;
-          many = head .many;
-          fewer = head .fewer;
-          few = head .few;
+          words = head .ends;
+          most = head .rows;
+          many = head .entries;
+          fewer = head .faces;
+          few = head .coupled;
           heads = e .before;
           linked = e .linked;
           placed = e .placed;
-          offsetsRise = λ k h. row-is k h .0;
-          offsets = reach w (p .offsets) rows (λ k h. row-is k h .0);
-          startsRise = λ k h. row-is k h .1;
-          starts = reach w (p .starts) rows (λ k h. row-is k h .1);
+          offsets = reach-at w (p .offsets) rows (λ k h. row-is k h .0);
+          starts = reach-at w (p .starts) rows (λ k h. row-is k h .1);
           diagonals = λ k h. row-is k h .2;
           columns = below-at rows (p .columns) (p .entries) w (omega arith) (t .0);
           neighbors = below-at rows (p .neighbors) (p .faces) w (omega arith) (t .1);
@@ -253,45 +175,20 @@ module _ (w : List ℕ) (a : ℕ) (head : Head w a) where
 
 -- ---- the levels
 
--- what the links of a level, after which so many come, are below
-abbrev pub targetsOf : ℕ → List ℕ → ℕ → ℕ
-targetsOf zero w a = rowsAt w a
-targetsOf (suc more) w a = rowsAt w (wordsEnd w a)
-
--- what its positions are below
-abbrev pub sumsOf : ℕ → List ℕ → ℕ → ℕ
-sumsOf zero w a = 0
-sumsOf (suc more) w a = entriesAt w (wordsEnd w a)
-
--- whether it is the last
-abbrev pub endsOf : ℕ → Bool
-endsOf zero = true
-endsOf (suc more) = false
-
 -- The level at a, after which so many come, and those.
 pub record Passed (more : ℕ) (w : List ℕ) (level a : ℕ) : Type 0 where
   pub last : lastAt w a ≡ endsOf more
   pub here : Here w a (targetsOf more w a) (sumsOf more w a)
   pub rest : walkOf more w (level + 1) (wordsEnd w a) ≡ Walk.Sound
 
--- Whether a level is the last, and its arrays, by the levels after it.
-linked-of : (more : ℕ) (w : List ℕ) (a : ℕ) → linked more w a ≡ true
-    → (lastAt w a ≡ endsOf more) × (arraysSound (targetsOf more w a) (sumsOf more w a) (shapeIn w a) ≡ true)
-linked-of zero w a e =
-    let t = arraysSound (rowsAt w a) 0 (shapeIn w a) in (both-l (lastAt w a) t e, both-r (lastAt w a) t e)
-linked-of (suc more) w a e =
-    let b = wordsEnd w a in
-    let t = all3 (not (lastAt w a)) (headSound w b) (arraysSound (rowsAt w b) (entriesAt w b) (shapeIn w a)) e in
-    (not-true (lastAt w a) (t .0), t .2)
-
 -- A walk that went through tells the first level and the rest.
 pub passed : (more : ℕ) {w : List ℕ} {level a : ℕ} → walkOf (suc more) w level a ≡ Walk.Sound → Passed more w level a
-unfolding walkOf
 passed more {w} {level} {a} e =
-    let rows = rowsWalked (shapeIn w a) level (rowsAt w a) 0 in
-    let rest = walkOf more w (level + 1) (wordsEnd w a) in
-    let t = go-on (headSound w a && linked more w a) level 0 (andThen rows rest) e in
-    let v = and-then rows rest (t .1) in
-    let l = linked-of more w a (both-r (headSound w a) (linked more w a) (t .0)) in
-    let head = head-of w a (both-l (headSound w a) (linked more w a) (t .0)) in
-    record { last = l .0; here = here w a head level (targetsOf more w a) (sumsOf more w a) (l .1) (v .0); rest = v .1 }
+    let o = opened more w level a e in
+    let targets = targetsOf more w a in
+    let sums = sumsOf more w a in
+    let t = and-then (rowsWalked targets sums (shapeIn w a) level (rowsAt w a) 0)
+    (goOn (arraysSound targets sums (shapeIn w a)) (Walk.Stopped level 0) Walk.Sound) (o .here) in
+    let arrays = go-on (arraysSound targets sums (shapeIn w a)) level 0 Walk.Sound (t .1) .0 in
+    let head = head-told w a (fits-head w a more (o .head)) in
+    record { last = fits-last w a more (o .head); here = here w a head level targets sums arrays (t .0); rest = o .rest }

@@ -1,32 +1,22 @@
 -- The sizes of levels that the walk went through: where their floats and their scratch end, and that no sum wraps.
 -- Assumes nothing.
 use mathlib.Core.Path.{_≡_, refl, sym, _∙_}
-use mathlib.Core.Bool.{Bool, true, false, _&&_}
+use mathlib.Core.Bool.{true}
 use mathlib.Core.List.{List}
 use Prim.Native.Nat.{ℕ, zero, suc, _+_, _*_, _-_, _≤_, _<_}
 use native.Mathlib.Nat.{sub-zero, mul-le-mul-right}
 use native.Mathlib.Omega.{arith}
-use Rattle.store.proofs.store.Each.{both-l}
 use Rattle.cholesky.specs.Triangle.{tri}
 use Rattle.layout.specs.declared.Place.{Place}
 use Rattle.layout.specs.Layout.{rowsAt, coupledAt, locate, wordsEnd, floatsEnd, imageEnd}
 use Rattle.layout.proofs.Views.{floats-to}
 use Rattle.index_check.specs.declared.sound.Walk.{Walk}
-use Rattle.index_check.specs.Sound.{headSound, shapeIn, linked, goOn, andThen, rowsWalked, walkOf, scratchStart, scratchEnd, cycleStart}
+use Rattle.index_check.specs.Sound.{headSound, walkOf, scratchStart, scratchEnd, cycleStart}
 use Rattle.index_check.specs.SoundContract.{PlaceOk, LevelsOk, FloatsOk, ScratchOk}
 use Rattle.index_check.proofs.sound.Laws.{Head, head-told}
+use Rattle.index_check.proofs.sound.Walks.{fits-head, opened}
 
 -- ---- levels that the walk went through
-
--- A walk that a test did not end went on,
-went-on : (t : Bool) (level row : ℕ) (rest : Walk) → goOn t (Walk.Stopped level row) rest ≡ Walk.Sound → (t ≡ true) × (rest ≡ Walk.Sound)
-went-on true level row rest e = (refl, e)
-went-on false level row rest e = let none : _≡_ {A = ℕ} 0 1 = cc in absurd (omega arith)
-
--- and so did the one after it.
-went-through : (first rest : Walk) → andThen first rest ≡ Walk.Sound → rest ≡ Walk.Sound
-went-through Walk.Sound rest e = e
-went-through (Walk.Stopped level row) rest e = let none : _≡_ {A = ℕ} 0 1 = cc in absurd (omega arith)
 
 -- The first of some levels that the walk went through has a sound head, and it went through the others.
 pub record Ahead (w : List ℕ) (more level a : ℕ) : Type 0 where
@@ -34,12 +24,7 @@ pub record Ahead (w : List ℕ) (more level a : ℕ) : Type 0 where
   pub rest : walkOf more w (level + 1) (wordsEnd w a) ≡ Walk.Sound
 
 pub ahead : (w : List ℕ) (more level a : ℕ) → walkOf (suc more) w level a ≡ Walk.Sound → Ahead w more level a
-unfolding walkOf
-ahead w more level a e =
-    let rest = walkOf more w (level + 1) (wordsEnd w a) in
-    let rows = rowsWalked (shapeIn w a) level (rowsAt w a) 0 in
-    let on = went-on (headSound w a && linked more w a) level 0 (andThen rows rest) e in
-    record { head = both-l (headSound w a) (linked more w a) (on .0); rest = went-through rows rest (on .1) }
+ahead w more level a e = let o = opened more w level a e in record { head = fits-head w a more (o .head); rest = o .rest }
 
 -- ---- bounds
 

@@ -3,9 +3,9 @@ ghost use mathlib.Core.Path.{_≡_};
 ghost use Rattle.layout.specs.Layout.{floatsEnd, imageEnd};
 ghost use Rattle.index_check.specs.Sound.{scratchStart, cycleStart, scratchEnd};
 ghost use Rattle.index_check.specs.SoundContract.{FloatsOk, LevelsOk, MemoryOk, ScratchOk};
-use crate::sound::level::coupled_at;
-use crate::sound::level::place_at;
-use crate::sound::level::word_at;
+use crate::sound::place::coupled_at;
+use crate::sound::place::place_at;
+use crate::sound::place::word_at;
 
 // Where the floats end of the level whose words start at a and whose floats start at b.
 fn floats_end(w: &[u32], a: usize, b: usize) -> usize

@@ -23,7 +23,7 @@ sizes-sound-requires c κs = check-sizes (c .before .before .before .before .bef
     (c .before .before .before .before .before .before .before .before .args .records)
     (c .before .before .before .before .before .before .handle-sound .ensures)
     (not-false _ (c .before .before .before .before .before .if1 .left)) (c .before .before .before .if2 .left)
-    (c .before .before .walk-levels .ensures) (c .enum-told .given .1)
+    (c .before .before .walk .ensures) (c .enum-told .given .1)
 
 returns-3 : tie.Need-returns-3
 returns-3 c = check-told (c .before .before .before .before .before .before .before .before .before .args .h)
@@ -32,7 +32,7 @@ returns-3 c = check-told (c .before .before .before .before .before .before .bef
     (c .before .before .before .before .before .before .before .before .before .args .records)
     (c .before .before .before .before .before .before .before .handle-sound .ensures)
     (not-false _ (c .before .before .before .before .before .before .if1 .left)) (c .before .before .before .before .if2 .left)
-    (c .before .before .before .walk-levels .ensures) (c .before .enum-told .given .1) (c .sizes-sound .ensures)
+    (c .before .before .before .walk .ensures) (c .before .enum-told .given .1) (c .sizes-sound .ensures)
 
 returns-4 : tie.Need-returns-4
 returns-4 c = check-stopped (c .before .before .before .before .before .before .before .before .args .h)
@@ -41,7 +41,7 @@ returns-4 c = check-stopped (c .before .before .before .before .before .before .
     (c .before .before .before .before .before .before .before .before .args .records)
     (c .before .before .before .before .before .before .handle-sound .ensures)
     (not-false _ (c .before .before .before .before .before .if1 .left)) (c .before .before .before .if2 .left)
-    (c .before .before .walk-levels .ensures) _ _ (c .enum-told2 .given .1)
+    (c .before .before .walk .ensures) _ _ (c .enum-told2 .given .1)
 
 pub check-spec : {M : Type 1} → statement M
 check-spec =
