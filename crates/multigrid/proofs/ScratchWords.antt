@@ -15,7 +15,7 @@ use Rattle.options.specs.declared.options.Handle.{Handle}
 use Rattle.hierarchy.specs.Level.{Hierarchy}
 use Rattle.layout.specs.Layout.{rowsAt, entriesAt, levelAt, wordsEnd, floatsEnd, levelsAt, wordsTo, imageEnd, viewOf}
 use Rattle.layout.proofs.Views.{SameWords, words-told, words-to}
-use Rattle.index_check.specs.Sound.{headSound, shapeIn, rowsWalked, linked, walkOf, scratchEnd, cycleStart, handleSound, soundOf}
+use Rattle.index_check.specs.Sound.{headSound, shapeIn, headFits, headsWalked, targetsOf, sumsOf, levelsWalked, walkOf, scratchEnd, cycleStart, handleSound, soundOf}
 use Rattle.index_check.proofs.sound.Question.{handle-few}
 use Rattle.update.specs.Shadow.{imageOf}
 
@@ -73,32 +73,46 @@ module _ {w z : List ℕ} {e : ℕ} (kept : Kept e w z) where
       let h6 = kept .size in
       cc
 
-  linked-told : (more a : ℕ) → wordsTo (suc more) w a ≤ e → linked more z a ≡ linked more w a
+  fits-told : (more : ℕ) {a : ℕ} → SameWords w z a → headFits more z a ≡ headFits more w a
+  fits-told zero s = let h1 = s .last in let h7 = head-told s in cc
+  fits-told (suc more) s = let h1 = s .last in let h7 = head-told s in cc
+
+  -- What links and positions of a level are asked against is the same.
+  against-told : (more a : ℕ) → wordsTo (suc more) w a ≤ e
+      → (targetsOf more z a ≡ targetsOf more w a) × (sumsOf more z a ≡ sumsOf more w a)
   unfolding wordsTo
-  linked-told zero a h = let s = first-told zero a h in let h0 = s .rows in let h1 = s .last in let h5 = s .shape in cc
-  linked-told (suc more) a h =
+  against-told zero a h = (first-told zero a h .rows, refl)
+  against-told (suc more) a h =
       let s = first-told (suc more) a h in
-      let h1 = s .last in
-      let h5 = s .shape in
-      let h6 = s .ends in
       let n = first-told more (wordsEnd w a) h in
+      let h6 = s .ends in
       let h7 = n .rows in
       let h8 = n .entries in
-      let h9 = head-told n in
+      (cc, cc)
+
+  heads-told : (k level a : ℕ) → wordsTo k w a ≤ e → headsWalked k z level a ≡ headsWalked k w level a
+  unfolding headsWalked wordsTo
+  heads-told zero level a h = refl
+  heads-told (suc k) level a h =
+      let s = first-told k a h in
+      rw (fits-told k s, s .ends, heads-told k (level + 1) (wordsEnd w a) h)
+
+  rows-told : (k level a : ℕ) → wordsTo k w a ≤ e → levelsWalked k z level a ≡ levelsWalked k w level a
+  unfolding levelsWalked wordsTo
+  rows-told zero level a h = refl
+  rows-told (suc k) level a h =
+      let s = first-told k a h in
+      let t = against-told k a h in
+      let h0 = t .0 in
+      let h1 = t .1 in
+      let h5 = s .shape in
+      let h6 = s .ends in
+      let h9 = rows-told k (level + 1) (wordsEnd w a) h in
       cc
 
   walk-told : (k level a : ℕ) → wordsTo k w a ≤ e → walkOf k z level a ≡ walkOf k w level a
-  unfolding walkOf wordsTo
-  walk-told zero level a h = refl
-  walk-told (suc k) level a h =
-      let s = first-told k a h in
-      let h0 = s .rows in
-      let h5 = s .shape in
-      let h6 = s .ends in
-      let h7 = head-told s in
-      let h8 = linked-told k a h in
-      let h9 = walk-told k (level + 1) (wordsEnd w a) h in
-      cc
+  unfolding walkOf
+  walk-told k level a h = rw (heads-told k level a h, rows-told k level a h)
 
   -- Where the scratch of a solve ends is the same.
   scratch-told : (k a s : ℕ) → wordsTo k w a ≤ e → scratchEnd k z a s ≡ scratchEnd k w a s
