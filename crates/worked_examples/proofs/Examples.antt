@@ -17,7 +17,7 @@ use Rattle.matrix.specs.Kernel.{Kernel, spreadFace, spreadRow, spreadOf, residu
 use Rattle.gauss_seidel.specs.Sweep.{gatherFace, castFace, lowerRow, upperRow, dicSweepOf}
 use Rattle.dic.specs.Dic.{isPivot, pivotFace, pivotRow, pivotsOf, reciprocalsOf, dicOf}
 use Rattle.smoother.specs.Smooth.{dicSweepsOf, gaussSeidelsOf, sweptOf, smoothOf}
-use Rattle.worked_examples.specs.Table.{floats, twoRows, P, kernelIn, inversesOf}
+use Rattle.worked_examples.specs.Table.{floats, twoRows, P, kernelMade, inversesOf}
 
 -- 2, 0
 abbrev rhs : List Float
@@ -31,7 +31,7 @@ negative = refl
 -- a DIC sweep of P from zero
 abbrev sweptByDic : Outcome (List Float)
 sweptByDic = do
-  k ← kernelIn P
+  k ← kernelMade P
   d ← dicOf 0 k
   accepted (dicSweepOf k d rhs (zero64 ∷ zero64 ∷ []) .x)
 

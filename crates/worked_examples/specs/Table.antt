@@ -117,8 +117,8 @@ abbrev pub P : Mesh
 P = twoRows (negℤ (pos 2))
 
 -- the kernel of a matrix, with the faces of its pattern and the reciprocals of `update`
-abbrev pub kernelIn : Mesh → Outcome Kernel
-kernelIn m = do
+abbrev pub kernelMade : Mesh → Outcome Kernel
+kernelMade m = do
   c ← kernelAsked 0 m
   accepted (kernelOf (lastShape (m .pattern)) (c .diagonal) (c .inverse) (c .coefficients))
 
@@ -161,34 +161,34 @@ factors =
     let s = lastShape (P .pattern) in
     same (acceptedBits (choleskyOf 0 (csrOf s (P .values)) (length (s .links)) (s .links))) (bits (floats (pos 2 ∷ negℤ (pos 1) ∷ pos 1 ∷ []))) ∷ []
 
--- 0.25, 0.5 and 0.75
-abbrev pub quarter : ℕ
-quarter = 0x3fd0_0000_0000_0000
+-- 0.25, 0.5 and 0.75 by their bits
+abbrev pub quarterBits : ℕ
+quarterBits = 0x3fd0_0000_0000_0000
 
-abbrev pub half : ℕ
-half = 0x3fe0_0000_0000_0000
+abbrev pub halfBits : ℕ
+halfBits = 0x3fe0_0000_0000_0000
 
-abbrev pub threeQuarters : ℕ
-threeQuarters = 0x3fe8_0000_0000_0000
+abbrev pub threeQuarterBits : ℕ
+threeQuarterBits = 0x3fe8_0000_0000_0000
 
 -- the DIC inverses of a matrix
 abbrev pub inversesOf : ℕ → Mesh → Outcome (List Float)
 inversesOf level m = do
-  k ← kernelIn m
+  k ← kernelMade m
   dicOf level k
 
 -- matrix 4, 2; 2, 2: DIC inverses 0.25, 1
 abbrev pub dicInverses : List Bool
-dicInverses = same (acceptedBits (inversesOf 0 (twoRows (pos 2)))) (quarter ∷ toBits binary64 one64 ∷ []) ∷ []
+dicInverses = same (acceptedBits (inversesOf 0 (twoRows (pos 2)))) (quarterBits ∷ toBits binary64 one64 ∷ []) ∷ []
 
 -- P, right-hand side 2, 0, start 0: one Gauss-Seidel sweep, and a symmetric one
 abbrev pub sweptP : Bool → Outcome (List Float)
 sweptP symmetric = do
-  k ← kernelIn P
+  k ← kernelMade P
   accepted (gaussSeidelOf k symmetric (floats (pos 2 ∷ pos 0 ∷ [])) (filled 2 zero64) .x)
 
-abbrev pub swept : List Bool
-swept = same (acceptedBits (sweptP false)) (half ∷ half ∷ []) ∷ same (acceptedBits (sweptP true)) (threeQuarters ∷ half ∷ []) ∷ []
+abbrev pub gaussSeidel : List Bool
+gaussSeidel = same (acceptedBits (sweptP false)) (halfBits ∷ halfBits ∷ []) ∷ same (acceptedBits (sweptP true)) (threeQuarterBits ∷ halfBits ∷ []) ∷ []
 
 -- root of 2; of 2 ^ −1074; of minus zero
 abbrev pub roots : List Bool
@@ -227,4 +227,4 @@ allOf (t ∷ ts) = all t && allOf ts
 -- the starred lines, in the order of the crates that they concern
 unfoldable pub table : List (List Bool)
 unfolding rootBits sweeps preSweepsOf postSweepsOf
-table = aggregates ∷ coarsePath ∷ factors ∷ dicInverses ∷ swept ∷ roots ∷ growing ∷ resting ∷ []
+table = aggregates ∷ coarsePath ∷ factors ∷ dicInverses ∷ gaussSeidel ∷ roots ∷ growing ∷ resting ∷ []
