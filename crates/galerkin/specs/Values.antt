@@ -1,6 +1,6 @@
 -- The values of the coarse matrix (`galerkin` of aggregation.rs) and its weights (`restrict_weights` of hierarchy.rs), over lists,
 -- and what the functions that write them require. Definitions only.
-use mathlib.Core.Bool.{Bool, cond}
+use mathlib.Core.Bool.{cond}
 use mathlib.Core.List.{List}
 use Prim.Native.Nat.{ℕ, _+_, _≤_, _<_}
 use lib.Dec.{eqb}
@@ -10,7 +10,6 @@ use Rattle.float.specs.Float.{add64, mul64, zero64}
 use Rattle.store.specs.Loop.{for}
 use Rattle.store.specs.Region.{at, idx, part}
 use Rattle.store.specs.Vector.{filled}
-use Rattle.vector.specs.Finite.{allFinite}
 use Rattle.galerkin.specs.Whole.{half}
 
 -- ---- the coarse values
@@ -39,10 +38,6 @@ symmetrizeOf faces upper lower v = for (averageFace upper lower) 0 faces v
 -- the coarse values: the sums, then half plus half
 abbrev pub galerkinOf : ℕ → ℕ → List ℕ → List Float → ℕ → List ℕ → List ℕ → List Float
 galerkinOf total m positions values faces upper lower = symmetrizeOf faces upper lower (sumsOf total m positions values)
-
--- question 18: each coarse value is finite, as `vector::all_finite` tells
-abbrev pub galerkinFinite : ℕ → ℕ → List ℕ → List Float → ℕ → List ℕ → List ℕ → Bool
-galerkinFinite total m positions values faces upper lower = allFinite total (galerkinOf total m positions values faces upper lower)
 
 -- ---- the coarse weights
 

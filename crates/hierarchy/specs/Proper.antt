@@ -1,9 +1,7 @@
 -- What the matrices of a build are: of every level, and of every merged step between two. Definitions only.
 use mathlib.Core.Path.{_≡_}
-use mathlib.Core.Bool.{Bool, true}
-use lib.ListN.{length}
-use Rattle.pattern.specs.Pattern.{Pattern, entries, Valid, Rising, Mirrored, Diagonal, coarse, Maps, Onto}
-use Rattle.hierarchy.specs.Build.{Mesh, Merged}
+use Rattle.pattern.specs.Pattern.{Pattern, Valid, Rising, Mirrored, Diagonal, coarse, Maps, Onto}
+use Rattle.hierarchy.specs.Build.{Merged}
 
 -- Valid compressed rows with rising columns, in which each entry has its mirror and each row its diagonal entry.
 pub record Proper (p : Pattern) : Type 0 where
@@ -11,11 +9,6 @@ pub record Proper (p : Pattern) : Type 0 where
   pub rising : Rising p
   pub mirrored : Mirrored p
   pub diagonal : Diagonal p
-
--- As many values as entries, and as many weights where weights are given.
-pub record Sized (given : Bool) (m : Mesh) : Type 0 where
-  pub values : length (m .values) ≡ entries (m .pattern)
-  pub weights : given ≡ true → length (m .weights) ≡ entries (m .pattern)
 
 -- What merged steps have made of a level of pattern p: a proper pattern, a map of the level's rows onto its rows, and it is the
 -- pattern that this map makes of p itself.

@@ -9,9 +9,9 @@ use native.Mathlib.Omega.{arith}
 use lib.ListN.{length}
 use lib.Ieee.{Float}
 use Rattle.float.specs.Float.{zero64}
-use Rattle.store.specs.Region.{lay, splice}
+use Rattle.store.specs.Region.{lay}
 use Rattle.store.specs.Vector.{filled}
-use Rattle.store.proofs.store.Region.{length-splice}
+use Rattle.store.proofs.store.Region.{length-lay}
 use Rattle.store.proofs.store.Vector.{length-tab}
 use Rattle.options.specs.declared.options.Handle.{Handle}
 use Rattle.refusal.specs.Refusal.{unsoundStores}
@@ -95,11 +95,6 @@ pub record Computes (e : Example) (before after : Hierarchy) : Type 0 where
   pub accepts : updateOf (e .input .options) (shapesIn (before .levels)) (e .input .offsets) (e .input .columns) (e .right) ≡ accepted after
   pub solves : solveOf (systemOf (e .input .options) before) (e .asked) (e .rhs) (e .start) [] ≡ given e (e .before)
   pub solved : solveOf (systemOf (e .input .options) after) (e .asked) (e .rhs) (e .start) [] ≡ given e (e .after)
-
--- To lay a list over another keeps its length.
-length-lay : {A : Type 0} (v t : List A) → length (lay v t) ≡ length t
-unfolding splice
-length-lay v t = length-splice 0 v t
 
 -- A solve keeps the length of the statistics.
 solve-length : (levels : ℕ) (t : List ℕ) (out : Outcome Solution) → length (solve.statisticsOf levels t out) ≡ length t

@@ -4,8 +4,8 @@ use mathlib.Core.Path.{_≡_, refl, sym, ap, _∙_}
 use mathlib.Core.List.{List, [], _∷_}
 use Prim.Native.Nat.{ℕ, _+_}
 use native.Mathlib.Omega.{arith}
-use lib.ListN.{length, set}
-use Rattle.store.specs.Region.{idx, part, splice, Wrote, CopyOk, Kept}
+use lib.ListN.{set}
+use Rattle.store.specs.Region.{idx, part, splice, Wrote, Kept}
 use Rattle.store.proofs.store.Region.{length-part, getD-part, splice-nil, set-splice-end, wrote, wrote-at, wrote-off, kept-wrote, kept-on, kept-less, kept-part, kept-get}
 use Rattle.pattern.specs.Pattern.{entries}
 use Rattle.faces.specs.declared.faces.Faces.{Faces}
@@ -28,15 +28,7 @@ header w a rows =
 
 module _ {w x : List ℕ} {t : Workspace} {s : Frontier} (ok : WordsOk w t s)
     (h : Wrote (s .a) 3 (s .rows ∷ 0 ∷ 0 ∷ []) w x) where
-  -- The offsets may be copied once the header stands.
-  pub copy-offsets : CopyOk (length x) (s .rows + 1) (t .offsets) (s .a + 3)
-  copy-offsets = record { source = omega arith; target = omega arith; clear = omega arith }
-
   module _ {y : List ℕ} (o : Wrote (s .a + 3) (s .rows + 1) (part (t .offsets) (s .rows + 1) x) x y) where
-    -- And the columns once the offsets stand.
-    pub copy-columns : CopyOk (length y) (s .entries) (t .columns) (s .a + 3 + s .rows + 1)
-    copy-columns = record { source = omega arith; target = omega arith; clear = omega arith }
-
     -- Then the pattern stands at its place.
     pub pattern-laid : {z : List ℕ} → Wrote (s .a + 3 + s .rows + 1) (s .entries) (part (t .columns) (s .entries) y) y z → PatternLaid w z t s
     pattern-laid {z} c =

@@ -243,11 +243,6 @@ told-size : {level rows diagonal inverse b n : ℕ} {F D G v : List Float} {r : 
     → length G ≡ length F
 told-size d h = ap length (h .is) ∙ length-splice _ _ _ ∙ d .size
 
--- What the reciprocals require, after it.
-pub settle-room : {w : List ℕ} {F G v : List Float} {s : SymmetricMatrix} {e : Entries} {b n : ℕ} → UpdateOk w (length F) s e → Wrote b n v F G
-    → s .inverse + s .rows ≤ length G
-settle-room ok h = let long = h .size in omega (arith, ok .recips)
-
 -- What the loop over the faces requires, after both.
 pub faces-entries : {w : List ℕ} {F D G v : List Float} {s : SymmetricMatrix} {e : Entries} {level faces b n : ℕ} {r : Verdict} → UpdateOk w (length F) s e
     → faces ≡ idx w (s .offsets + s .rows) → Wrote b n v F D → RowsTold level (s .rows) (s .diagonal) (s .inverse) D G r

@@ -26,7 +26,8 @@ module _ {A : Type 0} where
 
   -- ---- lengths
 
-  length-lay : (v F : List A) → length (lay v F) ≡ length F
+  -- To lay a list over another keeps its length.
+  pub length-lay : (v F : List A) → length (lay v F) ≡ length F
   unfolding lay
   length-lay [] F = refl
   length-lay (x ∷ v) [] = refl
@@ -116,23 +117,6 @@ module _ {A : Type 0} where
   set-splice-below (suc b) v [] i a h = refl
   set-splice-below (suc b) v (y ∷ F) zero a h = refl
   set-splice-below (suc b) v (y ∷ F) (suc i) a h = ap (λ (r : List A). y ∷ r) (set-splice-below b v F i a (le-of-suc-le-suc h))
-
-  set-lay-above : (v F : List A) (i : ℕ) (a : A) → length v ≤ i → set (lay v F) i a ≡ lay v (set F i a)
-  unfolding lay
-  set-lay-above [] F i a h = refl
-  set-lay-above (x ∷ v) [] zero a h = refl
-  set-lay-above (x ∷ v) [] (suc i) a h = refl
-  set-lay-above (x ∷ v) (y ∷ F) zero a h = absurd (not-suc-le-zero h)
-  set-lay-above (x ∷ v) (y ∷ F) (suc i) a h = ap (λ (r : List A). x ∷ r) (set-lay-above v F i a (le-of-suc-le-suc h))
-
-  -- A store above a splice is one in the store under it.
-  pub set-splice-above : (b : ℕ) (v F : List A) (i : ℕ) (a : A) → b + length v ≤ i → set (splice b v F) i a ≡ splice b v (set F i a)
-  unfolding splice
-  set-splice-above zero v F i a h = set-lay-above v F i a (omega arith)
-  set-splice-above (suc b) v [] zero a h = refl
-  set-splice-above (suc b) v [] (suc i) a h = refl
-  set-splice-above (suc b) v (y ∷ F) zero a h = absurd (omega arith)
-  set-splice-above (suc b) v (y ∷ F) (suc i) a h = ap (λ (r : List A). y ∷ r) (set-splice-above b v F i a (omega arith))
 
   set-lay-end : (v F : List A) (a : A) → set (lay v F) (length v) a ≡ lay (v ++ (a ∷ [])) F
   unfolding lay
