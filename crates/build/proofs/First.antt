@@ -25,6 +25,7 @@ use Rattle.hierarchy.specs.Level.{Level, Hierarchy}
 use Rattle.hierarchy.specs.Refresh.{needsSums, sumsOf, withSums}
 use Rattle.hierarchy.specs.Build.{Charge, Mesh, lastShape, innerShape, growOf}
 use Rattle.hierarchy.proofs.Accepted.{grow-keeps}
+use Rattle.hierarchy.proofs.Depth.{head-is}
 use Rattle.layout.specs.declared.Place.{Place}
 use Rattle.layout.specs.Layout.{rowsAt, entriesAt, facesAt, lastAt, coupledAt, locate, levelAt, levelsAt, wordsEnd, floatsEnd, imageEnd, wordsFit, viewOf}
 use Rattle.layout.specs.Parts.{kernelIn}
@@ -72,13 +73,10 @@ rise-to f (suc n) rises i h =
     omega arith)
     (le-or-lt (suc n) i)
 
-head-of : {x y : Level} {xs ys : List Level} → x ∷ xs ≡ y ∷ ys → x ≡ y
-head-of e = cc
-
 head-at : (z : List ℕ) (G : List Float) (l : Level) (rest : List Level) → levelsAt (length (l ∷ rest)) z G 0 0 ≡ l ∷ rest
     → levelAt z G 0 0 ≡ l
 unfolding levelsAt
-head-at z G l rest e = head-of e
+head-at z G l rest e = head-is e
 
 fit-first : (z : List ℕ) (k : ℕ) → wordsFit (suc k) z 0 ≡ true → wordsEnd z 0 ≤ length z
 unfolding wordsFit

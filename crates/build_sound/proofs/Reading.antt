@@ -10,8 +10,7 @@ use lib.ListN.{length}
 use lib.Ieee.{Float}
 use borrow.Author.Tests.{leb-true, le-leb, lt-ltb}
 use Rattle.store.specs.Region.{idx, part}
-use Rattle.store.specs.Vector.{each}
-use Rattle.store.proofs.store.Each.{both-l, both-r}
+use Rattle.store.proofs.store.Each.{both-l, both-r, each-all}
 use Rattle.store.proofs.store.Region.{length-part, getD-part}
 use Rattle.store.proofs.store.Vector.{length-tab}
 use Rattle.pattern.specs.Pattern.{Pattern, entries, columnOf, rowOf, coarse, joins, placeOf, coarsePositions, Maps}
@@ -30,17 +29,11 @@ use Rattle.build_sound.specs.Laid.{Small}
 
 -- ---- lists
 
--- A test that each index passes passes.
-each-yes : (q : ℕ → Bool) (n : ℕ) → ((k : ℕ) → k < n → q k ≡ true) → each q n ≡ true
-unfolding each
-each-yes q zero all = refl
-each-yes q (suc n) all = rw (each-yes q n (λ k h. all k (omega arith)), all n (omega arith)) refl
-
 -- A list of so many numbers, each below the bound, passes.
 all-below : {bound n : ℕ} (v : List ℕ) → length v ≡ n → ((k : ℕ) → k < n → idx v k < bound) → allBelow bound v ≡ true
 unfolding allBelow
 all-below {bound} {n} v e all =
-    each-yes (λ k. ltb (idx v k) bound) (length v) (λ k h. lt-ltb (idx v k) bound (all k (omega arith)))
+    each-all (λ k. ltb (idx v k) bound) (length v) (λ k h. lt-ltb (idx v k) bound (all k (omega arith)))
 
 -- ---- a shape
 

@@ -15,7 +15,7 @@ use Rattle.refusal.specs.declared.Refusal.{Refusal}
 use Rattle.refusal.specs.Refusal.{badCoarseSolution}
 use Rattle.refusal.specs.declared.Verdict.{Verdict}
 use Rattle.refusal.specs.Outcome.{Outcome, accepted, refused, ask, verdictOf, _>>=_}
-use Rattle.refusal.proofs.Outcome.{then-accepted, verdict-passed, verdict-refused, refuses}
+use Rattle.refusal.proofs.Outcome.{then-accepted, verdict-passed, verdict-refused, refuses, never, accepts-it}
 use Rattle.vector.specs.Finite.{allFinite}
 use Rattle.cholesky.specs.Triangle.{tri}
 use Rattle.matrix.specs.declared.matrix.SymmetricMatrix.{SymmetricMatrix}
@@ -28,7 +28,7 @@ use Rattle.layout.specs.Parts as parts
 use Rattle.layout.proofs.Places.{ends-above}
 use Rattle.cycle.specs.declared.visit.Inner.{Inner}
 use Rattle.cycle.specs.Visit.{InnerOk, rhsAt, xAt, raisedAt, Moved, Downed}
-use Rattle.cycle.proofs.visit.Laws.{accepts, not-both, same-accepted}
+use Rattle.cycle.proofs.visit.Laws.{same-accepted}
 use Rattle.cycle.specs.declared.Way.{Way}
 use Rattle.cycle.specs.Cycle.{Cycled, cycled, countOf, swept, iterated, ended}
 use Rattle.cycle.specs.Contract.{levelIn, nextIn, innerAt, PlaceOk, NextOk, EndOk, StepOk, Visited, WentDown, endAt, upAt, workOk, workDone}
@@ -107,7 +107,7 @@ module _ (o : MultigridOptions) (w : List ℕ) {F G : List Float} (t : List ℕ)
       let out = upAt o w F t depth a b s in
       let no = refuses raisedTo (m' .answer) told in
       let all : out ≡ refused q = rw no in
-      record { answer = sym (verdict-refused out all); x = λ c y. not-both out all y; counts = λ c y. not-both out all y; floats = m' .floats }
+      record { answer = sym (verdict-refused out all); x = λ c y. never all y; counts = λ c y. never all y; floats = m' .floats }
 
   -- The sweeps are counted.
   pub up-yes : {sum : ℕ} {u : List ℕ} → v ≡ Verdict.Passed → sum ≡ min (pre + post) 18446744073709551615 → u ≡ countOf (4 * depth + 2) sum t
@@ -115,7 +115,7 @@ module _ (o : MultigridOptions) (w : List ℕ) {F G : List Float} (t : List ℕ)
   unfolding upAt
   up-yes {sum} {u} told f c =
       let out = upAt o w F t depth a b s in
-      let yes = accepts raisedTo (m' .answer) told in
+      let yes = accepts-it raisedTo (m' .answer) told in
       let after = swept depth (preSweepsOf o depth + postSweepsOf o depth) t in
       let counts : u ≡ after = c ∙ ap (λ (k : ℕ). countOf (4 * depth + 2) k t) f ∙ sum-count (4 * depth + 2) pre post t ∙ rw (p, q) in
       let all : out ≡ accepted (cycled (yes .0) after) = then-accepted raisedTo (λ z. accepted (cycled z after)) (yes .1) in
@@ -177,8 +177,8 @@ visit-of (accepted a) counts e x c k = record {
 }
 visit-of (refused q) counts e x c k = record {
   answer = e;
-  x = λ z y. not-both (refused q) refl y;
-  counts = λ z y. not-both (refused q) refl y;
+  x = λ z y. never refl y;
+  counts = λ z y. never refl y;
   floats = k;
 }
 

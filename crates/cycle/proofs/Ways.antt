@@ -16,9 +16,10 @@ use Rattle.options.specs.Counts.{preSweepsOf, postSweepsOf}
 use Rattle.refusal.specs.declared.Refusal.{Refusal}
 use Rattle.refusal.specs.declared.Verdict.{Verdict}
 use Rattle.refusal.specs.Outcome.{Outcome, accepted, refused, verdictOf, isRefused, _>>=_}
-use Rattle.refusal.proofs.Outcome.{then-accepted, then-refused, verdict-refused, refuses, went-on, stopped}
+use Rattle.refusal.proofs.Outcome.{then-accepted, then-refused, verdict-refused, refuses, went-on, stopped, then-then, never, accepts-it}
 use Rattle.cholesky.specs.Triangle.{tri}
 use Rattle.matrix.specs.Kernel.{Kernel, kernelAt}
+use Rattle.matrix.proofs.matrix.Kernel.{kernel-kept}
 use Rattle.smoother.specs.Smooth.{smoothOf}
 use Rattle.correction.specs.Transfer.{restrictOf, prolongOf}
 use Rattle.hierarchy.specs.Level.{Level}
@@ -30,7 +31,7 @@ use Rattle.index_check.specs.Sound.{walkOf, scratchEnd}
 use Rattle.index_check.proofs.sound.Facts.{Here, Passed, passed, endsOf, targetsOf, sumsOf}
 use Rattle.cycle.specs.declared.visit.Inner.{Inner}
 use Rattle.cycle.specs.Visit.{InnerOk, rhsAt, xAt, residualAt, residualPlace, matrixAt, residualIn, smoothedAt}
-use Rattle.cycle.proofs.visit.Laws.{accepts, not-both, kernel-same, residual-ends}
+use Rattle.cycle.proofs.visit.Laws.{residual-ends}
 use Rattle.cycle.specs.Cycle.{Cycled, cycled, countOf, visited, swept, rowsFirst, residualAfter, corrected, endOf, upOf, cycleOf}
 use Rattle.cycle.specs.Contract.{cycleAt, CycleOk, CycleDone, levelIn, innerIn, nextIn, innerAt, PlaceOk, EndOk, StepOk}
 use Rattle.cycle.specs.Contract.{Visited, DownDone, endAt, upAt}
@@ -64,13 +65,13 @@ module _ (left : ℕ) (some : 1 ≤ left) where
   first-rows w F a b = ap rowsFirst (levels-open w F a b)
 
 -- Scratch ends behind where it starts.
-scratch-to : (k : ℕ) (w : List ℕ) (a s : ℕ) → s ≤ scratchEnd k w a s
+pub scratch-to : (k : ℕ) (w : List ℕ) (a s : ℕ) → s ≤ scratchEnd k w a s
 unfolding scratchEnd
 scratch-to zero w a s = omega arith
 scratch-to (suc k) w a s = omega (arith, scratch-to k w (wordsEnd w a) (s + 5 * rowsAt w a))
 
 -- The words of levels that the index check passed end in the store.
-walk-to : (k : ℕ) (w : List ℕ) (level a : ℕ) → a ≤ length w → walkOf k w level a ≡ Walk.Sound → wordsTo k w a ≤ length w
+pub walk-to : (k : ℕ) (w : List ℕ) (level a : ℕ) → a ≤ length w → walkOf k w level a ≡ Walk.Sound → wordsTo k w a ≤ length w
 unfolding wordsTo
 walk-to zero w level a h e = h
 walk-to (suc k) w level a h e = let p = passed k e in walk-to k w (level + 1) (wordsEnd w a) (p .here .words) (p .rest)
@@ -235,11 +236,6 @@ module _ {left : ℕ} {w : List ℕ} {size depth a b s : ℕ} (ok : CycleOk left
 
 -- ---- the definition, by its cases
 
--- Chains follow one another.
-bind-on : {A B C : Type 0} (out : Outcome A) (f : A → Outcome B) (g : B → Outcome C) → _>>=_ (_>>=_ out f) g ≡ _>>=_ out (λ a. _>>=_ (f a) g)
-bind-on (accepted a) f g = refl
-bind-on (refused q) f g = refl
-
 -- The last level,
 level-last : (w : List ℕ) (F : List Float) (a b : ℕ) → lastAt w a ≡ true → levelAt w F a b ≡ levelIn w F (locate w a b) true (idx w (a + 2))
 unfolding levelAt
@@ -309,7 +305,7 @@ unfolding upOf corrected kernelAt
 up-chain o w F depth a b s r x d =
     let P = locate w a b in
     let n = rowsAt w a in
-    bind-on (corrected (o .«scale_correction») (matrixAt w F (innerAt w a b s)) r (prolongOf n (part (P .links) n w) (d .x)) x)
+    then-then (corrected (o .«scale_correction») (matrixAt w F (innerAt w a b s)) r (prolongOf n (part (P .links) n w) (d .x)) x)
     (λ y. smoothOf (matrixAt w F (innerAt w a b s)) (part (P .dic) n F) (rhsAt s n F) (o .smoother) (postSweepsOf o depth) y)
     (λ z. accepted (cycled z (swept depth (preSweepsOf o depth + postSweepsOf o depth) (d .counts))))
 
@@ -345,8 +341,8 @@ module _ (o : MultigridOptions) (left : ℕ) (w : List ℕ) (F : List Float) (t 
       → CycleDone o left w F G t u depth a b s (Verdict.Refused q)
   refused-as u e k = record {
     answer = sym (verdict-refused whole e);
-    x = λ c y. not-both whole e y;
-    counts = λ c y. not-both whole e y;
+    x = λ c y. never e y;
+    counts = λ c y. never e y;
     floats = k;
   }
 
@@ -402,7 +398,7 @@ module _ (o : MultigridOptions) (left : ℕ) (w : List ℕ) (F : List Float) (t 
 
       -- x after the way down.
       y-as : (y : List Float) × (out ≡ accepted y)
-      y-as = accepts out (d .down .visit .moved .answer) told
+      y-as = accepts-it out (d .down .visit .moved .answer) told
 
       -- The deeper cycle at the next level's place.
       c' : CycleDone o (left - 1) w D E (visited depth t) u (depth + 1) (wordsEnd w a) (floatsEnd w a b) (s + 5 * n) v'
@@ -456,7 +452,7 @@ module _ (o : MultigridOptions) (left : ℕ) (w : List ℕ) (F : List Float) (t 
 
         -- What the deeper levels gave.
         z-as : (z : Cycled) × (deep-out (y-as .0) ≡ accepted z)
-        z-as = accepts (deep-out (y-as .0)) (c' .answer ∙ ap verdictOf same) passed-on
+        z-as = accepts-it (deep-out (y-as .0)) (c' .answer ∙ ap verdictOf same) passed-on
 
         -- the way up reads what the way down and the deeper levels left
         up-is : upAt o w E u depth a b s ≡ after (y-as .0) (z-as .0)
@@ -467,7 +463,7 @@ module _ (o : MultigridOptions) (left : ℕ) (w : List ℕ) (F : List Float) (t 
             let pre' = preSweepsOf o depth in
             let ok' = inner-ok ok more in
             let low : Kept s F E = kept-less held (omega arith) in
-            let kernel : matrixAt w E g ≡ matrixAt w F g = kernel-same (ok' .kernel) low in
+            let kernel : matrixAt w E g ≡ matrixAt w F g = kernel-kept (ok' .kernel) low in
             let dic : part (P .dic) n E ≡ part (P .dic) n F = kept-part low (P .dic) n (ok' .dics) in
             let rhs : rhsAt s n E ≡ rhsAt s n F = kept-part held s n (omega arith) in
             let l = d .down .visit .left y (y-as .1) in

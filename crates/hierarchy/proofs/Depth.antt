@@ -37,7 +37,7 @@ ends-last : (more : ℕ) {o : MultigridOptions} {level : ℕ} {m : Mesh} {levels
 ends-last more l = subst (Ends (more + 1)) (l .is) (record { ending = last refl; some = omega arith; few = omega arith })
 
 -- The first of levels.
-head-is : {l k : Level} {r s : List Level} → l ∷ r ≡ k ∷ s → l ≡ k
+pub head-is : {l k : Level} {r s : List Level} → l ∷ r ≡ k ∷ s → l ≡ k
 head-is e = cc
 
 module _ (o : MultigridOptions) (given : Bool) (stores : Charge) where

@@ -25,6 +25,15 @@ module _ {A B : Type 0} (o : Outcome A) (rest : A → Outcome B) where
   pub then-refused : {q : Refusal} → o ≡ refused q → _>>=_ o rest ≡ refused q
   then-refused e = rw e
 
+-- chains follow one another
+pub then-then : {A B C : Type 0} (o : Outcome A) (f : A → Outcome B) (g : B → Outcome C) → _>>=_ (_>>=_ o f) g ≡ _>>=_ o (λ a. _>>=_ (f a) g)
+then-then (accepted a) f g = refl
+then-then (refused q) f g = refl
+
+-- nothing is refused and accepted
+pub never : {A B : Type 0} {o : Outcome A} {q : Refusal} {a : A} → o ≡ refused q → o ≡ accepted a → B
+never e f = absurd (let none : _≡_ {A = ℕ} 0 1 = cc in omega arith)
+
 -- what is accepted is one thing
 pub accepted-one : {A : Type 0} {a b : A} → accepted a ≡ accepted b → a ≡ b
 accepted-one e = cc

@@ -1,4 +1,3 @@
 pub mod Chains
 pub mod Turning
 pub mod Renewing
-pub mod Loading

@@ -1,6 +1,6 @@
 -- The ways through the descent, over the definitions alone.
 -- Assumes nothing.
-use mathlib.Core.Path.{_≡_, refl, _∙_}
+use mathlib.Core.Path.{_≡_, refl, sym, _∙_}
 use mathlib.Core.Bool.{Bool}
 use mathlib.Core.List.{List}
 use Prim.Native.Nat.{ℕ, _+_, _-_}
@@ -10,7 +10,7 @@ use Rattle.options.specs.declared.options.MultigridOptions.{MultigridOptions}
 use Rattle.refusal.specs.declared.Refusal.{Refusal}
 use Rattle.refusal.specs.declared.Verdict.{Verdict}
 use Rattle.refusal.specs.Outcome.{Outcome, accepted, refused, _>>=_}
-use Rattle.refusal.proofs.Outcome.{then-accepted, then-refused}
+use Rattle.refusal.proofs.Outcome.{then-accepted, then-refused, then-then}
 use Rattle.coefficients.specs.Update.{Coefficients}
 use Rattle.dic.specs.Dic.{settled}
 use Rattle.hierarchy.specs.Level.{Numbers}
@@ -52,11 +52,6 @@ merging-yes (refused q) e told = absurd (let none : _≡_ {A = ℕ} 0 1 = cc in 
 
 -- ---- the chain
 
--- Chains follow one another.
-then-then : {A B C : Type 0} (o : Outcome A) (f : A → Outcome B) (g : B → Outcome C) → _>>=_ o (λ a. _>>=_ (f a) g) ≡ _>>=_ (_>>=_ o f) g
-then-then (accepted a) f g = refl
-then-then (refused q) f g = refl
-
 module _ (o : MultigridOptions) (given : Bool) (level stage : ℕ) (m : Mesh) (c : Coefficients) (map : List ℕ) (count : ℕ) where
   -- The level's numbers are refused.
   pub way-numbers : {q : Refusal} → innerNumbers o level (innerShape (m .pattern) map count) c ≡ refused q
@@ -73,8 +68,8 @@ module _ (o : MultigridOptions) (given : Bool) (level stage : ℕ) (m : Mesh) (c
     onward : descentOf o given level stage m c map count ≡ _>>=_ (stepsOf o given level stage m map count) afresh
     onward =
         then-accepted (innerNumbers o level (innerShape (m .pattern) map count) c) _ made
-        ∙ then-then (coarsenedAsked given m map count)
-        (λ first. mergeOf o given (o .«merge_levels» - 1) (level + 1) (merged first map (stage + 1))) afresh
+        ∙ sym (then-then (coarsenedAsked given m map count)
+        (λ first. mergeOf o given (o .«merge_levels» - 1) (level + 1) (merged first map (stage + 1))) afresh)
 
     -- The steps are refused.
     pub way-steps : {q : Refusal} → stepsOf o given level stage m map count ≡ refused q

@@ -16,7 +16,7 @@ use Rattle.options.specs.declared.options.MultigridOptions.{MultigridOptions}
 use Rattle.refusal.specs.declared.Refusal.{Refusal}
 use Rattle.refusal.specs.Refusal.{storeTooSmall}
 use Rattle.refusal.specs.Outcome.{Outcome, accepted, refused, _>>=_, ask}
-use Rattle.refusal.proofs.Outcome.{ask-yes, ask-no, then-accepted, then-refused, accepted-one}
+use Rattle.refusal.proofs.Outcome.{ask-yes, ask-no, then-accepted, then-refused, accepted-one, then-then}
 use Rattle.coefficients.specs.Update.{Coefficients}
 use Rattle.aggregation.specs.Pairs.{Pairing}
 use Rattle.aggregation.proofs.Numbers.{count-most}
@@ -52,11 +52,6 @@ use Rattle.build_levels.specs.GrowingContract.{charge, growAt, Grown}
 use Rattle.build_levels.specs.Ahead.{deeperOf, pairedLevel, pairedAt, before, Ahead, Advanced, LeadOk, nextAfter, pickOnward, chargedOf, ChargeOk}
 
 -- ---- the definition opened
-
--- Of computations in a row the first two may be taken as one.
-then-then : {A B C : Type 0} (x : Outcome A) (f : A → Outcome B) (g : B → Outcome C) → _>>=_ (_>>=_ x f) g ≡ _>>=_ x (λ a. _>>=_ (f a) g)
-then-then (accepted a) f g = refl
-then-then (refused q) f g = refl
 
 module _ (o : MultigridOptions) (given : Bool) (stores : Charge) where
   -- The levels from one on: the questions of its matrix, and then it is the last or paired.

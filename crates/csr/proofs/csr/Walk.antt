@@ -4,26 +4,20 @@ use mathlib.Core.Path.{_≡_, refl, sym, _∙_}
 use mathlib.Core.Bool.{Bool, true, false, _&&_, _||_, and-true, false≢true}
 use mathlib.Core.List.{List}
 use mathlib.Core.Logic.{⊎-elim}
-use Prim.Native.Nat.{ℕ, zero, suc, _+_, _-_, _≤_, _<_}
+use Prim.Native.Nat.{ℕ, _+_, _-_, _≤_, _<_}
 use native.Mathlib.Omega.{arith}
 use lib.Dec.{eqb, leb, ltb}
 use lib.Ieee.{Float}
 use lib.ListN.{length}
 use borrow.Author.Tests.{ltb-true, leb-true, eqb-true, lt-ltb, le-leb, lt-leb, eq-eqb, ne-eqb}
 use Rattle.store.specs.Region.{idx}
-use Rattle.store.specs.Vector.{each, filled}
+use Rattle.store.specs.Vector.{filled}
 use Rattle.store.proofs.store.Region.{le-or-lt}
 use Rattle.store.proofs.store.Vector.{length-tab, getD-tab}
-use Rattle.store.proofs.store.Each.{Passed, both-l, both-r, each-at, passed-on, passed-no}
+use Rattle.store.proofs.store.Each.{Passed, both-l, both-r, each-at, passed-on, passed-no, each-all}
 use Rattle.pattern.specs.Pattern.{Valid}
 use Rattle.pattern.proofs.pattern.Row.{offset-mono, row-in}
 use Rattle.csr.specs.Questions.{sizeOk, stepOk, neverFall, offsetsOk, entryOk, entryFrom, rowOk, rowAt, columnsOk, Rowed}
-
--- What holds of every index holds of each.
-pub each-all : (p : ℕ → Bool) (n : ℕ) → ((k : ℕ) → k < n → p k ≡ true) → each p n ≡ true
-unfolding each
-each-all p zero h = refl
-each-all p (suc n) h = rw (each-all p n (λ k l. h k (omega arith)), h n (omega arith))
 
 -- ---- question 1
 

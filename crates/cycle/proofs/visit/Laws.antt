@@ -17,11 +17,11 @@ use Rattle.options.specs.declared.options.MultigridSmoother.{MultigridSmoother}
 use Rattle.refusal.specs.declared.Refusal.{Refusal}
 use Rattle.refusal.specs.Refusal.{badSmootherOutput}
 use Rattle.refusal.specs.declared.Verdict.{Verdict}
-use Rattle.refusal.specs.Outcome.{Outcome, accepted, refused, ask, verdictOf}
-use Rattle.refusal.proofs.Outcome.{verdict-passed, verdict-refused, refuses}
+use Rattle.refusal.specs.Outcome.{Outcome, accepted, refused, ask}
+use Rattle.refusal.proofs.Outcome.{verdict-passed, verdict-refused, refuses, never, accepts-it}
 use Rattle.vector.specs.Finite.{allFinite}
-use Rattle.matrix.specs.declared.matrix.SymmetricMatrix.{SymmetricMatrix}
 use Rattle.matrix.specs.Kernel.{Kernel, kernelAt, applyOf, KernelOk}
+use Rattle.matrix.proofs.matrix.Kernel.{kernel-above, kernel-kept}
 use Rattle.gauss_seidel.specs.Contract.{SmoothOk}
 use Rattle.smoother.specs.Smooth.{Smoothed, SmoothDone, sweptOf, smoothOf}
 use Rattle.correction.specs.Transfer.{RestrictOk, ProlongOk, restrictOf}
@@ -37,15 +37,6 @@ use Rattle.cycle.specs.Visit.{InnerOk, Moved, Resided, Left, Restricted,
 
 -- ---- outcomes
 
--- What passed was accepted.
-pub accepts : {A : Type 0} {v : Verdict} (out : Outcome A) → v ≡ verdictOf out → v ≡ Verdict.Passed → (a : A) × (out ≡ accepted a)
-accepts (accepted a) e told = (a, refl)
-accepts (refused q) e told = let none : _≡_ {A = ℕ} 0 1 = cc in absurd (omega arith)
-
--- What was refused was not accepted.
-pub not-both : {A : Type 0} {B : Type 0} {q : Refusal} {a : A} (out : Outcome A) → out ≡ refused q → out ≡ accepted a → B
-not-both out e f = let none : _≡_ {A = ℕ} 0 1 = cc in absurd (omega arith)
-
 -- An outcome is accepted with one result.
 pub same-accepted : {A : Type 0} {a b : A} {out : Outcome A} → out ≡ accepted a → out ≡ accepted b → a ≡ b
 same-accepted e f = cc
@@ -57,23 +48,6 @@ asked-is false true q y v e = cc
 asked-is false false q y v e = let none : _≡_ {A = ℕ} 0 1 = cc in absurd (omega arith)
 
 -- ---- the level under writes above it
-
--- Writes at s or above leave the matrix as it was.
-pub kernel-same : {w : List ℕ} {s : ℕ} {k : SymmetricMatrix} {F G : List Float} → KernelOk w s k → Kept s F G → kernelAt k w G ≡ kernelAt k w F
-unfolding kernelAt
-kernel-same ok k = rw (kept-part k _ _ (ok .own), kept-part k _ _ (ok .recip), kept-part k _ _ (ok .faces))
-
--- A kernel that ends below one place ends below a higher one.
-kernel-up : {w : List ℕ} {low high : ℕ} {k : SymmetricMatrix} → KernelOk w low k → low ≤ high → KernelOk w high k
-kernel-up ok h = record {
-  starts = ok .starts;
-  columns = ok .columns;
-  own = omega (arith, ok .own);
-  recip = omega (arith, ok .recip);
-  faces = omega (arith, ok .faces);
-  falls = ok .falls;
-  near = ok .near;
-}
 
 -- What is required of a level holds in a store of the same size.
 pub inner-on : {w : List ℕ} {m n : ℕ} {g : Inner} → InnerOk w m g → n ≡ m → InnerOk w n g
@@ -153,7 +127,7 @@ resided-none w F g {sweeps} e = record { is = rw (eq-eqb sweeps 0 e); floats = k
 pub product-ok : {w : List ℕ} {size : ℕ} {g : Inner} → InnerOk w size g
     → KernelOk w (g .start + g .matrix .rows) (g .matrix)
     × ((g .start + g .matrix .rows + g .matrix .rows ≤ g .start + 4 * g .matrix .rows) × (g .start + 4 * g .matrix .rows + g .matrix .rows ≤ size))
-product-ok ok = (kernel-up (ok .kernel) (omega arith), (omega arith, omega (arith, ok .room)))
+product-ok ok = (kernel-above (ok .kernel) (omega arith), (omega arith, omega (arith, ok .room)))
 
 module _ {w : List ℕ} {F G : List Float} {g : Inner} (ok : InnerOk w (length F) g)
     (p : Wrote (g .start + 4 * g .matrix .rows) (g .matrix .rows) (applyOf (matrixAt w F g) (part (g .start + g .matrix .rows) (g .matrix .rows) F)) F G) where
@@ -235,7 +209,7 @@ module _ {kind : MultigridSmoother} {w : List ℕ} {F G : List Float} {sweeps : 
   down-no {q} told =
       let out = smoothedAt w F g kind sweeps in
       let no : out ≡ refused q = refuses out (m .answer) told in
-      record { moved = subst (Moved (g .start) (g .matrix .rows) out F G) told m; left = λ u e. not-both out no e }
+      record { moved = subst (Moved (g .start) (g .matrix .rows) out F G) told m; left = λ u e. never no e }
 
   -- The way down.
   pub down-yes : v ≡ Verdict.Passed → {H : List Float} → Restricted w G H g sweeps → Downed kind w F H g sweeps Verdict.Passed
@@ -243,7 +217,7 @@ module _ {kind : MultigridSmoother} {w : List ℕ} {F G : List Float} {sweeps : 
       let n = g .matrix .rows in
       let s = g .start in
       let out = smoothedAt w F g kind sweeps in
-      let kernel : matrixAt w G g ≡ matrixAt w F g = kernel-same (ok .kernel) (kept-less (m .floats) (omega arith)) in
+      let kernel : matrixAt w G g ≡ matrixAt w F g = kernel-kept (ok .kernel) (kept-less (m .floats) (omega arith)) in
       let rhs : rhsAt s n G ≡ rhsAt s n F = kept-part (m .floats) s n (omega arith) in
       let x : xAt s n H ≡ xAt s n G = kept-part (h .floats) (s + n) n (omega arith) in
       let was : (u : List Float) → out ≡ accepted u → residualIn w G g sweeps (xAt s n G) ≡ residualIn w F g sweeps u =
@@ -263,7 +237,7 @@ module _ {kind : MultigridSmoother} {w : List ℕ} {F G : List Float} {sweeps : 
 pub image-ok : {w : List ℕ} {size : ℕ} {g : Inner} → InnerOk w size g
     → KernelOk w (g .start + 3 * g .matrix .rows) (g .matrix)
     × ((g .start + 3 * g .matrix .rows + g .matrix .rows ≤ g .start + 4 * g .matrix .rows) × (g .start + 4 * g .matrix .rows + g .matrix .rows ≤ size))
-image-ok ok = (kernel-up (ok .kernel) (omega arith), (omega arith, omega (arith, ok .room)))
+image-ok ok = (kernel-above (ok .kernel) (omega arith), (omega arith, omega (arith, ok .room)))
 
 -- A refused factor was refused,
 factor-no : {r : Factor} {q : Refusal} (out : Outcome Float) → r ≡ factorOf out → r ≡ Factor.Refused q → out ≡ refused q
@@ -345,7 +319,7 @@ module _ {w : List ℕ} {F G : List Float} {from : ℕ} (sweeps : ℕ) {g : Inne
         let no = factor-no factorIs told-by t in
         let out = scaledAt w F g sweeps in
         let all : out ≡ refused q = rw no in
-        record { answer = sym (verdict-refused out all); x = λ v y. not-both out all y; floats = kept-less kept (omega arith) }
+        record { answer = sym (verdict-refused out all); x = λ v y. never all y; floats = kept-less kept (omega arith) }
 
     -- The correction is scaled and added.
     pub scaled-yes : {x : Float} {H : List Float} → r ≡ Factor.Factor x
@@ -410,7 +384,7 @@ module _ {w : List ℕ} {F G : List Float} {g : Inner} (ok : InnerOk w (length F
       let n = g .matrix .rows in
       let s = g .start in
       let k = lifted in
-      let kernel : matrixAt w G g ≡ matrixAt w F g = kernel-same (ok .kernel) (kept-less k (omega arith)) in
+      let kernel : matrixAt w G g ≡ matrixAt w F g = kernel-kept (ok .kernel) (kept-less k (omega arith)) in
       let e : correctionAt s n G ≡ broughtAt w F g = wrote-at b (omega (arith, ok .room)) in
       let r : residualAt s n pre G ≡ residualAt s n pre F = kept-part k (residualPlace s n pre) n (residual-ends s n pre) in
       let x : xAt s n G ≡ xAt s n F = kept-part k (s + n) n (omega arith) in
@@ -428,7 +402,7 @@ module _ {w : List ℕ} {F G : List Float} {g : Inner} (ok : InnerOk w (length F
         let out = raisedAt w F g kind scale pre post in
         let no = sym (corrected-is scale pre) ∙ refuses (correctedAt w G g scale pre) (m .answer) told in
         let all : out ≡ refused q = rw no in
-        record { answer = sym (verdict-refused out all); x = λ u y. not-both out all y; floats = down-to }
+        record { answer = sym (verdict-refused out all); x = λ u y. never all y; floats = down-to }
 
     -- The sweeps after it.
     pub up-yes : v ≡ Verdict.Passed → {I : List Float} {r : Verdict} → Moved (g .start) (g .matrix .rows) (smoothedAt w H g kind post) H I r
@@ -436,10 +410,10 @@ module _ {w : List ℕ} {F G : List Float} {g : Inner} (ok : InnerOk w (length F
     up-yes told {I} {r} i =
         let n = g .matrix .rows in
         let s = g .start in
-        let yes = accepts (correctedAt w G g scale pre) (m .answer) told in
+        let yes = accepts-it (correctedAt w G g scale pre) (m .answer) told in
         let is = sym (corrected-is scale pre) ∙ yes .1 in
         let low : Kept s F H = kept-less down-to (omega arith) in
-        let kernel : matrixAt w H g ≡ matrixAt w F g = kernel-same (ok .kernel) low in
+        let kernel : matrixAt w H g ≡ matrixAt w F g = kernel-kept (ok .kernel) low in
         let dic : part (g .dic) n H ≡ part (g .dic) n F = kept-part low (g .dic) n (ok .dics) in
         let rhs : rhsAt s n H ≡ rhsAt s n F = kept-part down-to s n (omega arith) in
         let x : xAt s n H ≡ yes .0 = m .x (yes .0) (yes .1) in

@@ -11,8 +11,7 @@ use Rattle.refusal.specs.declared.Verdict.{Verdict}
 use Rattle.refusal.specs.Outcome.{passed, askRows, verdictOf}
 use Rattle.refusal.proofs.Outcome.{verdict-passed, passes}
 use Rattle.store.specs.Region.{idx}
-use Rattle.store.specs.Vector.{each}
-use Rattle.store.proofs.store.Each.{each-at}
+use Rattle.store.proofs.store.Each.{each-at, each-all}
 use Rattle.store.proofs.store.Region.{le-or-lt}
 use Rattle.store.proofs.store.Vector.{getD-tab}
 use Rattle.pattern.specs.Pattern.{howMany, Pattern, entries, columnOf, rowOf, Valid, Rising, Mirrored, Diagonal}
@@ -27,11 +26,6 @@ use Rattle.faces.proofs.faces.Asking.{asks}
 
 -- ---- question 10
 
-each-yes : (q : ℕ → Bool) (n : ℕ) → ((k : ℕ) → k < n → q k ≡ true) → each q n ≡ true
-unfolding each
-each-yes q zero all = refl
-each-yes q (suc n) all = rw (each-yes q n (λ k h. all k (omega arith)), all n (omega arith)) refl
-
 -- Where each entry is found to have its mirror, the pattern is mirrored.
 pub mirrored-is : {p : Pattern} → Valid p → Rising p → mirroredOf p ≡ true → Mirrored p
 unfolding mirroredOf
@@ -42,7 +36,7 @@ mirrored-is {p} valid rising t = record {
 -- In a mirrored pattern each entry is found to have its mirror.
 pub mirrored-was : {p : Pattern} → Valid p → Mirrored p → mirroredOf p ≡ true
 unfolding mirroredOf
-mirrored-was {p} valid mirrored = each-yes (λ d. hasEntry p (columnOf p d) (rowOf p d)) (entries p)
+mirrored-was {p} valid mirrored = each-all (λ d. hasEntry p (columnOf p d) (rowOf p d)) (entries p)
     (λ e h. let d = mirrored .mirror e h in has-at p (columnOf p e) (rowOf p e) (d .0) (d .1) (d .2) (d .3))
 
 -- ---- question 11

@@ -15,11 +15,11 @@ use Rattle.options.specs.declared.options.Handle.{Handle}
 use Rattle.refusal.specs.declared.Refusal.{Refusal}
 use Rattle.refusal.specs.Refusal.{badResidual}
 use Rattle.refusal.specs.declared.Verdict.{Verdict}
-use Rattle.refusal.specs.Outcome.{Outcome, accepted, refused, _>>=_, verdictOf}
-use Rattle.refusal.proofs.Outcome.{then-accepted, then-refused, refuses}
+use Rattle.refusal.specs.Outcome.{Outcome, accepted, refused, _>>=_}
+use Rattle.refusal.proofs.Outcome.{then-accepted, then-refused, refuses, accepts-it}
 use Rattle.vector.specs.declared.vector.Product.{Product}
 use Rattle.matrix.specs.Kernel.{Kernel, kernelAt, applyOf}
-use Rattle.matrix.proofs.matrix.Kernel.{kernel-kept}
+use Rattle.matrix.proofs.matrix.Kernel.{kernel-kept, kernel-above}
 use Rattle.correction.specs.Correction.{subtractOf}
 use Rattle.acceleration.specs.declared.acceleration.Corrected.{Corrected}
 use Rattle.acceleration.specs.Directions.{Pair}
@@ -34,7 +34,7 @@ use Rattle.iterations.specs.declared.stepping.Regions.{Regions}
 use Rattle.iterations.specs.declared.stepping.Step.{Step}
 use Rattle.iterations.specs.Iteration.{System, State, measured, residualOf, movedOf, stepOf}
 use Rattle.iterations.specs.Steps.{systemAt, StepOk, VectorsOk, Renewed, Moved, moveOf, moveAt, afterOf, afterAt, stateAt, stepAt, AdvanceDone, StepDone}
-use Rattle.iterations.proofs.stepping.Moving.{kernel-above, memory-kept}
+use Rattle.iterations.proofs.stepping.Moving.{memory-kept}
 use Rattle.iterations.proofs.stepping.Placing.{vectors, move-ok, cycle-ok, rows-is, correction-is, system-kept, kernel-is, kernel-rows}
 
 -- ---- after the cycle
@@ -179,11 +179,6 @@ module _ {h : Handle} {w : List ℕ} (F : List Float) {g : Regions} {used : ℕ}
 
 -- ---- the whole iteration
 
--- Where the verdict is `Passed`, the outcome is accepted.
-accepts : {A : Type 0} {v : Verdict} (o : Outcome A) → v ≡ verdictOf o → v ≡ Verdict.Passed → (a : A) × (o ≡ accepted a)
-accepts (accepted a) e told = (a, refl)
-accepts (refused q) e told = absurd (let none : _≡_ {A = ℕ} 0 1 = cc in omega arith)
-
 module _ {h : Handle} {w : List ℕ} (F : List Float) {g : Regions} {used : ℕ} (ok : StepOk h w (length F) g used) where
   module _ {E : List Float} (z : Wrote (g .correction) (g .rows) (filled (g .rows) zero64) F E) where
     filled-kept : Kept (g .correction) F E
@@ -253,7 +248,7 @@ module _ {h : Handle} {w : List ℕ} (F : List Float) {g : Regions} {used : ℕ}
             let second = o .second in
             let pairs = mul-le-mul-right (g .rows) (ok .fits) in
             let k = cycled-kept in
-            let c = accepts (cycleAt (h .options) (h .levels) w E t 0 0 0 (g .residual)) (d .answer) told in
+            let c = accepts-it (cycleAt (h .options) (h .levels) w E t 0 0 0 (g .residual)) (d .answer) told in
             let system = system-kept (ok .ready) k (omega arith) (omega arith) in
             let rhs : part (g .rhs) (g .rows) G ≡ part (g .rhs) (g .rows) F = kept-part k _ _ (omega arith) in
             let residual : part (g .residual) (g .rows) G ≡ part (g .residual) (g .rows) F = kept-part k _ _ (omega arith) in

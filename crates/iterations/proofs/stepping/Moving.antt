@@ -14,8 +14,8 @@ use Rattle.store.specs.Region.{part, Wrote, Kept, CopyOk}
 use Rattle.store.proofs.store.Region.{wrote-at, wrote-off, kept-wrote, kept-on, kept-less, kept-part}
 use Rattle.refusal.specs.Outcome.{accepted}
 use Rattle.refusal.proofs.Outcome.{accepted-one}
-use Rattle.matrix.specs.declared.matrix.SymmetricMatrix.{SymmetricMatrix}
 use Rattle.matrix.specs.Kernel.{KernelOk, kernelAt, applyOf}
+use Rattle.matrix.proofs.matrix.Kernel.{kernel-above}
 use Rattle.correction.specs.Correction.{SubtractOk, subtractOf, addPlainOf}
 use Rattle.acceleration.specs.declared.acceleration.Corrected.{Corrected}
 use Rattle.acceleration.specs.Gcr.{Corrections, correctOf}
@@ -24,19 +24,6 @@ use Rattle.acceleration.specs.AccelerationContract.{CorrectOk, CorrectedBy, cor
 use Rattle.acceleration.proofs.directions.Passes.{memory-same}
 use Rattle.iterations.specs.declared.stepping.Regions.{Regions}
 use Rattle.iterations.specs.Steps.{VectorsOk, MoveOk, Renewed, Moved, moveAt, productAt}
-
--- A matrix that ends below a place ends below a higher one.
-pub kernel-above : {w : List ℕ} {low high : ℕ} {s : SymmetricMatrix} → KernelOk w low s → low ≤ high → KernelOk w high s
-kernel-above k h =
-    record {
-      starts = k .starts;
-      columns = k .columns;
-      own = let l = k .own in omega arith;
-      recip = let l = k .recip in omega arith;
-      faces = let l = k .faces in omega arith;
-      falls = k .falls;
-      near = k .near;
-    }
 
 -- A region at the start is a prefix.
 take-part : (p : ℕ) (F G : List Float) → part 0 p G ≡ part 0 p F → take p G ≡ take p F

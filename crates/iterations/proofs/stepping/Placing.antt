@@ -2,7 +2,7 @@
 -- Assumes nothing.
 use mathlib.Core.Path.{_≡_, refl, sym, ap, _∙_, subst}
 use mathlib.Core.List.{List}
-use Prim.Native.Nat.{ℕ, zero, suc, _+_, _*_, _-_, _/_, _≤_, zero-le}
+use Prim.Native.Nat.{ℕ, suc, _+_, _*_, _-_, _/_, _≤_, zero-le}
 use native.Mathlib.Nat.{add-mul, mul-assoc}
 use native.Mathlib.Omega.{arith}
 use lib.ListN.{length}
@@ -21,21 +21,10 @@ use Rattle.index_check.specs.SoundContract as index
 use Rattle.index_check.proofs.sound.Facts.{Passed, passed}
 use Rattle.index_check.proofs.sound.Sizes.{place-zero, first-head}
 use Rattle.cycle.specs.Contract.{CycleOk}
+use Rattle.cycle.proofs.Ways.{scratch-to, walk-to}
 use Rattle.iterations.specs.declared.stepping.Regions.{Regions}
 use Rattle.iterations.specs.Iteration.{kernelFirst}
 use Rattle.iterations.specs.Steps.{systemAt, regionsAt, Opened, Ready, VectorsOk, MoveOk}
-
--- Scratch ends behind where it starts.
-scratch-to : (k : ℕ) (w : List ℕ) (a s : ℕ) → s ≤ scratchEnd k w a s
-unfolding scratchEnd
-scratch-to zero w a s = omega arith
-scratch-to (suc k) w a s = omega (arith, scratch-to k w (wordsEnd w a) (s + 5 * rowsAt w a))
-
--- The words of levels that the index check passed end in the store.
-walk-to : (k : ℕ) (w : List ℕ) (level a : ℕ) → a ≤ length w → walkOf k w level a ≡ Walk.Sound → wordsTo k w a ≤ length w
-unfolding wordsTo
-walk-to zero w level a h e = h
-walk-to (suc k) w level a h e = let p = passed k e in walk-to k w (level + 1) (wordsEnd w a) (p .here .words) (p .rest)
 
 -- The scratch before the cycle's: two vectors, and those of the memory.
 memory-is : (krylov n : ℕ) → (2 + 2 * krylov) * n ≡ 2 * n + 2 * (krylov * n)

@@ -208,6 +208,18 @@ sums-done {w} {F} {G} {H} {s} {sums} ok outs c b =
     ∙ ap (for (sumRowTurn w (s .offsets) (s .neighbors) (s .coefficients) sums) 0 (s .rows)) (c .is) ∙ sums-law F sums ok outs _ (c .long))
     (length-row-sums (kernelAt s w F) ∙ c .long)
 
+-- A kernel that ends below a place ends below a higher one.
+pub kernel-above : {w : List ℕ} {low high : ℕ} {s : SymmetricMatrix} → KernelOk w low s → low ≤ high → KernelOk w high s
+kernel-above ok h = record {
+  starts = ok .starts;
+  columns = ok .columns;
+  own = omega (arith, ok .own);
+  recip = omega (arith, ok .recip);
+  faces = omega (arith, ok .faces);
+  falls = ok .falls;
+  near = ok .near;
+}
+
 -- A kernel is the same where the floats below `low` are kept.
 pub kernel-kept : {w : List ℕ} {F G : List Float} {s : SymmetricMatrix} {low : ℕ}
     → KernelOk w low s → Kept low F G → kernelAt s w G ≡ kernelAt s w F

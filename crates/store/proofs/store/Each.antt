@@ -25,6 +25,12 @@ both-not : (a b : Bool) → b ≡ false → a && b ≡ false
 both-not true b e = e
 both-not false b e = refl
 
+-- What holds of every index holds of each.
+pub each-all : (p : ℕ → Bool) (n : ℕ) → ((k : ℕ) → k < n → p k ≡ true) → each p n ≡ true
+unfolding each
+each-all p zero h = refl
+each-all p (suc n) h = rw (each-all p n (λ k l. h k (omega arith)), h n (omega arith))
+
 -- What holds of each index below n holds of k.
 pub each-at : (p : ℕ → Bool) (n : ℕ) → each p n ≡ true → (k : ℕ) → k < n → p k ≡ true
 unfolding each

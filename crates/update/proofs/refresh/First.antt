@@ -9,7 +9,7 @@ use lib.Ieee.{Float}
 use Rattle.options.specs.declared.options.MultigridOptions.{MultigridOptions}
 use Rattle.refusal.specs.Refusal.{unequalMirrors, badCoarseValue, otherPattern}
 use Rattle.refusal.specs.Outcome.{Outcome, accepted, ask, _>>=_}
-use Rattle.refusal.proofs.Outcome.{ask-yes, then-accepted, accepted-one}
+use Rattle.refusal.proofs.Outcome.{ask-yes, then-accepted, accepted-one, never}
 use Rattle.vector.specs.Finite.{allFinite}
 use Rattle.coefficients.specs.Mirrors.{mirrorsEqual}
 use Rattle.pattern.specs.Pattern.{entries}
@@ -19,7 +19,6 @@ use Rattle.hierarchy.specs.Refresh.{numbersOf, coarseValues, refreshOf, withSum
 use Rattle.hierarchy.proofs.Accepted.{ask-split, then-split}
 use Rattle.update_levels.specs.Standing.{diagonalsStand}
 use Rattle.update_levels.specs.Update.{samePattern, renewOf, updateOf}
-use Rattle.update_levels.proofs.diagonals.Outcomes.{never}
 
 -- The levels of an accepted update of those shapes: a refresh of the same shapes makes them, and their shapes are these.
 pub record Second (o : MultigridOptions) (level : ℕ) (shapes : List Shape) (values : List Float) (levels : List Level) : Type 0 where

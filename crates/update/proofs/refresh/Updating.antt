@@ -16,7 +16,7 @@ use Rattle.refusal.specs.declared.Refusal.{Refusal}
 use Rattle.refusal.specs.Refusal.{unequalMirrors, otherPattern}
 use Rattle.refusal.specs.declared.Verdict.{Verdict}
 use Rattle.refusal.specs.Outcome.{Outcome, accepted, refused, passed, ask, verdictOf, isRefused, _>>=_}
-use Rattle.refusal.proofs.Outcome.{then-accepted, then-refused, passes, went-on}
+use Rattle.refusal.proofs.Outcome.{then-accepted, then-refused, passes, went-on, never}
 use Rattle.coefficients.specs.Mirrors.{mirrorsEqual}
 use Rattle.hierarchy.specs.Level.{Shape, Level, Hierarchy}
 use Rattle.hierarchy.specs.Refresh.{withSums}
@@ -28,7 +28,7 @@ use Rattle.index_check.specs.SoundContract.{LevelsOk}
 use Rattle.update_levels.specs.Update.{samePattern, renewOf, updateOf}
 use Rattle.update_levels.specs.Steps.{shapesAt, Renewed}
 use Rattle.update_levels.proofs.levels.Chains.{Opened, opened}
-use Rattle.update_levels.proofs.diagonals.Outcomes.{never, told-accepted, told-refused}
+use Rattle.update_levels.proofs.diagonals.Outcomes.{told-accepted, told-refused}
 use Rattle.update_levels.proofs.levels.Renewing.{shapes-some, floats-end}
 use Rattle.update_levels.specs.Level.{FacesReady}
 use Rattle.update.specs.Arrays.{askedOf, AskOk, Asked}

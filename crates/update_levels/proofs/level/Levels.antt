@@ -13,7 +13,7 @@ use Rattle.store.specs.Vector.{filled, each}
 use Rattle.store.proofs.store.Region.{wrote-at, wrote-off, kept-wrote, kept-on}
 use Rattle.refusal.specs.declared.Verdict.{Verdict}
 use Rattle.refusal.specs.Outcome.{Outcome, accepted, refused, verdictOf}
-use Rattle.refusal.proofs.Outcome.{then-accepted, then-refused}
+use Rattle.refusal.proofs.Outcome.{then-accepted, then-refused, never}
 use Rattle.vector.specs.Finite.{allFinite}
 use Rattle.matrix.specs.declared.matrix.SymmetricMatrix.{SymmetricMatrix}
 use Rattle.matrix.specs.Kernel.{kernelAt, KernelOk}
@@ -28,7 +28,6 @@ use Rattle.layout.specs.declared.Place.{Place}
 use Rattle.layout.specs.Parts.{kernelIn, entriesIn, terminalIn}
 use Rattle.update_levels.specs.Standing.{diagonalStands, diagonalsStand, bareAt}
 use Rattle.update_levels.specs.Level.{LevelOk, CoefficientsOk, FacesReady, coefficientsAsked, smootherAt, SmootherOk, factorOf, FactorOk, FactorDone, coarseAt, CoarseDone}
-use Rattle.update_levels.proofs.diagonals.Outcomes.{never}
 use Rattle.update_levels.proofs.diagonals.Standing.{stand-all, stand-not}
 
 -- ---- what the calls require

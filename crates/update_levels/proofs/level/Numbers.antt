@@ -14,7 +14,7 @@ use Rattle.store.proofs.store.Region.{length-part, wrote-at, kept-part, kept-wr
 use Rattle.options.specs.declared.options.MultigridOptions.{MultigridOptions}
 use Rattle.refusal.specs.declared.Verdict.{Verdict}
 use Rattle.refusal.specs.Outcome.{Outcome, accepted, refused, verdictOf, isRefused, _>>=_}
-use Rattle.refusal.proofs.Outcome.{then-accepted, then-refused, verdict-passed, accepted-one}
+use Rattle.refusal.proofs.Outcome.{then-accepted, then-refused, verdict-passed, accepted-one, then-then, never}
 use Rattle.matrix.specs.Kernel.{kernelAt}
 use Rattle.coefficients.specs.Update.{Coefficients, updateOf, updateWith, Updated}
 use Rattle.coefficients.proofs.values.UpdateLaws.{within-kept}
@@ -29,7 +29,7 @@ use Rattle.layout.specs.Layout.{shapeAt, numbersAt}
 use Rattle.layout.specs.Parts.{kernelIn, entriesIn}
 use Rattle.update_levels.specs.Standing.{diagonalStands, diagonalsStand, bareAt}
 use Rattle.update_levels.specs.Level.{LevelOk, LevelReady, coefficientsAsked, smootherUnder, smootherAt, factorOf, FactorDone, levelRenewed, LevelDone}
-use Rattle.update_levels.proofs.diagonals.Outcomes.{never, verdict-then, then-then, told-accepted, told-refused}
+use Rattle.update_levels.proofs.diagonals.Outcomes.{verdict-then, told-accepted, told-refused}
 
 -- ---- outcomes
 
@@ -80,7 +80,7 @@ module _ {w : List ℕ} (F : List Float) {p : Place} {last : Bool} {coupled : �
 
     -- The level is these and those after them.
     whole : levelRenewed o last coupled level w values p ≡ _>>=_ asked rest
-    whole = then-then (diagonalsStand level own) (λ _. coefficientsOf o level own values) rest
+    whole = sym (then-then (diagonalsStand level own) (λ _. coefficientsOf o level own values) rest)
 
     -- Their answer,
     answered : v ≡ verdictOf asked

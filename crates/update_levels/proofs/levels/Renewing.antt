@@ -16,7 +16,7 @@ use Rattle.refusal.specs.declared.Refusal.{Refusal}
 use Rattle.refusal.specs.Refusal.{badCoarseValue}
 use Rattle.refusal.specs.declared.Verdict.{Verdict}
 use Rattle.refusal.specs.Outcome.{Outcome, accepted, refused, ask, verdictOf, isRefused, _>>=_}
-use Rattle.refusal.proofs.Outcome.{then-accepted, then-refused, went-on, accepted-one}
+use Rattle.refusal.proofs.Outcome.{then-accepted, then-refused, went-on, accepted-one, then-then, never, accepts-it}
 use Rattle.vector.specs.Finite.{allFinite}
 use Rattle.pattern.specs.Pattern.{entries}
 use Rattle.cholesky.specs.Triangle.{tri}
@@ -34,7 +34,7 @@ use Rattle.update_levels.specs.Update.{renewOf}
 use Rattle.update_levels.specs.Level.{Under, LevelOk, LevelReady, levelOf, levelRenewed, LevelDone, CoarseOk, coarseAt, FirstOk, FacesReady}
 use Rattle.update_levels.specs.Steps.{Chain, TurnOk, turnOf, Turned, shapesAt, renewAt, RenewOk, Renewed, RestOk, StartOk}
 use Rattle.update_levels.proofs.levels.Chains.{Opened, opened}
-use Rattle.update_levels.proofs.diagonals.Outcomes.{accepts, never, verdict-then, then-then, told-refused}
+use Rattle.update_levels.proofs.diagonals.Outcomes.{verdict-then, told-refused}
 use Rattle.update_levels.proofs.levels.Turning.{no-tri}
 
 -- ---- what the calls require
@@ -253,7 +253,7 @@ module _ (o : MultigridOptions) (level : ℕ) (s : Shape) (values : List Float) 
   -- The last level,
   renew-one : renewOf o level (s ∷ []) values ≡ _>>=_ (levelOf o level s values) (λ n. accepted (leveled n ∷ []))
   unfolding renewOf
-  renew-one = then-then (diagonalsStand level s) (λ _. numbersOf o level s values) (λ n. accepted (leveled n ∷ []))
+  renew-one = sym (then-then (diagonalsStand level s) (λ _. numbersOf o level s values) (λ n. accepted (leveled n ∷ [])))
 
   -- the levels after another,
   abbrev onward : Shape → List Shape → Numbers → Outcome (List Level)
@@ -264,7 +264,7 @@ module _ (o : MultigridOptions) (level : ℕ) (s : Shape) (values : List Float) 
   -- and that one.
   renew-more : (t : Shape) (rest : List Shape) → renewOf o level (s ∷ t ∷ rest) values ≡ _>>=_ (levelOf o level s values) (onward t rest)
   unfolding renewOf
-  renew-more t rest = then-then (diagonalsStand level s) (λ _. numbersOf o level s values) (onward t rest)
+  renew-more t rest = sym (then-then (diagonalsStand level s) (λ _. numbersOf o level s values) (onward t rest))
 
 -- The level in the stores by its numbers.
 level-is : (w : List ℕ) (G : List Float) (a b : ℕ) {n : Numbers} → numbersAt G (locate w a b) (coupledAt w a) ≡ n
@@ -411,7 +411,7 @@ module _ {w : List ℕ} (old F : List Float) {left level a b : ℕ} (ok : RenewO
     module _ (told : v ≡ Verdict.Passed) {E : List Float} {r : Verdict} (deep : Renewed o (left - 1) (level + 1) w (part (t .values) (t .entries) G) G E next (p .factor) r) where
       -- The turn was accepted.
       numbers : (n : Numbers) × (asked ≡ accepted n)
-      numbers = accepts asked answered told
+      numbers = accepts-it asked answered told
 
       -- The levels from the next one on stand from its place on,
       on : Renewed o (left - 1) (level + 1) w (part y (entriesAt w x) G) G E x y r

@@ -12,7 +12,7 @@ use Rattle.options.specs.declared.options.MultigridOptions.{MultigridOptions}
 use Rattle.refusal.specs.Refusal.{badCoarseValue}
 use Rattle.refusal.specs.declared.Verdict.{Verdict}
 use Rattle.refusal.specs.Outcome.{Outcome, accepted, refused, ask, verdictOf, isRefused}
-use Rattle.refusal.proofs.Outcome.{ask-yes, ask-no, then-accepted, then-refused, went-on, accepted-one}
+use Rattle.refusal.proofs.Outcome.{ask-yes, ask-no, then-accepted, then-refused, went-on, accepted-one, never}
 use Rattle.vector.specs.Finite.{allFinite}
 use Rattle.galerkin.specs.Values.{galerkinOf}
 use Rattle.cholesky.specs.Triangle.{tri}
@@ -21,7 +21,7 @@ use Rattle.layout.specs.declared.Place.{Place}
 use Rattle.layout.specs.Layout.{numbersAt}
 use Rattle.update_levels.specs.Level.{LevelOk, LevelReady, levelRenewed, LevelDone, CoarseOk, coarseAt, CoarseDone, FirstOk}
 use Rattle.update_levels.specs.Steps.{TurnOk, turnOf, Turned}
-use Rattle.update_levels.proofs.diagonals.Outcomes.{never, told-accepted, told-refused}
+use Rattle.update_levels.proofs.diagonals.Outcomes.{told-accepted, told-refused}
 
 -- A triangle of no rows is empty.
 pub no-tri : tri 0 ≡ 0

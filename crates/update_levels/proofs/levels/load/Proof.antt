@@ -6,7 +6,7 @@ use lib.ListN.{length}
 use lib.Ieee.{nan}
 use Rattle.store.specs.Loop.{for}
 use Rattle.store.proofs.store.Loop.{Left, left-start, left-on}
-use Rattle.update_levels.proofs.levels.Loading.{loadTurn, load-done}
+use Rattle.store.proofs.store.Turns.{loadTurn, load-done}
 use native.Mathlib.Omega.{arith}
 use borrow.Author.Needs.{needs}
 use Rattle.update_levels.proofs.levels.load.Statement.{statement}

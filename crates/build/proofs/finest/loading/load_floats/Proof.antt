@@ -8,7 +8,7 @@ use lib.ListN.{length}
 use lib.Ieee.{nan}
 use Rattle.store.specs.Loop.{for}
 use Rattle.store.proofs.store.Loop.{Left, left-start, left-on}
-use Rattle.build.proofs.finest.Copies.{loadTurn, load-done}
+use Rattle.store.proofs.store.Turns.{loadTurn, load-done}
 use Rattle.build.proofs.finest.loading.load_floats.Statement.{statement}
 use Rattle.build.proofs.finest.loading.load_floats.Tie as tie
 

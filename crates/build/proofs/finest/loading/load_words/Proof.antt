@@ -7,7 +7,7 @@ use borrow.Author.Needs.{needs}
 use lib.ListN.{length}
 use Rattle.store.specs.Loop.{for}
 use Rattle.store.proofs.store.Loop.{Left, left-start, left-on}
-use Rattle.build.proofs.finest.Copies.{loadTurn, load-done}
+use Rattle.store.proofs.store.Turns.{loadTurn, load-done}
 use Rattle.build.proofs.finest.loading.load_words.Statement.{statement}
 use Rattle.build.proofs.finest.loading.load_words.Tie as tie
 
