@@ -1,2 +1,3 @@
 pub mod Float
 pub mod Sqrt
+pub mod Saturating

@@ -1,1 +1,2 @@
 pub mod Solver
+pub mod Statistics

@@ -26,3 +26,17 @@ pub enum Counted {
     Levels(u64),
     Refused(Refusal),
 }
+
+// What a build gives its call: its answer, and the rows of each level, zeros behind them and where it is refused.
+pub struct BuildRun {
+    pub answer: Built,
+    pub cells: [u64; 128],
+}
+
+// What a solve gives its call: its answer, on how many levels it counted (none where it is refused), and what it counted there, three
+// numbers to a level.
+pub struct SolveRun {
+    pub answer: Solved,
+    pub levels: u64,
+    pub counts: [u64; 384],
+}

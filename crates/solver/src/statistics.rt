@@ -1,0 +1,75 @@
+// cycle.rs: the statistics of a level, one record of a lent slice, and its counters, each of which stops at 2^64 - 1.
+ghost use mathlib.Core.Path.{_≡_};
+ghost use Prim.Native.Nat.{_+_, _*_, _<_};
+ghost use Rattle.solver.specs.Statistics.{unvisited, addVisits, addSweeps, addCoarseIterations, countedAt};
+
+// Rows of the level; how often a cycle came to it; the sweeps made on it; the iterations of its coarse solver.
+#[repr(C)]
+pub struct MultigridLevelStatistics {
+    pub cells: u64,
+    pub visits: u64,
+    pub smoothing_sweeps: u64,
+    pub coarse_iterations: u64,
+}
+
+impl MultigridLevelStatistics {
+    // A level of so many rows that nobody has visited.
+    pub fn unvisited(cells: u64) -> MultigridLevelStatistics
+        ensures { λ r. ⌜ r ≡ unvisited cells ⌝ }
+    {
+        MultigridLevelStatistics {
+            cells: cells,
+            visits: 0,
+            smoothing_sweeps: 0,
+            coarse_iterations: 0,
+        }
+    }
+
+    pub fn add_visits(self, more: u64) -> MultigridLevelStatistics
+        ensures { λ r. ⌜ r ≡ addVisits more self ⌝ }
+    {
+        MultigridLevelStatistics {
+            cells: self.cells,
+            visits: float::saturating_add(self.visits, more),
+            smoothing_sweeps: self.smoothing_sweeps,
+            coarse_iterations: self.coarse_iterations,
+        }
+    }
+
+    pub fn add_sweeps(self, more: u64) -> MultigridLevelStatistics
+        ensures { λ r. ⌜ r ≡ addSweeps more self ⌝ }
+    {
+        MultigridLevelStatistics {
+            cells: self.cells,
+            visits: self.visits,
+            smoothing_sweeps: float::saturating_add(self.smoothing_sweeps, more),
+            coarse_iterations: self.coarse_iterations,
+        }
+    }
+
+    pub fn add_coarse_iterations(self, more: u64) -> MultigridLevelStatistics
+        ensures { λ r. ⌜ r ≡ addCoarseIterations more self ⌝ }
+    {
+        MultigridLevelStatistics {
+            cells: self.cells,
+            visits: self.visits,
+            smoothing_sweeps: self.smoothing_sweeps,
+            coarse_iterations: float::saturating_add(self.coarse_iterations, more),
+        }
+    }
+}
+
+// The record of the level at that depth, with what a solve counted there.
+pub fn count_at(
+    r: MultigridLevelStatistics,
+    counts: [u64; 384],
+    depth: usize,
+) -> MultigridLevelStatistics
+    requires { ⌜ depth < 128 ⌝ }
+    ensures { λ s. ⌜ s ≡ countedAt counts depth r ⌝ }
+{
+    let at = 3 * depth;
+    let visited = r.add_visits(counts[at]);
+    let swept = visited.add_sweeps(counts[at + 1]);
+    swept.add_coarse_iterations(counts[at + 2])
+}
