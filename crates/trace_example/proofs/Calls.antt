@@ -2,7 +2,7 @@
 -- their solves: the theorem on lists of calls is about something. What is left to an example holds by computing.
 -- Assumes nothing.
 use mathlib.Core.Path.{_≡_, refl, sym, ap, _∙_}
-use mathlib.Core.Bool.{true, cond}
+use mathlib.Core.Bool.{true}
 use mathlib.Core.List.{List, [], _∷_, _++_}
 use Prim.Native.Nat.{ℕ, _/_}
 use native.Mathlib.Omega.{arith}
@@ -22,7 +22,7 @@ use Rattle.hierarchy.specs.Level.{Level, Hierarchy}
 use Rattle.hierarchy.specs.Build.{Lent, buildOf}
 use Rattle.hierarchy.specs.First.{shapesIn}
 use Rattle.layout.specs.Layout.{viewOf, wordsFit}
-use Rattle.layout.specs.Headers.{headsAt, headsOf}
+use Rattle.layout.specs.Headers.{headOf, headsAt, headsOf}
 use Rattle.index_check.specs.Sound.{soundOf}
 use Rattle.solver.specs.declared.answers.Built.{Built}
 use Rattle.solver.specs.declared.answers.Solved.{Solved}
@@ -47,8 +47,7 @@ use Rattle.trace_example.specs.Calls.{Answer, Example, calls}
 unfoldable pub levelWords : Level → List ℕ
 levelWords l =
     let s = l .shape in
-    s .pattern .rows ∷ cond (s .terminal) 1 0 ∷ length (s .links) ∷ s .pattern .offsets ++ s .pattern .columns ++ s .starts ++ s .diagonals
-    ++ s .neighbors ++ s .uppers ++ s .lowers ++ s .links ++ s .positions
+    headOf s ++ s .pattern .offsets ++ s .pattern .columns ++ s .starts ++ s .diagonals ++ s .neighbors ++ s .uppers ++ s .lowers ++ s .links ++ s .positions
 
 -- its floats
 unfoldable pub levelFloats : Level → List Float
