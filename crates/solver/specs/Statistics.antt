@@ -1,6 +1,8 @@
 -- The statistics of a level (cycle.rs), and what a solve adds to them. Definitions only.
+use mathlib.Core.Path.{_≡_}
 use mathlib.Core.List.{List, [], _∷_}
-use Prim.Native.Nat.{ℕ, zero, suc, _+_, _*_}
+use Prim.Native.Nat.{ℕ, zero, suc, _+_, _*_, _≤_, _<_}
+use lib.ListN.{length, getD}
 use Rattle.float.specs.Saturating.{saturatingSum}
 use Rattle.store.specs.Region.{idx}
 use Rattle.solver.specs.declared.statistics.MultigridLevelStatistics.{MultigridLevelStatistics}
@@ -46,3 +48,14 @@ unfoldable pub countedOn : ℕ → ℕ → List ℕ → List MultigridLevelStati
 countedOn zero depth counts t = t
 countedOn (suc more) depth counts [] = []
 countedOn (suc more) depth counts (r ∷ t) = countedAt counts depth r ∷ countedOn more (depth + 1) counts t
+
+-- Of the records s a build made t: each is that of a level of so many rows as `cells` tells that nobody has visited, none where it tells none.
+pub record Published (cells : List ℕ) (s t : List MultigridLevelStatistics) : Type 0 where
+  pub as-many : length t ≡ length s
+  pub each : (i : ℕ) → i < length s → getD t i (unvisited 0) ≡ unvisited (getD cells i 0)
+
+-- Of the records s a solve made t: those of so many levels have what it counted, the others are as they were.
+pub record CountedUp (counts : List ℕ) (levels : ℕ) (s t : List MultigridLevelStatistics) : Type 0 where
+  pub as-many : length t ≡ length s
+  pub counted : (i : ℕ) → i < levels → getD t i (unvisited 0) ≡ countedAt counts i (getD s i (unvisited 0))
+  pub others : (i : ℕ) → levels ≤ i → getD t i (unvisited 0) ≡ getD s i (unvisited 0)
