@@ -3,10 +3,11 @@
 use mathlib.Core.Path.{_≡_, refl, sym, ap, _∙_}
 use mathlib.Core.Bool.{Bool, true, false}
 use mathlib.Core.List.{List}
-use Prim.Native.Nat.{ℕ, _+_, _*_, _≤_, _<_, min}
+use Prim.Native.Nat.{ℕ, _+_, _*_, _≤_, _<_}
 use native.Mathlib.Omega.{arith}
 use lib.ListN.{length}
 use lib.Ieee.{Float}
+use Rattle.float.specs.Saturating.{saturatingSum}
 use Rattle.store.specs.Region.{idx, part, Kept}
 use Rattle.store.proofs.store.Region.{length-part}
 use Rattle.options.specs.declared.options.MultigridOptions.{MultigridOptions}
@@ -83,10 +84,10 @@ module _ (o : MultigridOptions) (w : List ℕ) (depth a b s : ℕ) {g : Inner} (
   down-done p d = record { visit = rw (e, p) at d }
 
 -- A sum that stops at the largest number, added, is the sum added.
-pub sum-count : (i a b : ℕ) (t : List ℕ) → countOf i (min (a + b) 18446744073709551615) t ≡ countOf i (a + b) t
+pub sum-count : (i a b : ℕ) (t : List ℕ) → countOf i (saturatingSum a b) t ≡ countOf i (a + b) t
 unfolding countOf
 sum-count i a b t =
-    let e : min (idx t i + min (a + b) 18446744073709551615) 18446744073709551615 ≡ min (idx t i + (a + b)) 18446744073709551615 = omega arith in
+    let e : saturatingSum (idx t i) (saturatingSum a b) ≡ saturatingSum (idx t i) (a + b) = omega arith in
     rw e
 
 module _ (o : MultigridOptions) (w : List ℕ) {F G : List Float} (t : List ℕ) (depth a b s : ℕ) {g : Inner} {pre post : ℕ} {v : Verdict}
@@ -110,14 +111,14 @@ module _ (o : MultigridOptions) (w : List ℕ) {F G : List Float} (t : List ℕ)
       record { answer = sym (verdict-refused out all); x = λ c y. never all y; counts = λ c y. never all y; floats = m' .floats }
 
   -- The sweeps are counted.
-  pub up-yes : {sum : ℕ} {u : List ℕ} → v ≡ Verdict.Passed → sum ≡ min (pre + post) 18446744073709551615 → u ≡ countOf (4 * depth + 2) sum t
+  pub up-yes : {sum : ℕ} {u : List ℕ} → v ≡ Verdict.Passed → sum ≡ saturatingSum pre post → u ≡ countOf (3 * depth + 1) sum t
       → Visited s (rowsAt w a) (upAt o w F t depth a b s) F G u Verdict.Passed
   unfolding upAt
   up-yes {sum} {u} told f c =
       let out = upAt o w F t depth a b s in
       let yes = accepts-it raisedTo (m' .answer) told in
       let after = swept depth (preSweepsOf o depth + postSweepsOf o depth) t in
-      let counts : u ≡ after = c ∙ ap (λ (k : ℕ). countOf (4 * depth + 2) k t) f ∙ sum-count (4 * depth + 2) pre post t ∙ rw (p, q) in
+      let counts : u ≡ after = c ∙ ap (λ (k : ℕ). countOf (3 * depth + 1) k t) f ∙ sum-count (3 * depth + 1) pre post t ∙ rw (p, q) in
       let all : out ≡ accepted (cycled (yes .0) after) = then-accepted raisedTo (λ z. accepted (cycled z after)) (yes .1) in
       record {
         answer = sym (verdict-passed out all);
@@ -185,7 +186,7 @@ visit-of (refused q) counts e x c k = record {
 -- The last level's visit.
 pub end-done : {w : List ℕ} {F G : List Float} (t : List ℕ) {u : List ℕ} {depth a b s : ℕ} {p : Place} {coupled : ℕ} {k : Terminal} {r : Verdict}
     → EndOk w (length F) depth a b s → p ≡ locate w a b → coupled ≡ idx w (a + 2) → k ≡ parts.terminalIn p coupled
-    → Solved k w (p .inverse) s (s + p .rows) (s + 2 * p .rows) F G r → u ≡ countOf (4 * depth + 3) 0 t
+    → Solved k w (p .inverse) s (s + p .rows) (s + 2 * p .rows) F G r → u ≡ countOf (3 * depth + 2) 0 t
     → Visited s (rowsAt w a) (endAt w F t depth a b s) F G u r
 unfolding endAt
 end-done {w} {F} {G} t {u} {depth} {a} {b} {s} {p} {coupled} {k} {r} ok at-p at-c is d c =

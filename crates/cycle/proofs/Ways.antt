@@ -4,6 +4,7 @@ use mathlib.Core.Path.{_≡_, refl, sym, ap, _∙_, subst}
 use mathlib.Core.Bool.{Bool, true, false}
 use mathlib.Core.List.{List, _∷_}
 use Prim.Native.Nat.{ℕ, zero, suc, _+_, _*_, _-_, _≤_, _<_}
+use native.Mathlib.Nat.{add-zero}
 use native.Mathlib.Omega.{arith}
 use lib.ListN.{length}
 use lib.Ieee.{Float}
@@ -312,7 +313,11 @@ up-chain o w F depth a b s r x d =
 -- ---- the ways out
 
 module _ (o : MultigridOptions) (left : ℕ) (w : List ℕ) (F : List Float) (t : List ℕ) {t₁ : List ℕ} (depth a b s : ℕ)
-    (ok : CycleOk left w (length F) depth a b s) (ct : t₁ ≡ countOf (4 * depth + 1) 1 t) where
+    (ok : CycleOk left w (length F) depth a b s) (first : t₁ ≡ countOf (3 * depth + 0) 1 t) where
+  -- The first count is that of a visit.
+  ct : t₁ ≡ visited depth t
+  ct = first ∙ ap (λ (i : ℕ). countOf i 1 t) (add-zero (3 * depth))
+
   -- the level's place and as its visit has it, and its rows
   abbrev P : Place
   P = locate w a b
@@ -350,10 +355,10 @@ module _ (o : MultigridOptions) (left : ℕ) (w : List ℕ) (F : List Float) (t 
   pub done-last : {G : List Float} {u : List ℕ} {r : Verdict} → left ≡ 1 → Visited s n (endAt w F t₁ depth a b s) F G u r
       → CycleDone o left w F G t u depth a b s r
   done-last {G} {u} {r} one v =
-      let v' : Visited s n (endAt w F (countOf (4 * depth + 1) 1 t) depth a b s) F G u r = rw ct at v in
+      let v' : Visited s n (endAt w F (visited depth t) depth a b s) F G u r = rw ct at v in
       let rest = levelsAt (left - 1) w F (wordsEnd w a) (floatsEnd w a b) in
       let levels = levels-open left (ok .some) w F a b ∙ ap (λ (l : Level). l ∷ rest) (level-last w F a b (last-is ok one)) in
-      done-as (endAt w F (countOf (4 * depth + 1) 1 t) depth a b s)
+      done-as (endAt w F (visited depth t) depth a b s)
       (ap (λ (ls : List Level). cycleOf o ls depth (rhsAt s n F) (xAt s n F) t) levels ∙ cycle-last o w F depth a b s rest t (xAt s n F)) v'
 
   module _ (more : left ≡ 1 → ⊥) {D : List Float} {t₂ : List ℕ} {v : Verdict} (d : DownDone o w F D t₁ t₂ depth a b s v) where

@@ -1,11 +1,12 @@
 -- `cycle` of cycle.rs over lists: one visit of each level, with questions 24 to 27 in the order of the Rust. Definitions only.
 use mathlib.Core.Bool.{Bool, cond}
 use mathlib.Core.List.{List, [], _∷_}
-use Prim.Native.Nat.{ℕ, _+_, _*_, min}
+use Prim.Native.Nat.{ℕ, _+_, _*_}
 use lib.Dec.{eqb}
 use lib.Ieee.{Float}
 use lib.ListN.{length, set}
 use Rattle.float.specs.Float.{zero64}
+use Rattle.float.specs.Saturating.{saturatingSum}
 use Rattle.store.specs.Region.{idx}
 use Rattle.store.specs.Vector.{filled}
 use Rattle.options.specs.declared.options.MultigridOptions.{MultigridOptions}
@@ -20,23 +21,23 @@ use Rattle.correction.specs.Scaled.{addScaledOf}
 use Rattle.correction.specs.Scaling.{correctionFactorOf}
 use Rattle.hierarchy.specs.Level.{Level, kernelOf}
 
--- ---- counters: four words to a level, its rows, visits, smoothing sweeps and coarse iterations
+-- ---- counters: three numbers to a level, its visits, smoothing sweeps and coarse iterations
 
--- word i of the counters with so many added; it stops at 2^64 - 1
+-- number i of the counters with so many added
 unfoldable pub countOf : ℕ → ℕ → List ℕ → List ℕ
-countOf i more t = set t i (min (idx t i + more) 18446744073709551615)
+countOf i more t = set t i (saturatingSum (idx t i) more)
 
 -- one visit more of the level at that depth
 abbrev pub visited : ℕ → List ℕ → List ℕ
-visited depth t = countOf (4 * depth + 1) 1 t
+visited depth t = countOf (3 * depth) 1 t
 
 -- so many sweeps more
 abbrev pub swept : ℕ → ℕ → List ℕ → List ℕ
-swept depth sweeps t = countOf (4 * depth + 2) sweeps t
+swept depth sweeps t = countOf (3 * depth + 1) sweeps t
 
 -- so many iterations of the coarse solver more: Cholesky makes none
 abbrev pub iterated : ℕ → ℕ → List ℕ → List ℕ
-iterated depth iterations t = countOf (4 * depth + 3) iterations t
+iterated depth iterations t = countOf (3 * depth + 2) iterations t
 
 -- ---- one level
 

@@ -23,12 +23,12 @@ pub enum Way {
     Up,
 }
 
-// Adds to a counter of the level at that depth: 1 its visits, 2 its smoothing sweeps, 3 its coarse iterations.
-fn count(t: &mut [u64; 512], depth: u64, counter: u64, more: u64)
-    requires { ⌜ 4 * depth + counter < 512 ⌝ }
-    ensures { λ _. ⌜ now (t .exit) ≡ countOf (4 * depth + counter) more (now (t .entry)) ⌝ }
+// Adds to a counter of the level at that depth: 0 its visits, 1 its smoothing sweeps, 2 its coarse iterations.
+fn count(t: &mut [u64; 384], depth: u64, counter: u64, more: u64)
+    requires { ⌜ 3 * depth + counter < 384 ⌝ }
+    ensures { λ _. ⌜ now (t .exit) ≡ countOf (3 * depth + counter) more (now (t .entry)) ⌝ }
 {
-    let i = (4 * depth + counter) as usize;
+    let i = (3 * depth + counter) as usize;
     t[i] = float::saturating_add(t[i], more);
 }
 
@@ -63,7 +63,7 @@ fn terminal_in(p: Place, coupled: usize) -> Terminal
 fn end(
     w: &[u32],
     f: &mut [f64],
-    t: &mut [u64; 512],
+    t: &mut [u64; 384],
     depth: u64,
     a: usize,
     b: usize,
@@ -76,7 +76,7 @@ fn end(
     let terminal = terminal_in(p, store::wide(w[a + 2]));
     let n = p.rows;
     let r = coarse::solve(w, f, terminal, p.inverse, s, s + n, s + 2 * n);
-    count(t, depth, 3, 0);
+    count(t, depth, 2, 0);
     r
 }
 
@@ -119,7 +119,7 @@ fn down(
 fn up(
     w: &[u32],
     f: &mut [f64],
-    t: &mut [u64; 512],
+    t: &mut [u64; 384],
     o: MultigridOptions,
     depth: u64,
     a: usize,
@@ -136,7 +136,7 @@ fn up(
     match visit::up(w, f, g, kind, o.scale_correction, pre, post) {
         Verdict::Refused(q) => Verdict::Refused(q),
         Verdict::Passed => {
-            count(t, depth, 2, float::saturating_add(pre, post));
+            count(t, depth, 1, float::saturating_add(pre, post));
             Verdict::Passed
         }
     }
@@ -147,7 +147,7 @@ fn up(
 fn work(
     w: &[u32],
     f: &mut [f64],
-    t: &mut [u64; 512],
+    t: &mut [u64; 384],
     o: MultigridOptions,
     way: Way,
     depth: u64,
@@ -169,7 +169,7 @@ fn work(
 pub fn cycle(
     w: &[u32],
     f: &mut [f64],
-    t: &mut [u64; 512],
+    t: &mut [u64; 384],
     o: MultigridOptions,
     left: u64,
     depth: u64,
@@ -180,7 +180,7 @@ pub fn cycle(
     requires { ⌜ CycleOk left (now w) (length (now f)) depth a b s ⌝ }
     ensures { λ r. ⌜ CycleDone o left (now (w .entry)) (now (f .entry)) (now (f .exit)) (now (t .entry)) (now (t .exit)) depth a b s r ⌝ }
 {
-    count(t, depth, 1, 1);
+    count(t, depth, 0, 1);
     if left == 1 {
         return work(w, f, t, o, Way::Last, depth, a, b, s);
     }

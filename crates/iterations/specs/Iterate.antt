@@ -10,7 +10,7 @@ use Rattle.solver.specs.declared.answers.Solved.{Solved}
 use Rattle.refusal.specs.Outcome.{Outcome, accepted, refused, _>>=_}
 use Rattle.iterations.specs.Iteration.{State, System, stepOf}
 
--- what an accepted solve gives: its report, the solution and the statistics
+-- what an accepted solve gives: its report, the solution and what it counted
 pub record Solution : Type 0 where
   pub report : LinearSolveReport
   pub x : List Float

@@ -3,7 +3,7 @@
 use mathlib.Core.Path.{_≡_, refl, sym, ap, _∙_}
 use mathlib.Core.Bool.{Bool, true, false, cond, _&&_}
 use mathlib.Core.List.{List}
-use Prim.Native.Nat.{ℕ, _+_, _*_, _/_, _≤_, _<_}
+use Prim.Native.Nat.{ℕ, _+_, _≤_, _<_}
 use native.Mathlib.Omega.{arith}
 use borrow.Author.Tests.{leb-true, eqb-true}
 use lib.Dec.{eqb, leb}
@@ -11,7 +11,7 @@ use lib.ListN.{length, replicate, length-replicate, getD-replicate}
 use lib.Seq.{ext-getD}
 use lib.Ieee.{Float, le}
 use Rattle.float.specs.Float.{isFinite}
-use Rattle.store.specs.Region.{part, lay, splice, Kept}
+use Rattle.store.specs.Region.{part, Kept}
 use Rattle.store.specs.Vector.{filled}
 use Rattle.store.proofs.store.Region.{kept-on, kept-less, kept-self, kept-part}
 use Rattle.store.proofs.store.Vector.{length-tab, getD-tab}
@@ -24,7 +24,7 @@ use Rattle.refusal.specs.declared.Refusal.{Refusal}
 use Rattle.refusal.specs.Refusal.{badNormalization, badResidual}
 use Rattle.refusal.specs.declared.Verdict.{Verdict}
 use Rattle.refusal.specs.Outcome.{Outcome, accepted, refused, verdictOf, _>>=_}
-use Rattle.refusal.proofs.Outcome.{ask-yes, ask-no, refuses, accepts-it}
+use Rattle.refusal.proofs.Outcome.{ask-yes, ask-no, refuses, never, accepts-it}
 use Rattle.vector.specs.declared.vector.Product.{Product}
 use Rattle.matrix.specs.Kernel.{Kernel, applyOf}
 use Rattle.correction.specs.Correction.{subtractOf}
@@ -36,20 +36,21 @@ use Rattle.layout.specs.Layout.{rowsAt, entriesAt}
 use Rattle.index_check.specs.declared.sound.Walk.{Walk}
 use Rattle.index_check.specs.Sound.{walkOf, isSound, handleSound, scratchStart, scratchEnd, cycleStart, soundOf}
 use Rattle.index_check.proofs.sound.Question.{handle-few}
-use Rattle.solve.specs.Copies.{EnterOk, Entered, LeaveOk, Taken}
+use Rattle.solve.specs.Copies.{EnterOk, Entered}
 use Rattle.iterations.specs.declared.stepping.Regions.{Regions}
 use Rattle.iterations.specs.Iteration.{System, measured, residualOf}
 use Rattle.iterations.specs.Steps.{systemAt, regionsAt, Opened, Ready, Renewed, productAt}
 use Rattle.iterations.proofs.stepping.Placing.{vectors, rows-is, system-kept, sums-is, kernel-is, kernel-rows}
 use Rattle.solver.specs.declared.answers.Solved.{Solved}
+use Rattle.solver.specs.declared.answers.SolveRun.{SolveRun}
 use Rattle.solve.specs.Input.{lengthsOk, inputOk, askedOf}
 use Rattle.solve.proofs.input.Asked.{asked-no, both-asked, asked-yes}
 use Rattle.iterations.specs.Iterate.{Solution, answerOf}
 use Rattle.iterations.specs.Contract.{Ran, iterateAt}
 use Rattle.iterations.proofs.iterating.Iterations.{ran-accepted, ran-refused}
-use Rattle.solve.specs.Solve.{factorOf, runOf, solveOf}
-use Rattle.solve.specs.Contract.{solvedAt, countersOf, solutionOf, statisticsOf, SolveDone}
-use Rattle.solve.specs.Steps.{attemptOf, attemptAt, begunAt, BeginOk}
+use Rattle.solve.specs.Solve.{uncounted, factorOf, runOf, solveOf}
+use Rattle.solve.specs.Contract.{solvedAt, solutionOf, levelsCounted, refusedRun, SolveDone}
+use Rattle.solve.specs.Steps.{attemptOf, attemptAt, AttemptOk, begunAt, BeginOk}
 
 -- ---- from question 22 on
 
@@ -114,9 +115,9 @@ module _ {h : Handle} {w : List ℕ} (F : List Float) {g : Regions} (ready : Rea
         ∙ ap (λ (u : List Float). normalizationOf norm (g .rows) x rhs (applyOf (y .kernel) x) u) sums
         ∙ ap (λ (n : ℕ). normalizationOf norm n x rhs (applyOf (y .kernel) x) (y .sums)) rows
 
-    module _ (t : List ℕ) (s : LinearSolverOptions) where
+    module _ {t : List ℕ} (zeros : t ≡ uncounted) (s : LinearSolverOptions) where
       -- A factor that is not finite.
-      pub attempt-none : isFinite factor ≡ false → Ran g (attemptAt h w F t g s) F G t (Solved.Refused badNormalization)
+      pub attempt-none : isFinite factor ≡ false → Ran g (attemptAt h w F g s) F G t (Solved.Refused badNormalization)
       attempt-none fails = ran-refused kept (ask-no _ _ _ (ap isFinite (sym factor-is) ∙ fails))
 
       module _ (holds : isFinite factor ≡ true) where
@@ -127,7 +128,7 @@ module _ {h : Handle} {w : List ℕ} (F : List Float) {g : Regions} (ready : Rea
             (accepted (record { report = reportOf LinearSolverStatus.Converged 0 initial initial; x = part (g .solution) (g .rows) G; counts = t }))
             (iterateAt h w G t g factor initial (thresholdOf (s .«absolute_tolerance») (s .«relative_tolerance») initial) (s .«max_iterations»)))
 
-        run-is : runOf y s rhs x t factor ≡ following
+        run-is : runOf y s rhs x factor ≡ following
         unfolding runOf memoryAt
         run-is =
             let l = vectors ready in
@@ -135,14 +136,14 @@ module _ {h : Handle} {w : List ℕ} (F : List Float) {g : Regions} (ready : Rea
             let system : systemAt h w G ≡ y = system-kept ready kept (omega arith) (omega arith) in
             let residual = residual-is factor in
             let rows = kernel-rows ready F in
-            rw (system, rhs-same, x-same, residual, ← rows)
+            rw (zeros, system, rhs-same, x-same, residual, ← rows)
 
-        attempt-is : attemptAt h w F t g s ≡ following
-        attempt-is = ask-yes _ _ _ (ap isFinite (sym factor-is) ∙ holds) ∙ ap (runOf y s rhs x t) (sym factor-is) ∙ run-is
+        attempt-is : attemptAt h w F g s ≡ following
+        attempt-is = ask-yes _ _ _ (ap isFinite (sym factor-is) ∙ holds) ∙ ap (runOf y s rhs x) (sym factor-is) ∙ run-is
 
         module _ {p : Product} (m : p ≡ measureOf (h .options .«residual_norm») (g .rows) (part (g .residual) (g .rows) G) factor) where
           -- A norm that is not finite.
-          pub attempt-bad : p ≡ Product.NotFinite → Ran g (attemptAt h w F t g s) F G t (Solved.Refused badResidual)
+          pub attempt-bad : p ≡ Product.NotFinite → Ran g (attemptAt h w F g s) F G t (Solved.Refused badResidual)
           attempt-bad told = ran-refused kept (attempt-is ∙ rw (← m, told))
 
           module _ {initial threshold : Float} (told : p ≡ Product.Finite initial)
@@ -150,15 +151,15 @@ module _ {h : Handle} {w : List ℕ} (F : List Float) {g : Regions} (ready : Rea
             -- A start that is good enough.
             pub attempt-done : le initial threshold ≡ true → {report : LinearSolveReport}
                 → report ≡ reportOf LinearSolverStatus.Converged 0 initial initial
-                → Ran g (attemptAt h w F t g s) F G t (Solved.Report report)
+                → Ran g (attemptAt h w F g s) F G t (Solved.Report report)
             attempt-done below is = ran-accepted kept (attempt-is ∙ rw (← m, told, ← th, below)) is
 
             -- The iterations from one that is not.
             pub attempt-on : le initial threshold ≡ false → {H : List Float} {u : List ℕ} {r : Solved}
                 → Ran g (iterateAt h w G t g factor initial threshold (s .«max_iterations»)) G H u r
-                → Ran g (attemptAt h w F t g s) F H u r
+                → Ran g (attemptAt h w F g s) F H u r
             attempt-on above {H} {u} {r} d =
-                let is : attemptAt h w F t g s ≡ iterateAt h w G t g factor initial threshold (s .«max_iterations») = attempt-is ∙ rw (← m, told, ← th, above) in
+                let is : attemptAt h w F g s ≡ iterateAt h w G t g factor initial threshold (s .«max_iterations») = attempt-is ∙ rw (← m, told, ← th, above) in
                 record {
                   answer = d .answer ∙ ap answerOf (sym is);
                   solved = λ a r. d .solved a (sym is ∙ r);
@@ -184,7 +185,7 @@ refusal-is : {q : Refusal} (out : Outcome Solution) → Solved.Refused q ≡ ans
 refusal-is (accepted a) e = absurd (let none : _≡_ {A = ℕ} 0 1 = cc in omega arith)
 refusal-is (refused q) e = cc
 
-module _ {h : Handle} {w : List ℕ} {size words m n : ℕ} (b : BeginOk h w size words m n) where
+module _ {h : Handle} {w : List ℕ} {size m n : ℕ} (b : BeginOk h w size m n) where
   -- What the places require.
   pub opened-ok : size ≤ 18446744073709551615 → Opened h w 18446744073709551615
   opened-ok fits = let o = b .opened in record {
@@ -197,37 +198,48 @@ module _ {h : Handle} {w : List ℕ} {size words m n : ℕ} (b : BeginOk h w siz
     room = let room = o .room in omega arith;
   }
 
-  -- The counters of the levels are among those there are.
-  pub counts-ok : 4 * h .levels ≤ 512
-  counts-ok = let deep = b .opened .deep in omega arith
-
   module _ {g : Regions} (e : g ≡ regionsAt h w) {other : ℕ} (same : other ≡ size) where
-    -- What the solve on copies requires.
-    pub ready-ok : Ready h w other g
+    ready-ok : Ready h w other g
     ready-ok = rw same (record { opened = b .opened; regions = e })
 
+    -- What the solve on copies requires.
+    pub attempt-ok : {t : List ℕ} → t ≡ replicate 384 0 → AttemptOk h w other g t
+    attempt-ok zeros = record { ready = ready-ok; zeros = zeros ∙ zeros-are 384 }
+
     -- What the copies require.
-    pub enter-ok : EnterOk other words (4 * h .levels) m n (g .rhs) (g .solution)
+    pub enter-ok : EnterOk other m n (g .rhs) (g .solution)
     enter-ok =
         let l = vectors ready-ok in
         let rows = rows-is ready-ok in
         let given = b .given in
         let start = b .start in
         let is = b .opened .rows in
-        record { given = omega arith; room = omega arith; few = counts-ok; counted = b .records }
+        record { given = omega arith; room = omega arith }
 
-    pub leave-ok : LeaveOk other words (4 * h .levels) n (g .solution)
-    leave-ok = let ok = enter-ok in record { room = ok .room; few = counts-ok; counted = ok .counted }
+-- What a refused solve gives its call.
+pub refused-run : {q : Refusal} {counts : List ℕ} → counts ≡ replicate 384 0
+    → _≡_ {A = SolveRun} (record { answer = Solved.Refused q; levels = 0; counts = counts }) (refusedRun q)
+refused-run zeros = rw (zeros ∙ zeros-are 384)
 
-module _ {h : Handle} {w : List ℕ} (F : List Float) (T : List ℕ) (rhs x : List Float) (s : LinearSolverOptions)
-    (b : BeginOk h w (length F) (length T) (length rhs) (length x)) {g : Regions} (e : g ≡ regionsAt h w)
-    {D : List Float} {t t' : List ℕ} (zeros : t ≡ replicate 512 0) (n : Entered F D T t t' (4 * h .levels) rhs x (g .rhs) (g .solution)) where
+-- Its contract, of an outcome that is refused.
+done-refused : {h : Handle} {w : List ℕ} {F G x : List Float} {q : Refusal} {out : Outcome Solution} {run : SolveRun} → out ≡ refused q
+    → run ≡ refusedRun q → Kept (scratchStart (h .levels) w) F G → SolveDone h w F G x x out run
+done-refused {h} {x = x} is e k = record {
+  answer = ap (λ (r : SolveRun). r .answer) e ∙ sym (ap answerOf is);
+  solution = sym (ap (solutionOf x) is);
+  levels = ap (λ (r : SolveRun). r .levels) e ∙ sym (ap (levelsCounted (h .levels)) is);
+  counts = λ v yes. never is yes;
+  floats = k;
+}
+
+module _ {h : Handle} {w : List ℕ} (F rhs x : List Float) (s : LinearSolverOptions)
+    (b : BeginOk h w (length F) (length rhs) (length x)) {g : Regions} (e : g ≡ regionsAt h w)
+    {D : List Float} (n : Entered F D rhs x (g .rhs) (g .solution)) where
   abbrev ready : Ready h w (length F) g
   ready = record { opened = b .opened; regions = e }
 
   -- The solve on copies is that of the caller's vectors.
-  attempt-same : attemptAt h w D t' g s ≡ begunAt h w F T rhs x s
-  unfolding splice
+  attempt-same : attemptAt h w D g s ≡ begunAt h w F rhs x s
   attempt-same =
       let l = vectors ready in
       let rows = rows-is ready in
@@ -239,49 +251,47 @@ module _ {h : Handle} {w : List ℕ} (F : List Float) (T : List ℕ) (rhs x : Li
       let system : systemAt h w D ≡ systemAt h w F = system-kept ready (n .floats) (omega arith) (omega arith) in
       let right : part (g .rhs) (g .rows) D ≡ rhs = ap (λ (k : ℕ). part (g .rhs) k D) (sym long) ∙ n .given in
       let left : part (g .solution) (g .rows) D ≡ x = ap (λ (k : ℕ). part (g .solution) k D) (sym wide) ∙ n .solution in
-      let counters : t' ≡ countersOf (h .levels) T = n .counts .is ∙ ap (lay (part 0 (4 * h .levels) T)) (zeros ∙ zeros-are 512) in
-      ap (λ (y : System). attemptOf y s (part (g .rhs) (g .rows) D) (part (g .solution) (g .rows) D) t') system
-      ∙ ap (λ (r : List Float). attemptOf (systemAt h w F) s r (part (g .solution) (g .rows) D) t') right
-      ∙ ap (λ (v : List Float). attemptOf (systemAt h w F) s rhs v t') left
-      ∙ ap (attemptOf (systemAt h w F) s rhs x) counters
+      ap (λ (y : System). attemptOf y s (part (g .rhs) (g .rows) D) (part (g .solution) (g .rows) D)) system
+      ∙ ap (λ (r : List Float). attemptOf (systemAt h w F) s r (part (g .solution) (g .rows) D)) right
+      ∙ ap (attemptOf (systemAt h w F) s rhs) left
 
-  module _ {H : List Float} {u : List ℕ} {r : Solved} (d : Ran g (attemptAt h w D t' g s) D H u r) where
+  module _ {H : List Float} {u : List ℕ} {r : Solved} (d : Ran g (attemptAt h w D g s) D H u r) where
     below : Kept (scratchStart (h .levels) w) F H
     below =
         let l = vectors ready in
         let at : g .rhs ≡ scratchStart (h .levels) w = ap (λ (g : Regions). g .rhs) e in
         kept-less (kept-on (n .floats) (kept-less (d .floats) (omega arith))) (omega arith)
 
-    -- Accepted, solution and statistics are copied out.
-    pub begin-yes : {report : LinearSolveReport} → r ≡ Solved.Report report → {z : List Float} {U : List ℕ} → Taken H x z u T U (g .solution) (4 * h .levels)
-        → SolveDone h w F H T U x z (begunAt h w F T rhs x s) (Solved.Report report)
-    unfolding splice
-    begin-yes told {z} {U} out =
+    -- Room for what is copied out.
+    pub leave-ok : g .solution + length x ≤ length H
+    leave-ok =
+        let ok = enter-ok b e refl in
+        let first = n .floats .size in
+        let second = d .floats .size in
+        omega (arith, ok .room)
+
+    -- Accepted, the solution is copied out.
+    pub begin-yes : {report : LinearSolveReport} → r ≡ Solved.Report report → {z : List Float} → z ≡ part (g .solution) (length x) H
+        → SolveDone h w F H x z (begunAt h w F rhs x s) (record { answer = Solved.Report report; levels = h .levels; counts = u })
+    begin-yes told {z} out =
         let answer = sym told ∙ d .answer in
-        let a = report-is (attemptAt h w D t' g s) answer in
-        let is : begunAt h w F T rhs x s ≡ accepted (a .0) = sym attempt-same ∙ a .1 in
+        let a = report-is (attemptAt h w D g s) answer in
+        let is : begunAt h w F rhs x s ≡ accepted (a .0) = sym attempt-same ∙ a .1 in
         let rows = rows-is ready in
         let rowed = b .opened .rows in
         let start = b .start in
         let wide : length x ≡ g .rows = omega arith in
         record {
           answer = answer ∙ ap answerOf attempt-same;
-          solution = out .solution ∙ ap (λ (n : ℕ). part (g .solution) n H) wide ∙ d .solved (a .0) (a .1) ∙ sym (ap (solutionOf x) is);
-          statistics = out .statistics .is ∙ ap (λ (c : List ℕ). lay (part 0 (4 * h .levels) c) T) (d .counted (a .0) (a .1)) ∙ sym (ap (statisticsOf (h .levels) T) is);
+          solution = out ∙ ap (λ (n : ℕ). part (g .solution) n H) wide ∙ d .solved (a .0) (a .1) ∙ sym (ap (solutionOf x) is);
+          levels = sym (ap (levelsCounted (h .levels)) is);
+          counts = λ v yes. d .counted v (attempt-same ∙ yes);
           floats = below;
         }
 
-    -- Refused, they are as they were.
-    pub begin-no : {q : Refusal} → r ≡ Solved.Refused q → SolveDone h w F H T T x x (begunAt h w F T rhs x s) (Solved.Refused q)
-    begin-no told =
-        let answer = sym told ∙ d .answer in
-        let is = sym attempt-same ∙ refusal-is (attemptAt h w D t' g s) answer in
-        record {
-          answer = answer ∙ ap answerOf attempt-same;
-          solution = sym (ap (solutionOf x) is);
-          statistics = sym (ap (statisticsOf (h .levels) T) is);
-          floats = below;
-        }
+    -- Refused, it is as it was.
+    pub begin-no : {q : Refusal} {run : SolveRun} → r ≡ Solved.Refused q → run ≡ refusedRun q → SolveDone h w F H x x (begunAt h w F rhs x s) run
+    begin-no told e = done-refused (sym attempt-same ∙ refusal-is (attemptAt h w D g s) (sym told ∙ d .answer)) e below
 
 -- ---- questions 19 to 21
 
@@ -322,34 +332,21 @@ opened-of h w size records e =
     )
 
 -- What the solve on copies requires.
-pub begin-ok : {h : Handle} {w : List ℕ} {size words : ℕ} (s : LinearSolverOptions) (rhs x : List Float) {r : Verdict} → soundOf h w size (words / 4) ≡ true
-    → r ≡ verdictOf (askedOf (h .rows) s rhs x) → r ≡ Verdict.Passed → BeginOk h w size words (length rhs) (length x)
-begin-ok {h} {w} {size} {words} s rhs x e a told =
-    let o = opened-of h w size (words / 4) e in
-    let records = o .1 in
+pub begin-ok : {h : Handle} {w : List ℕ} {size : ℕ} (s : LinearSolverOptions) (rhs x : List Float) {r : Verdict} → Opened h w size
+    → r ≡ verdictOf (askedOf (h .rows) s rhs x) → r ≡ Verdict.Passed → BeginOk h w size (length rhs) (length x)
+begin-ok {h} s rhs x o a told =
     let yes = accepts-it (askedOf (h .rows) s rhs x) a told .1 in
     let fits = both-asked (lengthsOk (h .rows) rhs x) (inputOk s rhs x) x yes .0 in
     let long = eqb-true (length rhs) (h .rows) (both-l (eqb (length rhs) (h .rows)) (eqb (length x) (h .rows)) fits) in
     let wide = eqb-true (length x) (h .rows) (both-r (eqb (length rhs) (h .rows)) (eqb (length x) (h .rows)) fits) in
-    record { opened = o .0; records = omega arith; given = long; start = wide }
+    record { opened = o; given = long; start = wide }
 
-module _ (h : Handle) (w : List ℕ) (F : List Float) (T : List ℕ) (rhs x : List Float) (s : LinearSolverOptions)
-    (e : soundOf h w (length F) (length T / 4) ≡ true) where
+module _ (h : Handle) (w : List ℕ) (F rhs x : List Float) (s : LinearSolverOptions) (o : Opened h w (length F)) where
   -- The finest level's rows are the handle's.
   rows-are : systemAt h w F .kernel .rows ≡ h .rows
   rows-are =
-      let o = opened-of h w (length F) (length T / 4) e .0 in
       let ready : Ready h w (length F) (regionsAt h w) = record { opened = o; regions = refl } in
       kernel-rows ready F ∙ rows-is ready ∙ o .rows
-
-  -- Refused, nothing is written.
-  nothing : {q : Refusal} → solvedAt h w F T rhs x s ≡ refused q → SolveDone h w F F T T x x (solvedAt h w F T rhs x s) (Solved.Refused q)
-  nothing is = record {
-    answer = sym (ap answerOf is);
-    solution = sym (ap (solutionOf x) is);
-    statistics = sym (ap (statisticsOf (h .levels) T) is);
-    floats = kept-self;
-  }
 
   module _ {r : Verdict} (a : r ≡ verdictOf (askedOf (h .rows) s rhs x)) where
     -- The questions of the definition are those of the handle's rows.
@@ -357,18 +354,18 @@ module _ (h : Handle) (w : List ℕ) (F : List Float) (T : List ℕ) (rhs x : Li
     asked-as = ap (λ (k : ℕ). askedOf k s rhs x) rows-are
 
     -- Questions 20 and 21 refuse.
-    pub solve-no : {q : Refusal} → r ≡ Verdict.Refused q → SolveDone h w F F T T x x (solvedAt h w F T rhs x s) (Solved.Refused q)
+    pub solve-no : {q : Refusal} {run : SolveRun} → r ≡ Verdict.Refused q → run ≡ refusedRun q → SolveDone h w F F x x (solvedAt h w F rhs x s) run
     unfolding solveOf
-    solve-no {q} told =
+    solve-no {q} told e =
         let no = asked-as ∙ refuses (askedOf (h .rows) s rhs x) a told in
-        nothing (asked-no (lengthsOk (systemAt h w F .kernel .rows) rhs x) (inputOk s rhs x) x (begunAt h w F T rhs x s) no)
+        done-refused (asked-no (lengthsOk (systemAt h w F .kernel .rows) rhs x) (inputOk s rhs x) x (begunAt h w F rhs x s) no) e kept-self
 
     -- The solve of an input that passed.
-    pub solve-on : r ≡ Verdict.Passed → {G : List Float} {U : List ℕ} {z : List Float} {v : Solved}
-        → SolveDone h w F G T U x z (begunAt h w F T rhs x s) v → SolveDone h w F G T U x z (solvedAt h w F T rhs x s) v
+    pub solve-on : r ≡ Verdict.Passed → {G z : List Float} {run : SolveRun}
+        → SolveDone h w F G x z (begunAt h w F rhs x s) run → SolveDone h w F G x z (solvedAt h w F rhs x s) run
     unfolding solveOf
-    solve-on told {G} {U} {z} {v} d =
+    solve-on told {G} {z} {run} d =
         let yes = asked-as ∙ accepts-it (askedOf (h .rows) s rhs x) a told .1 in
-        let same : solvedAt h w F T rhs x s ≡ begunAt h w F T rhs x s =
-        asked-yes (lengthsOk (systemAt h w F .kernel .rows) rhs x) (inputOk s rhs x) x (begunAt h w F T rhs x s) yes in
+        let same : solvedAt h w F rhs x s ≡ begunAt h w F rhs x s =
+        asked-yes (lengthsOk (systemAt h w F .kernel .rows) rhs x) (inputOk s rhs x) x (begunAt h w F rhs x s) yes in
         rw same d

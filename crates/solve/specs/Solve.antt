@@ -4,6 +4,7 @@ use mathlib.Core.List.{List, []}
 use Prim.Native.Nat.{ℕ}
 use lib.Ieee.{Float, le}
 use Rattle.float.specs.Float.{isFinite}
+use Rattle.store.specs.Vector.{filled}
 use Rattle.solver.specs.declared.solver.LinearSolverOptions.{LinearSolverOptions}
 use Rattle.solver.specs.declared.solver.LinearSolverStatus.{LinearSolverStatus}
 use Rattle.refusal.specs.Refusal.{wrongLength, badInput, badNormalization}
@@ -15,17 +16,21 @@ use Rattle.iterations.specs.Iteration.{State, System, residualOf, measuredOf}
 use Rattle.solve.specs.Input.{lengthsOk, inputOk}
 use Rattle.iterations.specs.Iterate.{Solution, solution, iterateOf}
 
+-- the counters that a solve starts from: nothing counted yet, three numbers to each of 128 levels, the most that there are
+abbrev pub uncounted : List ℕ
+uncounted = filled 384 0
+
 -- the state before the first iteration
-abbrev pub begun : List Float → List Float → List ℕ → Float → State
-begun x residual counts initial = record { x = x; residual = residual; memory = []; counts = counts; last = initial }
+abbrev pub begun : List Float → List Float → Float → State
+begun x residual initial = record { x = x; residual = residual; memory = []; counts = uncounted; last = initial }
 
 -- a solve whose input has passed, with the normalization `factor`: the first residual (23), and the iterations unless it is small enough
-unfoldable pub runOf : System → LinearSolverOptions → List Float → List Float → List ℕ → Float → Outcome Solution
-runOf y s rhs x counts factor = do
+unfoldable pub runOf : System → LinearSolverOptions → List Float → List Float → Float → Outcome Solution
+runOf y s rhs x factor = do
   let residual = residualOf y rhs factor x
   initial ← measuredOf y rhs factor residual
   let threshold = thresholdOf (s .«absolute_tolerance») (s .«relative_tolerance») initial
-  let start = begun x residual counts initial
+  let start = begun x residual initial
   cond (le initial threshold) (accepted (solution LinearSolverStatus.Converged 0 initial start))
       (iterateOf y rhs factor initial threshold (s .«max_iterations») 0 start)
 
@@ -33,10 +38,10 @@ runOf y s rhs x counts factor = do
 abbrev pub factorOf : System → List Float → List Float → Float
 factorOf y rhs x = normalizationOf (y .options .«residual_norm») (y .kernel .rows) x rhs (applyOf (y .kernel) x) (y .sums)
 
--- `solve`, from the counters so far: questions 20 to 22, and the rest
-unfoldable pub solveOf : System → LinearSolverOptions → List Float → List Float → List ℕ → Outcome Solution
-solveOf y s rhs x counts = do
+-- `solve`: questions 20 to 22, and the rest
+unfoldable pub solveOf : System → LinearSolverOptions → List Float → List Float → Outcome Solution
+solveOf y s rhs x = do
   ask (lengthsOk (y .kernel .rows) rhs x) wrongLength
   ask (inputOk s rhs x) badInput
   ask (isFinite (factorOf y rhs x)) badNormalization
-  runOf y s rhs x counts (factorOf y rhs x)
+  runOf y s rhs x (factorOf y rhs x)

@@ -1,9 +1,9 @@
-// Copies between the store, the counters of a solve and the caller's slices.
+// Copies between the store and the caller's vectors.
 ghost use mathlib.Core.Path.{_≡_};
 ghost use Prim.Native.Nat.{_+_, _≤_};
 ghost use lib.ListN.{length};
 ghost use Rattle.store.specs.Region.{part, Wrote};
-ghost use Rattle.solve.specs.Copies.{EnterOk, Entered, LeaveOk, Taken};
+ghost use Rattle.solve.specs.Copies.{EnterOk, Entered};
 
 // The vector v into the store, at `to`.
 fn copy_in(f: &mut [f64], to: usize, v: &[f64])
@@ -18,7 +18,7 @@ fn copy_in(f: &mut [f64], to: usize, v: &[f64])
 }
 
 // The vector at `from` in the store, over the whole of x.
-fn copy_out(x: &mut [f64], f: &[f64], from: usize)
+pub fn copy_out(x: &mut [f64], f: &[f64], from: usize)
     requires { ⌜ from + length (now x) ≤ length (now f) ⌝ }
     ensures { λ _. ⌜ now (x .exit) ≡ part from (length (now (x .entry))) (now (f .entry)) ⌝ }
 {
@@ -29,56 +29,11 @@ fn copy_out(x: &mut [f64], f: &[f64], from: usize)
     }
 }
 
-// The first n words of the statistics, over the first n counters.
-fn load_counts(t: &mut [u64; 512], statistics: &[u64], n: usize)
-    requires { ⌜ n ≤ 512 ⌝ }
-    requires { ⌜ n ≤ length (now statistics) ⌝ }
-    ensures { λ _. ⌜ Wrote 0 n (part 0 n (now (statistics .entry))) (now (t .entry)) (now (t .exit)) ⌝ }
+// Right-hand side and start into the store.
+pub fn enter(f: &mut [f64], rhs: &[f64], x: &[f64], to: usize, start: usize)
+    requires { ⌜ EnterOk (length (now f)) (length (now rhs)) (length (now x)) to start ⌝ }
+    ensures { λ _. ⌜ Entered (now (f .entry)) (now (f .exit)) (now (rhs .entry)) (now (x .entry)) to start ⌝ }
 {
-    let mut k = 0;
-    while k < n {
-        t[k] = statistics[k];
-        k += 1;
-    }
-}
-
-// The first n counters, over the first n words of the statistics.
-fn store_counts(statistics: &mut [u64], t: [u64; 512], n: usize)
-    requires { ⌜ n ≤ 512 ⌝ }
-    requires { ⌜ n ≤ length (now statistics) ⌝ }
-    ensures { λ _. ⌜ Wrote 0 n (part 0 n t) (now (statistics .entry)) (now (statistics .exit)) ⌝ }
-{
-    let mut k = 0;
-    while k < n {
-        statistics[k] = t[k];
-        k += 1;
-    }
-}
-
-// Right-hand side and start into the store, and the statistics of the levels over the counters.
-pub fn enter(
-    f: &mut [f64],
-    t: &mut [u64; 512],
-    statistics: &[u64],
-    n: usize,
-    rhs: &[f64],
-    x: &[f64],
-    to: usize,
-    start: usize,
-)
-    requires { ⌜ EnterOk (length (now f)) (length (now statistics)) n (length (now rhs)) (length (now x)) to start ⌝ }
-    ensures { λ _. ⌜ Entered (now (f .entry)) (now (f .exit)) (now (statistics .entry)) (now (t .entry)) (now (t .exit)) n (now (rhs .entry)) (now (x .entry)) to start ⌝ }
-{
-    load_counts(t, statistics, n);
     copy_in(f, to, rhs);
     copy_in(f, start, x);
-}
-
-// The solution out of the store, and the counters over the statistics of the levels.
-pub fn leave(x: &mut [f64], statistics: &mut [u64], f: &[f64], t: [u64; 512], from: usize, n: usize)
-    requires { ⌜ LeaveOk (length (now f)) (length (now statistics)) n (length (now x)) from ⌝ }
-    ensures { λ _. ⌜ Taken (now (f .entry)) (now (x .entry)) (now (x .exit)) t (now (statistics .entry)) (now (statistics .exit)) from n ⌝ }
-{
-    copy_out(x, f, from);
-    store_counts(statistics, t, n);
 }

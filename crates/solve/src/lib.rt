@@ -1,22 +1,21 @@
 // mod.rs: the solve in lent stores: its input, its iterations on copies, and what it leaves.
 ghost use mathlib.Core.Path.{_≡_};
-ghost use mathlib.Core.Bool.{true};
-ghost use Prim.Native.Nat.{_/_};
 ghost use lib.ListN.{length};
-ghost use Rattle.index_check.specs.Sound.{soundOf};
-ghost use Rattle.iterations.specs.Steps.{Ready};
-ghost use Rattle.solve.specs.Contract.{solvedAt, SolveDone};
+ghost use Rattle.iterations.specs.Steps.{Opened};
+ghost use Rattle.solve.specs.Contract.{solvedAt, refusedRun, SolveDone};
 ghost use Rattle.iterations.specs.Contract.{Ran};
-ghost use Rattle.solve.specs.Steps.{BeginOk, begunAt, attemptAt};
+ghost use Rattle.solve.specs.Steps.{AttemptOk, BeginOk, begunAt, attemptAt};
 use iterations::Regions;
 use iterations::iteration;
 use iterations::places;
 use options::Handle;
+use refusal::Refusal;
 use refusal::Verdict;
 use residual_norm::measure;
 use residual_norm::normalization;
 use solver::LinearSolverOptions;
 use solver::LinearSolverStatus;
+use solver::SolveRun;
 use solver::Solved;
 use vector::Product;
 
@@ -28,12 +27,12 @@ fn attempt(
     h: Handle,
     w: &[u32],
     f: &mut [f64],
-    t: &mut [u64; 512],
+    t: &mut [u64; 384],
     g: Regions,
     s: LinearSolverOptions,
 ) -> Solved
-    requires { ⌜ Ready h (now w) (length (now f)) g ⌝ }
-    ensures { λ r. ⌜ Ran g (attemptAt h (now (w .entry)) (now (f .entry)) (now (t .entry)) g s) (now (f .entry)) (now (f .exit)) (now (t .exit)) r ⌝ }
+    requires { ⌜ AttemptOk h (now w) (length (now f)) g (now t) ⌝ }
+    ensures { λ r. ⌜ Ran g (attemptAt h (now (w .entry)) (now (f .entry)) g s) (now (f .entry)) (now (f .exit)) (now (t .exit)) r ⌝ }
 {
     let options = h.options;
     let norm = options.residual_norm;
@@ -67,47 +66,60 @@ fn attempt(
     }
 }
 
-// The solve of an input that has passed, on copies: solution and statistics are written where it is accepted, and only there.
+// What a solve that is refused gives its call: it counted on no level.
+pub fn refused(q: Refusal) -> SolveRun
+    ensures { λ r. ⌜ r ≡ refusedRun q ⌝ }
+{
+    let counts = [0u64; 384];
+    SolveRun {
+        answer: Solved::Refused(q),
+        levels: 0,
+        counts: counts,
+    }
+}
+
+// The solve of an input that has passed, on copies and from counters at zero: the solution is written where it is accepted, and only there.
 fn begin(
     h: Handle,
     w: &[u32],
     f: &mut [f64],
-    statistics: &mut [u64],
     rhs: &[f64],
     x: &mut [f64],
     s: LinearSolverOptions,
-) -> Solved
-    requires { ⌜ BeginOk h (now w) (length (now f)) (length (now statistics)) (length (now rhs)) (length (now x)) ⌝ }
-    ensures { λ r. ⌜ SolveDone h (now (w .entry)) (now (f .entry)) (now (f .exit)) (now (statistics .entry)) (now (statistics .exit)) (now (x .entry)) (now (x .exit)) (begunAt h (now (w .entry)) (now (f .entry)) (now (statistics .entry)) (now (rhs .entry)) (now (x .entry)) s) r ⌝ }
+) -> SolveRun
+    requires { ⌜ BeginOk h (now w) (length (now f)) (length (now rhs)) (length (now x)) ⌝ }
+    ensures { λ r. ⌜ SolveDone h (now (w .entry)) (now (f .entry)) (now (f .exit)) (now (x .entry)) (now (x .exit)) (begunAt h (now (w .entry)) (now (f .entry)) (now (rhs .entry)) (now (x .entry)) s) r ⌝ }
 {
     let g = places::regions(h, w);
-    let n = 4 * (h.levels as usize);
-    let mut t = [0u64; 512];
-    copies::enter(f, &mut t, statistics, n, rhs, x, g.rhs, g.solution);
+    let mut t = [0u64; 384];
+    copies::enter(f, rhs, x, g.rhs, g.solution);
     match attempt(h, w, f, &mut t, g, s) {
         Solved::Report(report) => {
-            copies::leave(x, statistics, f, t, g.solution, n);
-            Solved::Report(report)
+            copies::copy_out(x, f, g.solution);
+            SolveRun {
+                answer: Solved::Report(report),
+                levels: h.levels,
+                counts: t,
+            }
         }
-        Solved::Refused(q) => Solved::Refused(q),
+        Solved::Refused(q) => refused(q),
     }
 }
 
-// The system of a hierarchy solved from x on, for stores that have passed the index check; refused, solution and statistics are as they were.
+// The system of a hierarchy solved from x on, for stores that have passed the index check; refused, the solution is as it was.
 pub fn solve(
     h: Handle,
     w: &[u32],
     f: &mut [f64],
-    statistics: &mut [u64],
     rhs: &[f64],
     x: &mut [f64],
     s: LinearSolverOptions,
-) -> Solved
-    requires { ⌜ soundOf h (now w) (length (now f)) (length (now statistics) / 4) ≡ true ⌝ }
-    ensures { λ r. ⌜ SolveDone h (now (w .entry)) (now (f .entry)) (now (f .exit)) (now (statistics .entry)) (now (statistics .exit)) (now (x .entry)) (now (x .exit)) (solvedAt h (now (w .entry)) (now (f .entry)) (now (statistics .entry)) (now (rhs .entry)) (now (x .entry)) s) r ⌝ }
+) -> SolveRun
+    requires { ⌜ Opened h (now w) (length (now f)) ⌝ }
+    ensures { λ r. ⌜ SolveDone h (now (w .entry)) (now (f .entry)) (now (f .exit)) (now (x .entry)) (now (x .exit)) (solvedAt h (now (w .entry)) (now (f .entry)) (now (rhs .entry)) (now (x .entry)) s) r ⌝ }
 {
     match input::ask_input(h.rows as usize, s, rhs, x) {
-        Verdict::Refused(q) => Solved::Refused(q),
-        Verdict::Passed => begin(h, w, f, statistics, rhs, x, s),
+        Verdict::Refused(q) => refused(q),
+        Verdict::Passed => begin(h, w, f, rhs, x, s),
     }
 }

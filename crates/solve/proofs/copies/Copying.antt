@@ -9,7 +9,7 @@ use lib.ListN.{length, getD, set}
 use lib.Ieee.{Float}
 use Rattle.store.specs.Loop.{for}
 use Rattle.store.specs.Region.{part, splice, Wrote}
-use Rattle.store.proofs.store.Loop.{Left, left-end, for-same, for-done}
+use Rattle.store.proofs.store.Loop.{Left, left-end, for-same}
 use Rattle.store.proofs.store.Region.{getD-part, length-part, wrote, wrote-at, wrote-off, wrote-whole, kept-wrote, kept-on}
 use Rattle.store.proofs.store.Vector.{tab-same, tab-getD, for-each}
 use Rattle.solve.specs.Copies.{EnterOk, Entered}
@@ -21,10 +21,6 @@ inTurn d v to k F = set F (to + k) (getD v k d)
 -- a turn of a loop that copies what stands at `from`
 unfoldable pub outTurn : {A : Type 0} → A → List A → ℕ → ℕ → List A → List A
 outTurn d v from k F = set F k (getD v (from + k) d)
-
--- a turn of a loop that copies the start
-unfoldable pub startTurn : {A : Type 0} → A → List A → ℕ → List A → List A
-startTurn d v k F = set F k (getD v k d)
 
 module _ {A : Type 0} where
   -- A loop that copies v leaves it at `to`.
@@ -53,28 +49,18 @@ module _ {A : Type 0} where
       → Left (outTurn d v from) k (length F) G (for (outTurn d v from) 0 (length F) F) → length F ≤ k → G ≡ part from (length F) v
   out-done v F from d fits l h = wrote-whole (out-wrote v F from (length F) d fits l h) refl
 
-  -- One that copies the first n elements leaves them at the start.
-  pub start-done : (v F : List A) {G : List A} (n : ℕ) {k : ℕ} (d : A) → n ≤ length v
-      → Left (startTurn d v) k n G (for (startTurn d v) 0 n F) → n ≤ k → Wrote 0 n (part 0 n v) F G
-  unfolding startTurn outTurn
-  start-done v F {G} n {k} d fits l h =
-      let same = for-same (startTurn d v) (outTurn d v 0) 0 n (λ k _ _ H. ap (λ (i : ℕ). set H k (getD v i d)) (sym (zero-add k))) in
-      out-wrote v F 0 n {k = n} d (omega arith)
-      (record { gives = for-done (outTurn d v 0) n n G (omega arith) ∙ left-end l h ∙ same F }) (omega arith)
-
 -- Right-hand side and start in the store.
-pub entered : {F G H rhs x : List Float} (T t : List ℕ) {u : List ℕ} {n to start : ℕ} → EnterOk (length F) (length T) n (length rhs) (length x) to start
-    → Wrote 0 n (part 0 n T) t u → Wrote to (length rhs) rhs F G → Wrote start (length x) x G H → Entered F H T t u n rhs x to start
-entered T t {u} {n} {to} {start} ok c a b =
+pub entered : {F G H rhs x : List Float} {to start : ℕ} → EnterOk (length F) (length rhs) (length x) to start
+    → Wrote to (length rhs) rhs F G → Wrote start (length x) x G H → Entered F H rhs x to start
+entered ok a b =
     let same = a .size in
     record {
       given = wrote-off b _ _ (omega (arith, ok .given)) ∙ wrote-at a (omega (arith, ok .given, ok .room));
       solution = wrote-at b (omega (arith, ok .room));
-      counts = c;
       floats = kept-on (kept-wrote a (omega arith)) (kept-wrote b (omega (arith, ok .given)));
     }
 
 -- There is room for the second after the first.
-pub second-fits : {F G : List Float} {words n m k : ℕ} {rhs : List Float} {to start : ℕ} → EnterOk (length F) words n m k to start
+pub second-fits : {F G : List Float} {m k : ℕ} {rhs : List Float} {to start : ℕ} → EnterOk (length F) m k to start
     → Wrote to m rhs F G → start + k ≤ length G
 second-fits ok a = omega (arith, ok .room, a .size)

@@ -6,31 +6,25 @@ use borrow.Author.Needs.{needs}
 use Rattle.solve.proofs.copies.enter.Statement.{statement}
 use Rattle.solve.proofs.copies.enter.Tie as tie
 
-load-counts-requires : tie.Need-load-counts-requires
-load-counts-requires c κs =
-    let start = c .before .before .before .before .before in
-    (start .pre .few, start .pre .counted)
-
 copy-in-requires : tie.Need-copy-in-requires
 copy-in-requires c κs =
-    let start = c .before .before .before .before .before .before .before in
+    let start = c .before .before .before .before .before in
     omega (arith, start .pre .given, start .pre .room)
 
 copy-in-requires-2 : tie.Need-copy-in-requires-2
 copy-in-requires-2 c κs =
     let at-copy-in = c .before .before .before in
-    let start = at-copy-in .before .before .before .before .before .before .before .before in
+    let start = at-copy-in .before .before .before .before .before .before in
     second-fits (start .pre) (at-copy-in .copy-in .ensures)
 
 returns : tie.Need-returns
 returns c =
     let at-copy-in2 = c .before .before in
     let at-copy-in = at-copy-in2 .before .before .before .before in
-    let at-load-counts = at-copy-in .before .before in
-    let start = at-load-counts .before .before .before .before .before .before in
-    entered (start .args .statistics .now) (start .args .t .now) (start .pre) (at-load-counts .load-counts .ensures) (at-copy-in .copy-in .ensures) (at-copy-in2 .copy-in2 .ensures)
+    let start = at-copy-in .before .before .before .before .before .before in
+    entered (start .pre) (at-copy-in .copy-in .ensures) (at-copy-in2 .copy-in2 .ensures)
 
 pub enter-spec : {M : Type 1} → statement M
 enter-spec =
     tie.close
-    (tie.spec load-counts-requires copy-in-requires copy-in-requires-2 (λ c. search needs) returns)
+    (tie.spec copy-in-requires copy-in-requires-2 (λ c. search needs) returns)
