@@ -8,6 +8,7 @@ use lib.Ieee.{Float, binary64, ofBits, add, sub, mul, div, lt, le, eq, ne}
 use Rattle.float.specs.Float.{zero64, one64, isFinite, maxNum}
 use Rattle.float.specs.Sqrt.{sqrtOf}
 use Rattle.store.specs.Loop.{iter, for}
+use Rattle.store.specs.Region.{lay}
 use Rattle.store.specs.Vector.{tab, each}
 use Rattle.options.specs.declared.options.MultigridOptions.{MultigridOptions}
 use Rattle.options.specs.declared.options.MultigridSmoother.{MultigridSmoother}
@@ -103,7 +104,7 @@ abbrev asked : LinearSolverOptions
 asked = record { «absolute_tolerance» = zero64; «relative_tolerance» = half; «max_iterations» = 5 }
 
 -- `smallpress`: converged after one iteration, from a residual of 2 to zero, at 1, 1, with one visit
-small-press : solve.solveOf (iteration.systemOf (controls MultigridResidualNorm.AbsoluteL2 0) oneLevel) asked (two ∷ zero64 ∷ []) (zero64 ∷ zero64 ∷ []) (2 ∷ 0 ∷ 0 ∷ 0 ∷ [])
+small-press : solve.solveOf (iteration.systemOf (controls MultigridResidualNorm.AbsoluteL2 0) oneLevel) asked (two ∷ zero64 ∷ []) (zero64 ∷ zero64 ∷ [])
     ≡ accepted (record {
       report = record {
         status = LinearSolverStatus.Converged;
@@ -113,7 +114,7 @@ small-press : solve.solveOf (iteration.systemOf (controls MultigridResidualNorm.
         «relative_residual» = zero64;
       };
       x = one64 ∷ one64 ∷ [];
-      counts = 2 ∷ 1 ∷ 0 ∷ 0 ∷ [];
+      counts = lay (1 ∷ 0 ∷ 0 ∷ []) solve.uncounted;
     })
-unfolding solve.solveOf input.inputOk solve.runOf iterating.iterateOf iteration.stepOf iteration.movedOf cycle.cycleOf cycle.endOf cycle.countOf terminal.terminalOf terminal.solutionOf terminal.scatterOf terminal.gatherOf terminal.diagonalOf factor.solveFactorOf factor.lowRow factor.highRow factor.lowTerm factor.highTerm tri measure.measureOf measure.valueOf measure.squaresOf measure.squareAt measure.sumOf measure.sumTurn finite.allFinite dot.productOf normalization.normalizationOf solver.relativeOf matrix.applyOf matrix.spreadOf matrix.spreadRow matrix.spreadFace correction.subtractOf correction.addPlainOf isFinite maxNum sqrtOf each tab for iter lt le eq ne ofBits add sub mul div
+unfolding solve.solveOf input.inputOk solve.runOf iterating.iterateOf iteration.stepOf iteration.movedOf cycle.cycleOf cycle.endOf cycle.countOf terminal.terminalOf terminal.solutionOf terminal.scatterOf terminal.gatherOf terminal.diagonalOf factor.solveFactorOf factor.lowRow factor.highRow factor.lowTerm factor.highTerm tri measure.measureOf measure.valueOf measure.squaresOf measure.squareAt measure.sumOf measure.sumTurn finite.allFinite dot.productOf normalization.normalizationOf solver.relativeOf matrix.applyOf matrix.spreadOf matrix.spreadRow matrix.spreadFace correction.subtractOf correction.addPlainOf isFinite maxNum sqrtOf each tab lay for iter lt le eq ne ofBits add sub mul div
 small-press = refl
