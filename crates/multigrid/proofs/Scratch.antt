@@ -6,7 +6,7 @@ use mathlib.Core.Path.{_≡_, refl, sym, ap, _∙_}
 use mathlib.Core.Bool.{Bool, true, false}
 use mathlib.Core.List.{List}
 use mathlib.Core.Logic.{_⊎_, inl, inr}
-use Prim.Native.Nat.{ℕ, _/_, _*_, _≤_, _<_}
+use Prim.Native.Nat.{ℕ, _*_, _≤_, _<_}
 use native.Mathlib.Omega.{arith}
 use lib.Dec.{leb}
 use lib.ListN.{length, getD, take, length-take}
@@ -29,22 +29,19 @@ use Rattle.index_check.proofs.sound.Question.{handle-few}
 use Rattle.iterations.specs.Iteration.{systemOf}
 use Rattle.iterations.specs.Iterate.{Solution, answerOf}
 use Rattle.solve.specs.Solve.{solveOf}
-use Rattle.solve.specs.Contract.{countersOf, solvedAt, solutionOf, statisticsOf}
+use Rattle.solve.specs.Contract.{solvedAt, solutionOf}
 use Rattle.solver.specs.declared.answers.Solved.{Solved}
+use Rattle.solver.specs.declared.statistics.MultigridLevelStatistics.{MultigridLevelStatistics}
 use Rattle.solver.specs.declared.answers.Updated.{Updated}
 use Rattle.update.specs.Shadow.{imageOf}
 use Rattle.update.specs.Contract.{updatedAt, hierarchyOf}
 use Rattle.update.specs.Contract as updating
 use Rattle.multigrid.specs.UpdatingCall.{updatedOf, UpdateCall}
-use Rattle.multigrid.specs.SolvingCall.{solvedOf, SolveCall}
+use Rattle.multigrid.specs.SolvingCall.{solvedOf, recordsOf, SolveCall}
 use Rattle.multigrid.specs.CountingCall.{countedOf}
 use Rattle.multigrid.specs.Scratch.{scratchWord, valueAt, scratchFloat, Agree, Unread}
 use Rattle.multigrid.proofs.ScratchWords.{sound-told, view-told, image-end-told}
 use Rattle.multigrid.proofs.ScratchFloats.{neither-r, view-agrees, agrees-view}
-
--- how many records statistics have
-abbrev recordsIn : List ℕ → ℕ
-recordsIn t = length t / 4
 
 -- Lists of one length whose elements below p are the same are kept below p.
 kept-each : {A : Type 0} (d : A) (p : ℕ) {F G : List A} → length G ≡ length F → ((i : ℕ) → i < p → getD G i d ≡ getD F i d) → Kept p F G
@@ -104,29 +101,29 @@ module _ (h : Handle) {w w' : List ℕ} {F F' : List Float} (a : Agree (h .level
 
   -- ---- an update
 
-  module _ {G G' : List Float} {t offsets columns : List ℕ} {values : List Float} {r r' : Updated}
-      (c : UpdateCall h w F G t offsets columns values r) (c' : UpdateCall h w' F' G' t offsets columns values r') where
+  module _ {G G' : List Float} {records : ℕ} {offsets columns : List ℕ} {values : List Float} {r r' : Updated}
+      (c : UpdateCall h w F G records offsets columns values r) (c' : UpdateCall h w' F' G' records offsets columns values r') where
     -- Both pass question 19.
-    updated-sound : soundOf h w (length F) (recordsIn t) ≡ true → (r' ≡ r) × Agree (h .levels) w w' G G'
+    updated-sound : soundOf h w (length F) records ≡ true → (r' ≡ r) × Agree (h .levels) w w' G G'
     updated-sound passes =
-        (c' .done .answer ∙ ap updating.answerOf same ∙ sym (c .done .answer), left (updatedOf h w F t offsets columns values) refl)
+        (c' .done .answer ∙ ap updating.answerOf same ∙ sym (c .done .answer), left (updatedOf h w F records offsets columns values) refl)
       where
         some : 1 ≤ h .levels
-        some = sound-some h w (length F) (recordsIn t) passes
+        some = sound-some h w (length F) records passes
 
         found : updatedAt h w' F' offsets columns values ≡ updatedAt h w F offsets columns values
         found = rw (view-same some)
 
-        same : updatedOf h w' F' t offsets columns values ≡ updatedOf h w F t offsets columns values
+        same : updatedOf h w' F' records offsets columns values ≡ updatedOf h w F records offsets columns values
         same =
-            ask-yes (soundOf h w' (length F') (recordsIn t)) unsoundStores (updatedAt h w' F' offsets columns values) (sound-same (recordsIn t) ∙ passes)
+            ask-yes (soundOf h w' (length F') records) unsoundStores (updatedAt h w' F' offsets columns values) (sound-same records ∙ passes)
             ∙ found
-            ∙ sym (ask-yes (soundOf h w (length F) (recordsIn t)) unsoundStores (updatedAt h w F offsets columns values) passes)
+            ∙ sym (ask-yes (soundOf h w (length F) records) unsoundStores (updatedAt h w F offsets columns values) passes)
 
         size : length G' ≡ length G
         size = c' .done .size ∙ a .floatsize ∙ sym (c .done .size)
 
-        left : (out : Outcome Hierarchy) → updatedOf h w F t offsets columns values ≡ out → Agree (h .levels) w w' G G'
+        left : (out : Outcome Hierarchy) → updatedOf h w F records offsets columns values ≡ out → Agree (h .levels) w w' G G'
         left (accepted k) e = agree-view some size
             (c' .done .view ∙ ap (hierarchyOf (viewOf (h .levels) w' F' 0)) (same ∙ e)
             ∙ sym (c .done .view ∙ ap (hierarchyOf (viewOf (h .levels) w F 0)) e))
@@ -135,58 +132,57 @@ module _ (h : Handle) {w w' : List ℕ} {F F' : List Float} (a : Agree (h .level
             agree-kept (c .done .kept q e) (c' .done .kept q (same ∙ e)) (omega arith) (omega arith)
 
     -- Neither does.
-    updated-unsound : soundOf h w (length F) (recordsIn t) ≡ false → (r' ≡ r) × Agree (h .levels) w w' G G'
+    updated-unsound : soundOf h w (length F) records ≡ false → (r' ≡ r) × Agree (h .levels) w w' G G'
     updated-unsound fails =
-        let fails' : soundOf h w' (length F') (recordsIn t) ≡ false = sound-same (recordsIn t) ∙ fails in
-        let x = ask-no (soundOf h w (length F) (recordsIn t)) unsoundStores (updatedAt h w F offsets columns values) fails in
-        let x' = ask-no (soundOf h w' (length F') (recordsIn t)) unsoundStores (updatedAt h w' F' offsets columns values) fails' in
+        let fails' : soundOf h w' (length F') records ≡ false = sound-same records ∙ fails in
+        let x = ask-no (soundOf h w (length F) records) unsoundStores (updatedAt h w F offsets columns values) fails in
+        let x' = ask-no (soundOf h w' (length F') records) unsoundStores (updatedAt h w' F' offsets columns values) fails' in
         (c' .done .answer ∙ ap updating.answerOf (x' ∙ sym x) ∙ sym (c .done .answer), agree-still (c .unsound fails) (c' .unsound fails'))
 
     update-same : (r' ≡ r) × Agree (h .levels) w w' G G'
-    update-same = go (bool? (soundOf h w (length F) (recordsIn t)))
+    update-same = go (bool? (soundOf h w (length F) records))
       where
-        go : (soundOf h w (length F) (recordsIn t) ≡ true) ⊎ (soundOf h w (length F) (recordsIn t) ≡ false)
+        go : (soundOf h w (length F) records ≡ true) ⊎ (soundOf h w (length F) records ≡ false)
             → (r' ≡ r) × Agree (h .levels) w w' G G'
         go (inl passes) = updated-sound passes
         go (inr fails) = updated-unsound fails
 
   -- ---- a solve
 
-  module _ {G G' : List Float} {t u u' : List ℕ} {rhs x y y' : List Float} {s : LinearSolverOptions} {r r' : Solved}
+  module _ {G G' : List Float} {t u u' : List MultigridLevelStatistics} {rhs x y y' : List Float} {s : LinearSolverOptions} {r r' : Solved}
       (c : SolveCall h w F G t u rhs x y s r) (c' : SolveCall h w' F' G' t u' rhs x y' s r') where
     -- What they told is the same where their outcome is.
-    told-same : solvedOf h w' F' t rhs x s ≡ solvedOf h w F t rhs x s → (r' ≡ r) × (y' ≡ y) × (u' ≡ u)
+    told-same : solvedOf h w' F' (length t) rhs x s ≡ solvedOf h w F (length t) rhs x s → (r' ≡ r) × (y' ≡ y) × (u' ≡ u)
     told-same same = (
-      c' .done .answer ∙ ap answerOf same ∙ sym (c .done .answer),
-      c' .done .solution ∙ ap (solutionOf x) same ∙ sym (c .done .solution),
-      c' .done .statistics ∙ ap (statisticsOf (h .levels) t) same ∙ sym (c .done .statistics),
+      c' .answer ∙ ap answerOf same ∙ sym (c .answer),
+      c' .solution ∙ ap (solutionOf x) same ∙ sym (c .solution),
+      c' .statistics ∙ ap (recordsOf (h .levels) t) same ∙ sym (c .statistics),
     )
 
     -- Both pass question 19.
-    solved-sound : soundOf h w (length F) (recordsIn t) ≡ true → (r' ≡ r) × (y' ≡ y) × (u' ≡ u) × Agree (h .levels) w w' G G'
+    solved-sound : soundOf h w (length F) (length t) ≡ true → (r' ≡ r) × (y' ≡ y) × (u' ≡ u) × Agree (h .levels) w w' G G'
     solved-sound passes =
-        let some = sound-some h w (length F) (recordsIn t) passes in
-        let k = countersOf (h .levels) t in
-        let same : solvedOf h w' F' t rhs x s ≡ solvedOf h w F t rhs x s =
-        ask-yes (soundOf h w' (length F') (recordsIn t)) unsoundStores (solvedAt h w' F' t rhs x s) (sound-same (recordsIn t) ∙ passes)
-        ∙ ap (λ (b : Hierarchy). solveOf (systemOf (h .options) b) s rhs x k) (view-same some)
-        ∙ sym (ask-yes (soundOf h w (length F) (recordsIn t)) unsoundStores (solvedAt h w F t rhs x s) passes) in
+        let some = sound-some h w (length F) (length t) passes in
+        let same : solvedOf h w' F' (length t) rhs x s ≡ solvedOf h w F (length t) rhs x s =
+        ask-yes (soundOf h w' (length F') (length t)) unsoundStores (solvedAt h w' F' rhs x s) (sound-same (length t) ∙ passes)
+        ∙ ap (λ (b : Hierarchy). solveOf (systemOf (h .options) b) s rhs x) (view-same some)
+        ∙ sym (ask-yes (soundOf h w (length F) (length t)) unsoundStores (solvedAt h w F rhs x s) passes) in
         let end = image-end-told (h .levels) some words-same in
         let told = told-same same in
-        (told .0, told .1, told .2, agree-kept (c .done .floats) (c' .done .floats) (omega arith) (omega arith))
+        (told .0, told .1, told .2, agree-kept (c .floats) (c' .floats) (omega arith) (omega arith))
 
     -- Neither does.
-    solved-unsound : soundOf h w (length F) (recordsIn t) ≡ false → (r' ≡ r) × (y' ≡ y) × (u' ≡ u) × Agree (h .levels) w w' G G'
+    solved-unsound : soundOf h w (length F) (length t) ≡ false → (r' ≡ r) × (y' ≡ y) × (u' ≡ u) × Agree (h .levels) w w' G G'
     solved-unsound fails =
-        let fails' : soundOf h w' (length F') (recordsIn t) ≡ false = sound-same (recordsIn t) ∙ fails in
-        let told = told-same (ask-no (soundOf h w' (length F') (recordsIn t)) unsoundStores (solvedAt h w' F' t rhs x s) fails'
-        ∙ sym (ask-no (soundOf h w (length F) (recordsIn t)) unsoundStores (solvedAt h w F t rhs x s) fails)) in
+        let fails' : soundOf h w' (length F') (length t) ≡ false = sound-same (length t) ∙ fails in
+        let told = told-same (ask-no (soundOf h w' (length F') (length t)) unsoundStores (solvedAt h w' F' rhs x s) fails'
+        ∙ sym (ask-no (soundOf h w (length F) (length t)) unsoundStores (solvedAt h w F rhs x s) fails)) in
         (told .0, told .1, told .2, agree-still (c .unsound fails) (c' .unsound fails'))
 
     solve-same : (r' ≡ r) × (y' ≡ y) × (u' ≡ u) × Agree (h .levels) w w' G G'
-    solve-same = go (bool? (soundOf h w (length F) (recordsIn t)))
+    solve-same = go (bool? (soundOf h w (length F) (length t)))
       where
-        go : (soundOf h w (length F) (recordsIn t) ≡ true) ⊎ (soundOf h w (length F) (recordsIn t) ≡ false)
+        go : (soundOf h w (length F) (length t) ≡ true) ⊎ (soundOf h w (length F) (length t) ≡ false)
             → (r' ≡ r) × (y' ≡ y) × (u' ≡ u) × Agree (h .levels) w w' G G'
         go (inl passes) = solved-sound passes
         go (inr fails) = solved-unsound fails
@@ -194,9 +190,9 @@ module _ (h : Handle) {w w' : List ℕ} {F F' : List Float} (a : Agree (h .level
   -- ---- the calls
 
   -- No answer of a call depends on scratch.
-  pub scratch-unread : (t : List ℕ) → Unread h w w' F F' t
+  pub scratch-unread : (t : List MultigridLevelStatistics) → Unread h w w' F F' t
   scratch-unread t = record {
     update = λ c c'. update-same c c';
     solve = λ c c'. solve-same c c';
-    statistics = rw (sound-same (recordsIn t));
+    statistics = rw (sound-same (length t));
   }

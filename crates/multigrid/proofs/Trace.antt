@@ -4,14 +4,10 @@
 use mathlib.Core.Path.{_≡_, refl, sym, ap, _∙_}
 use mathlib.Core.Bool.{true}
 use mathlib.Core.List.{List, [], _∷_}
-use Prim.Native.Nat.{ℕ, _*_, _/_}
+use Prim.Native.Nat.{ℕ}
 use native.Mathlib.Omega.{arith}
 use lib.ListN.{length}
 use lib.Ieee.{Float}
-use Rattle.store.specs.Region.{part, lay, splice}
-use Rattle.store.specs.Vector.{filled}
-use Rattle.store.proofs.store.Region.{length-splice}
-use Rattle.store.proofs.store.Vector.{length-tab}
 use Rattle.options.specs.declared.options.MultigridOptions.{MultigridOptions}
 use Rattle.options.specs.declared.options.Handle.{Handle}
 use Rattle.solver.specs.declared.solver.LinearSolverOptions.{LinearSolverOptions}
@@ -29,41 +25,23 @@ use Rattle.solver.specs.declared.answers.Built.{Built}
 use Rattle.build.specs.Contract.{lentOf}
 use Rattle.index_check.specs.Sound.{soundOf}
 use Rattle.build_sound.proofs.Sound.{built-sound}
-use Rattle.statistics.specs.Fresh.{freshOf}
 use Rattle.iterations.specs.Iteration.{systemOf}
 use Rattle.solver.specs.declared.answers.Solved.{Solved}
+use Rattle.solver.specs.declared.statistics.MultigridLevelStatistics.{MultigridLevelStatistics}
 use Rattle.iterations.specs.Iterate.{Solution, answerOf}
 use Rattle.solve.specs.Solve.{solveOf}
-use Rattle.solve.specs.Contract.{countersOf, solvedAt, solutionOf}
-use Rattle.solve.specs.Contract as solving
+use Rattle.solve.specs.Contract.{solvedAt, solutionOf}
 use Rattle.solver.specs.declared.answers.Updated.{Updated}
 use Rattle.update.specs.Contract.{updatedAt, hierarchyOf}
 use Rattle.update.specs.Contract as refreshing
-use Rattle.multigrid.specs.New.{statisticsOf, NewDone}
+use Rattle.multigrid.specs.New.{NewDone}
 use Rattle.multigrid.proofs.building.Builds.{made-is}
+use Rattle.multigrid.proofs.building.Publishing.{build-length}
+use Rattle.multigrid.proofs.solving.Counting.{solve-length}
 use Rattle.multigrid.specs.UpdatingCall.{updatedOf, UpdateCall}
 use Rattle.multigrid.specs.SolvingCall.{solvedOf, SolveCall}
 use Rattle.multigrid.specs.Trace.{Event, Trace, floatsAfter, statisticsAfter, withValues, booked, bookOf, Fresh, Agrees}
-use Rattle.solve.proofs.Counters.{same-answer, same-solution}
 use Rattle.update.proofs.refresh.First.{update-first}
-
--- ---- lengths
-
--- To lay words over others keeps their number.
-length-lay : (v t : List ℕ) → length (lay v t) ≡ length t
-unfolding splice
-length-lay v t = length-splice 0 v t
-
--- So does a solve with the statistics,
-solve-length : (levels : ℕ) (t : List ℕ) (out : Outcome Solution) → length (solving.statisticsOf levels t out) ≡ length t
-solve-length levels t (accepted v) = length-lay (part 0 (4 * levels) (v .counts)) t
-solve-length levels t (refused q) = refl
-
--- and a build.
-build-length : (n : ℕ) (out : Outcome Hierarchy) → length (statisticsOf n out) ≡ n
-unfolding statisticsOf
-build-length n (accepted h) = length-lay (freshOf (h .levels)) (filled n 0) ∙ length-tab (λ _. 0) n
-build-length n (refused q) = length-tab (λ _. 0) n
 
 -- ---- pattern first, values second
 
@@ -79,19 +57,18 @@ unfolding patternOf
 pattern-of x values = refl
 
 -- A solve in stores that pass question 19 is one of the hierarchy that they hold.
-solved-of : (h : Handle) (w : List ℕ) (F : List Float) (t : List ℕ) (rhs start : List Float) (s : LinearSolverOptions) {o : MultigridOptions} {b : Hierarchy}
-    → soundOf h w (length F) (length t / 4) ≡ true → h .options ≡ o → viewOf (h .levels) w F 0 ≡ b
-    → solvedOf h w F t rhs start s ≡ solveOf (systemOf o b) s rhs start (countersOf (h .levels) t)
-solved-of h w F t rhs start s {o} sound controls view =
-    let k = countersOf (h .levels) t in
-    ask-yes (soundOf h w (length F) (length t / 4)) unsoundStores (solvedAt h w F t rhs start s) sound
-    ∙ ap (λ (o : MultigridOptions). solveOf (systemOf o (viewOf (h .levels) w F 0)) s rhs start k) controls
-    ∙ ap (λ (b : Hierarchy). solveOf (systemOf o b) s rhs start k) view
+solved-of : (h : Handle) (w : List ℕ) (F : List Float) (records : ℕ) (rhs start : List Float) (s : LinearSolverOptions) {o : MultigridOptions} {b : Hierarchy}
+    → soundOf h w (length F) records ≡ true → h .options ≡ o → viewOf (h .levels) w F 0 ≡ b
+    → solvedOf h w F records rhs start s ≡ solveOf (systemOf o b) s rhs start
+solved-of h w F records rhs start s {o} sound controls view =
+    ask-yes (soundOf h w (length F) records) unsoundStores (solvedAt h w F rhs start s) sound
+    ∙ ap (λ (o : MultigridOptions). solveOf (systemOf o (viewOf (h .levels) w F 0)) s rhs start) controls
+    ∙ ap (λ (b : Hierarchy). solveOf (systemOf o b) s rhs start) view
 
 -- What holds between calls: the stores pass question 19, and hold the refresh of the build's pattern from the values of the book, which
 -- holds x.
-pub record Holds (h : Handle) (w : List ℕ) (F : List Float) (t : List ℕ) (x : Input) : Type 0 where
-  pub sound : soundOf h w (length F) (length t / 4) ≡ true
+pub record Holds (h : Handle) (w : List ℕ) (F : List Float) (t : List MultigridLevelStatistics) (x : Input) : Type 0 where
+  pub sound : soundOf h w (length F) (length t) ≡ true
   pub given : x .given ≡ true
   pub controls : h .options ≡ x .options
   pub levels : List Level
@@ -99,7 +76,7 @@ pub record Holds (h : Handle) (w : List ℕ) (F : List Float) (t : List ℕ) (x 
   pub second : refreshOf (x .options) 0 (patternOf x) (x .values) ≡ accepted levels
   pub first : shapesIn levels ≡ patternOf x
 
-module _ {h : Handle} {w : List ℕ} {F : List Float} {t : List ℕ} {x : Input} (i : Holds h w F t x) where
+module _ {h : Handle} {w : List ℕ} {F : List Float} {t : List MultigridLevelStatistics} {x : Input} (i : Holds h w F t x) where
   -- The book's build, if accepted, is the hierarchy in the stores.
   fresh-view : (l : Lent) {b : Hierarchy} → buildOf l x ≡ accepted b → viewOf (h .levels) w F 0 ≡ b
   fresh-view l e =
@@ -108,7 +85,7 @@ module _ {h : Handle} {w : List ℕ} {F : List Float} {t : List ℕ} {x : Input}
       i .view ∙ ap (withSums (x .options)) (accepted-one (sym (i .second) ∙ same)) ∙ sym (f .is)
 
   -- It holds on where a call keeps the hierarchy and the sizes.
-  still-holds : {G : List Float} {u : List ℕ} → viewOf (h .levels) w G 0 ≡ viewOf (h .levels) w F 0 → length G ≡ length F → length u ≡ length t
+  still-holds : {G : List Float} {u : List MultigridLevelStatistics} → viewOf (h .levels) w G 0 ≡ viewOf (h .levels) w F 0 → length G ≡ length F → length u ≡ length t
       → Holds h w G u x
   still-holds v floats words = record {
     sound = rw (floats, words) (i .sound);
@@ -122,21 +99,19 @@ module _ {h : Handle} {w : List ℕ} {F : List Float} {t : List ℕ} {x : Input}
 
   -- ---- a solve
 
-  module _ {G : List Float} {u : List ℕ} {rhs start y : List Float} {s : LinearSolverOptions} {r : Solved}
+  module _ {G : List Float} {u : List MultigridLevelStatistics} {rhs start y : List Float} {s : LinearSolverOptions} {r : Solved}
       (c : SolveCall h w F G t u rhs start y s r) where
     -- A solve has the book's answer and solution,
     solve-fresh : (l : Lent) → Fresh l x rhs start s r y
     solve-fresh l = record {
-      answer = λ b k e. c .done .answer ∙ ap answerOf (solved-of h w F t rhs start s (i .sound) (i .controls) (fresh-view l e))
-          ∙ same-answer (systemOf (x .options) b) s rhs start (countersOf (h .levels) t) k;
-      solution = λ b k e. c .done .solution ∙ ap (solutionOf start) (solved-of h w F t rhs start s (i .sound) (i .controls) (fresh-view l e))
-          ∙ same-solution (systemOf (x .options) b) s rhs start (countersOf (h .levels) t) k;
+      answer = λ b e. c .answer ∙ ap answerOf (solved-of h w F (length t) rhs start s (i .sound) (i .controls) (fresh-view l e));
+      solution = λ b e. c .solution ∙ ap (solutionOf start) (solved-of h w F (length t) rhs start s (i .sound) (i .controls) (fresh-view l e));
     }
 
     -- and keeps what holds.
     solve-holds : Holds h w G u x
-    solve-holds = still-holds (c .view) (c .done .floats .size)
-        (ap length (c .done .statistics) ∙ solve-length (h .levels) t (solvedOf h w F t rhs start s))
+    solve-holds = still-holds (c .view) (c .floats .size)
+        (ap length (c .statistics) ∙ solve-length (h .levels) t (solvedOf h w F (length t) rhs start s))
 
   -- ---- an update
 
@@ -170,28 +145,28 @@ module _ {h : Handle} {w : List ℕ} {F : List Float} {t : List ℕ} {x : Input}
 
   -- What holds before an update holds after it, of what the book then has.
   update-holds : {G : List Float} {offsets columns : List ℕ} {values : List Float} {r : Updated}
-      → UpdateCall h w F G t offsets columns values r → Holds h w G t (booked x values r)
+      → UpdateCall h w F G (length t) offsets columns values r → Holds h w G t (booked x values r)
   update-holds {offsets = offsets} {columns = columns} {values = values} {r = r} c =
       let out = updatedAt h w F offsets columns values in
-      let same : updatedOf h w F t offsets columns values ≡ out =
-      ask-yes (soundOf h w (length F) (length t / 4)) unsoundStores out (i .sound) in
+      let same : updatedOf h w F (length t) offsets columns values ≡ out =
+      ask-yes (soundOf h w (length F) (length t)) unsoundStores out (i .sound) in
       booked-holds offsets columns values r out refl (c .done .answer ∙ ap refreshing.answerOf same)
       (c .done .view ∙ ap (hierarchyOf (viewOf (h .levels) w F 0)) same) (c .done .size)
 
 -- ---- the list of calls
 
 -- Where that holds before calls, each solve among them agrees with the book.
-pub trace-agrees : {h : Handle} {w : List ℕ} {F : List Float} {t : List ℕ} {x : Input} {events : List Event}
+pub trace-agrees : {h : Handle} {w : List ℕ} {F : List Float} {t : List MultigridLevelStatistics} {x : Input} {events : List Event}
     → Trace h w F t events → Holds h w F t x → (l : Lent) → Agrees l x events
 trace-agrees Trace.nothing i l = Agrees.nothing
 trace-agrees (Trace.update c rest) i l = Agrees.update (trace-agrees rest (update-holds i c) l)
 trace-agrees (Trace.solve c rest) i l = Agrees.solve (solve-fresh i c l) (trace-agrees rest (solve-holds i c) l)
 
 -- An accepted build with weights leaves what holds, if its stores pass question 19.
-built-holds : {w z : List ℕ} {F G : List Float} {s t : List ℕ} (x : Input) (h : Handle) → x .given ≡ true
-    → NewDone w z F G s t x (Built.Made h) → soundOf h z (length G) (length t / 4) ≡ true → Holds h z G t x
+built-holds : {w z : List ℕ} {F G : List Float} {s t : List MultigridLevelStatistics} (x : Input) (h : Handle) → x .given ≡ true
+    → NewDone w z F G s t x (Built.Made h) → soundOf h z (length G) (length t) ≡ true → Holds h z G t x
 built-holds {w} {z} {F} {G} {s} {t} x h given d sound =
-    let l = lentOf w F (length s / 4) in
+    let l = lentOf w F (length s) in
     let m = made-is x (buildOf l x) (d .built .answer) in
     let f = build-first l x (m .1) in
     let levels : h .levels ≡ length (m .0 .levels) = ap (λ (k : Handle). k .levels) (m .2) in
@@ -206,41 +181,40 @@ built-holds {w} {z} {F} {G} {s} {t} x h given d sound =
     }
 
 -- The stores of an accepted build pass question 19.
-pub new-sound : {w z : List ℕ} {F G : List Float} {s t : List ℕ} {x : Input} {h : Handle} → NewDone w z F G s t x (Built.Made h)
-    → soundOf h z (length G) (length t / 4) ≡ true
+pub new-sound : {w z : List ℕ} {F G : List Float} {s t : List MultigridLevelStatistics} {x : Input} {h : Handle} → NewDone w z F G s t x (Built.Made h)
+    → soundOf h z (length G) (length t) ≡ true
 new-sound {w} {z} {F} {G} {s} {t} {x} {h} d =
-    let l = lentOf w F (length s / 4) in
+    let l = lentOf w F (length s) in
     let m = made-is x (buildOf l x) (d .built .answer) in
     let b = d .built in
     let words : length t ≡ length s = ap length (d .statistics) ∙ build-length (length s) (buildOf l x) in
     rw (m .2, words) (built-sound l x (m .1) z G (b .view (m .0) (m .1)) (b .fits (m .0) (m .1)) (b .wordsize) (b .floatsize))
 
 -- After a build with weights each solve has the answer and the solution of a fresh build and solve, whatever calls came before it.
-pub refreshed-is-fresh : {w z : List ℕ} {F G : List Float} {s t : List ℕ} (x : Input) (h : Handle) → x .given ≡ true
+pub refreshed-is-fresh : {w z : List ℕ} {F G : List Float} {s t : List MultigridLevelStatistics} (x : Input) (h : Handle) → x .given ≡ true
     → NewDone w z F G s t x (Built.Made h) → {events : List Event} → Trace h z G t events → (l : Lent) → Agrees l x events
 refreshed-is-fresh x h given d trace l = trace-agrees trace (built-holds x h given d (new-sound d)) l
 
 -- ---- the book's own calls
 
 -- What the book answers is what its own calls give: a build in lent stores, whatever these held, and then that solve.
-pub fresh-call : {w z : List ℕ} {F G H : List Float} {s t u : List ℕ} {x : Input} {h : Handle} {rhs start y y' : List Float}
-    {o : LinearSolverOptions} {r r' : Solved} → Fresh (lentOf w F (length s / 4)) x rhs start o r y
+pub fresh-call : {w z : List ℕ} {F G H : List Float} {s t u : List MultigridLevelStatistics} {x : Input} {h : Handle} {rhs start y y' : List Float}
+    {o : LinearSolverOptions} {r r' : Solved} → Fresh (lentOf w F (length s)) x rhs start o r y
     → NewDone w z F G s t x (Built.Made h) → SolveCall h z G H t u rhs start y' o r' → (r ≡ r') × (y ≡ y')
 fresh-call {w} {z} {F} {G} {H} {s} {t} {u} {x} {h} {rhs} {start} {y} {y'} {o} {r} {r'} f d c =
-    let l = lentOf w F (length s / 4) in
+    let l = lentOf w F (length s) in
     let m = made-is x (buildOf l x) (d .built .answer) in
-    let k = countersOf (h .levels) t in
     let levels : h .levels ≡ length (m .0 .levels) = ap (λ (k : Handle). k .levels) (m .2) in
     let view : viewOf (h .levels) z G 0 ≡ m .0 = ap (λ (n : ℕ). viewOf n z G 0) levels ∙ d .built .view (m .0) (m .1) in
-    let same = solved-of h z G t rhs start o (new-sound d) (ap (λ (k : Handle). k .options) (m .2)) view in (
-      f .answer (m .0) k (m .1) ∙ sym (c .done .answer ∙ ap answerOf same),
-      f .solution (m .0) k (m .1) ∙ sym (c .done .solution ∙ ap (solutionOf start) same),
+    let same = solved-of h z G (length t) rhs start o (new-sound d) (ap (λ (k : Handle). k .options) (m .2)) view in (
+      f .answer (m .0) (m .1) ∙ sym (c .answer ∙ ap answerOf same),
+      f .solution (m .0) (m .1) ∙ sym (c .solution ∙ ap (solutionOf start) same),
     )
 
 -- ---- calls beside calls
 
 -- What holds before calls holds after them, of what the book then has.
-trace-holds : {h : Handle} {w : List ℕ} {F : List Float} {t : List ℕ} {x : Input} {events : List Event} (trace : Trace h w F t events)
+trace-holds : {h : Handle} {w : List ℕ} {F : List Float} {t : List MultigridLevelStatistics} {x : Input} {events : List Event} (trace : Trace h w F t events)
     → Holds h w F t x → Holds h w (floatsAfter trace) (statisticsAfter trace) (bookOf x events)
 unfolding floatsAfter statisticsAfter bookOf
 trace-holds Trace.nothing i = i
@@ -249,7 +223,7 @@ trace-holds (Trace.solve c rest) i = trace-holds rest (solve-holds i c)
 
 -- After a build with weights and any calls, a solve has the answer and the solution of any other build and solve whose build was given
 -- what the book holds after those calls, in whatever stores, and whose solve was given the same as this one.
-pub refreshed-beside-fresh : {w z w' z' : List ℕ} {F G H F' G' H' : List Float} {s t u s' t' u' : List ℕ} {x : Input} {h h' : Handle}
+pub refreshed-beside-fresh : {w z w' z' : List ℕ} {F G H F' G' H' : List Float} {s t u s' t' u' : List MultigridLevelStatistics} {x : Input} {h h' : Handle}
     {events : List Event} {rhs start y y' : List Float} {o : LinearSolverOptions} {r r' : Solved}
     → x .given ≡ true → NewDone w z F G s t x (Built.Made h) → (trace : Trace h z G t events)
     → SolveCall h z (floatsAfter trace) H (statisticsAfter trace) u rhs start y o r
@@ -257,4 +231,4 @@ pub refreshed-beside-fresh : {w z w' z' : List ℕ} {F G H F' G' H' : List Float
     → (r ≡ r') × (y ≡ y')
 refreshed-beside-fresh {w' = w'} {F' = F'} {s' = s'} {x = x} {h = h} given d trace c d' c' =
     let i = trace-holds trace (built-holds x h given d (new-sound d)) in
-    fresh-call (solve-fresh i c (lentOf w' F' (length s' / 4))) d' c'
+    fresh-call (solve-fresh i c (lentOf w' F' (length s'))) d' c'

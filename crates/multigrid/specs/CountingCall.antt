@@ -1,7 +1,7 @@
 -- `statistics` of mod.rs: what it ensures of any handle and any stores. Definitions only.
 use mathlib.Core.Bool.{Bool, true, false}
 use mathlib.Core.List.{List}
-use Prim.Native.Nat.{ℕ, _/_}
+use Prim.Native.Nat.{ℕ}
 use lib.ListN.{length}
 use lib.Ieee.{Float}
 use Rattle.options.specs.declared.options.Handle.{Handle}
@@ -14,6 +14,6 @@ abbrev pub countedIf : Bool → ℕ → Counted
 countedIf true levels = Counted.Levels levels
 countedIf false levels = Counted.Refused unsoundStores
 
--- the answer of `statistics`
-abbrev pub countedOf : Handle → List ℕ → List Float → List ℕ → Counted
-countedOf h w F t = countedIf (soundOf h w (length F) (length t / 4)) (h .levels)
+-- the answer of `statistics`, of so many records
+abbrev pub countedOf : Handle → List ℕ → List Float → ℕ → Counted
+countedOf h w F records = countedIf (soundOf h w (length F) records) (h .levels)

@@ -3,5 +3,6 @@ pub mod Stores
 pub mod UpdatingCall
 pub mod SolvingCall
 pub mod CountingCall
+pub mod Contract
 pub mod Scratch
 pub mod Trace

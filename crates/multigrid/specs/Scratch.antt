@@ -13,6 +13,7 @@ use Rattle.solver.specs.declared.solver.LinearSolverOptions.{LinearSolverOption
 use Rattle.layout.specs.Layout.{locate, wordsEnd, floatsEnd, wordsTo}
 use Rattle.solver.specs.declared.answers.Solved.{Solved}
 use Rattle.solver.specs.declared.answers.Updated.{Updated}
+use Rattle.solver.specs.declared.statistics.MultigridLevelStatistics.{MultigridLevelStatistics}
 use Rattle.update.specs.Shadow.{imageOf}
 use Rattle.multigrid.specs.UpdatingCall.{UpdateCall}
 use Rattle.multigrid.specs.SolvingCall.{SolveCall}
@@ -48,11 +49,11 @@ pub record Agree (levels : ℕ) (w w' : List ℕ) (F F' : List Float) : Type 0 w
 
 -- What one call in w and F and one in w' and F' have in common, whatever the handle and the stores, if all else that they are given is
 -- the same: the answer, the solution, the statistics, and all that the stores hold outside scratch. An update and a solve write no words.
-pub record Unread (h : Handle) (w w' : List ℕ) (F F' : List Float) (t : List ℕ) : Type 0 where
+pub record Unread (h : Handle) (w w' : List ℕ) (F F' : List Float) (t : List MultigridLevelStatistics) : Type 0 where
   pub update : {G G' : List Float} {offsets columns : List ℕ} {values : List Float} {r r' : Updated}
-      → UpdateCall h w F G t offsets columns values r → UpdateCall h w' F' G' t offsets columns values r'
+      → UpdateCall h w F G (length t) offsets columns values r → UpdateCall h w' F' G' (length t) offsets columns values r'
       → (r' ≡ r) × Agree (h .levels) w w' G G'
-  pub solve : {G G' : List Float} {u u' : List ℕ} {rhs x y y' : List Float} {s : LinearSolverOptions} {r r' : Solved}
+  pub solve : {G G' : List Float} {u u' : List MultigridLevelStatistics} {rhs x y y' : List Float} {s : LinearSolverOptions} {r r' : Solved}
       → SolveCall h w F G t u rhs x y s r → SolveCall h w' F' G' t u' rhs x y' s r'
       → (r' ≡ r) × (y' ≡ y) × (u' ≡ u) × Agree (h .levels) w w' G G'
-  pub statistics : countedOf h w' F' t ≡ countedOf h w F t
+  pub statistics : countedOf h w' F' (length t) ≡ countedOf h w F (length t)

@@ -2,6 +2,7 @@
 use mathlib.Core.Path.{_≡_}
 use mathlib.Core.List.{List, [], _∷_}
 use Prim.Native.Nat.{ℕ}
+use lib.ListN.{length}
 use lib.Ieee.{Float}
 use Rattle.options.specs.declared.options.Handle.{Handle}
 use Rattle.solver.specs.declared.solver.LinearSolverOptions.{LinearSolverOptions}
@@ -14,6 +15,7 @@ use Rattle.solve.specs.Solve.{solveOf}
 use Rattle.iterations.specs.Iterate.{answerOf}
 use Rattle.solve.specs.Contract.{solutionOf}
 use Rattle.solver.specs.declared.answers.Updated.{Updated}
+use Rattle.solver.specs.declared.statistics.MultigridLevelStatistics.{MultigridLevelStatistics}
 use Rattle.multigrid.specs.UpdatingCall.{UpdateCall}
 use Rattle.multigrid.specs.SolvingCall.{SolveCall}
 
@@ -28,23 +30,23 @@ pub data Event : Type 0 where
 
 -- Calls with the handle h and the words w, the first with the floats F and the statistics t, each with what the one before left; each meets
 -- its contract.
-pub data Trace (h : Handle) (w : List ℕ) : List Float → List ℕ → List Event → Type 0 where
-  nothing : {F : List Float} {t : List ℕ} → Trace h w F t []
-  update : {F G : List Float} {t offsets columns : List ℕ} {values : List Float} {r : Updated} {rest : List Event}
-      → UpdateCall h w F G t offsets columns values r → Trace h w G t rest
+pub data Trace (h : Handle) (w : List ℕ) : List Float → List MultigridLevelStatistics → List Event → Type 0 where
+  nothing : {F : List Float} {t : List MultigridLevelStatistics} → Trace h w F t []
+  update : {F G : List Float} {t : List MultigridLevelStatistics} {offsets columns : List ℕ} {values : List Float} {r : Updated} {rest : List Event}
+      → UpdateCall h w F G (length t) offsets columns values r → Trace h w G t rest
       → Trace h w F t (updated offsets columns values r ∷ rest)
-  solve : {F G : List Float} {t u : List ℕ} {rhs x y : List Float} {s : LinearSolverOptions} {r : Solved} {rest : List Event}
+  solve : {F G : List Float} {t u : List MultigridLevelStatistics} {rhs x y : List Float} {s : LinearSolverOptions} {r : Solved} {rest : List Event}
       → SolveCall h w F G t u rhs x y s r → Trace h w G u rest
       → Trace h w F t (solved rhs x s r y ∷ rest)
 
 -- the floats as the calls leave them
-unfoldable pub floatsAfter : {h : Handle} {w : List ℕ} {F : List Float} {t : List ℕ} {events : List Event} → Trace h w F t events → List Float
+unfoldable pub floatsAfter : {h : Handle} {w : List ℕ} {F : List Float} {t : List MultigridLevelStatistics} {events : List Event} → Trace h w F t events → List Float
 floatsAfter {F = F} Trace.nothing = F
 floatsAfter (Trace.update c rest) = floatsAfter rest
 floatsAfter (Trace.solve c rest) = floatsAfter rest
 
 -- and the statistics
-unfoldable pub statisticsAfter : {h : Handle} {w : List ℕ} {F : List Float} {t : List ℕ} {events : List Event} → Trace h w F t events → List ℕ
+unfoldable pub statisticsAfter : {h : Handle} {w : List ℕ} {F : List Float} {t : List MultigridLevelStatistics} {events : List Event} → Trace h w F t events → List MultigridLevelStatistics
 statisticsAfter {t = t} Trace.nothing = t
 statisticsAfter (Trace.update c rest) = statisticsAfter rest
 statisticsAfter (Trace.solve c rest) = statisticsAfter rest
@@ -75,10 +77,10 @@ bookOf x (Event.updated offsets columns values r ∷ rest) = bookOf (booked x va
 bookOf x (Event.solved rhs start s r y ∷ rest) = bookOf x rest
 
 -- A solve with the answer r and the solution y has those of the book, which holds x: wherever a build of x in what is lent gives a hierarchy
--- b, they are those of a solve of b, whatever the counters c so far.
+-- b, they are those of a solve of b.
 pub record Fresh (l : Lent) (x : Input) (rhs start : List Float) (s : LinearSolverOptions) (r : Solved) (y : List Float) : Type 0 where
-  pub answer : (b : Hierarchy) (c : List ℕ) → buildOf l x ≡ accepted b → r ≡ answerOf (solveOf (systemOf (x .options) b) s rhs start c)
-  pub solution : (b : Hierarchy) (c : List ℕ) → buildOf l x ≡ accepted b → y ≡ solutionOf start (solveOf (systemOf (x .options) b) s rhs start c)
+  pub answer : (b : Hierarchy) → buildOf l x ≡ accepted b → r ≡ answerOf (solveOf (systemOf (x .options) b) s rhs start)
+  pub solution : (b : Hierarchy) → buildOf l x ≡ accepted b → y ≡ solutionOf start (solveOf (systemOf (x .options) b) s rhs start)
 
 -- Each solve among calls has the answer and the solution of the book, which holds x before the first of them.
 pub data Agrees (l : Lent) : Input → List Event → Type 0 where

@@ -2,7 +2,7 @@
 use mathlib.Core.Path.{_≡_}
 use mathlib.Core.Bool.{false}
 use mathlib.Core.List.{List}
-use Prim.Native.Nat.{ℕ, _/_}
+use Prim.Native.Nat.{ℕ}
 use lib.ListN.{length}
 use lib.Ieee.{Float}
 use Rattle.options.specs.declared.options.Handle.{Handle}
@@ -14,12 +14,12 @@ use Rattle.solver.specs.declared.answers.Updated.{Updated}
 use Rattle.update.specs.Contract.{updatedAt, UpdateDone}
 
 -- an update: question 19, and then that of the hierarchy in the stores
-abbrev pub updatedOf : Handle → List ℕ → List Float → List ℕ → List ℕ → List ℕ → List Float → Outcome Hierarchy
-updatedOf h w F t offsets columns values =
-    ask (soundOf h w (length F) (length t / 4)) unsoundStores (updatedAt h w F offsets columns values)
+abbrev pub updatedOf : Handle → List ℕ → List Float → ℕ → List ℕ → List ℕ → List Float → Outcome Hierarchy
+updatedOf h w F records offsets columns values =
+    ask (soundOf h w (length F) records) unsoundStores (updatedAt h w F offsets columns values)
 
--- What an update with the stores w and F and the statistics t leaves: G, and its answer r. Refused by question 19, every float is as
--- it was.
-pub record UpdateCall (h : Handle) (w : List ℕ) (F G : List Float) (t : List ℕ) (offsets columns : List ℕ) (values : List Float) (r : Updated) : Type 0 where
-  pub done : UpdateDone h w F G (updatedOf h w F t offsets columns values) r
-  pub unsound : soundOf h w (length F) (length t / 4) ≡ false → G ≡ F
+-- What an update with the stores w and F and so many records of statistics leaves: G, and its answer r. Refused by question 19, every float
+-- is as it was.
+pub record UpdateCall (h : Handle) (w : List ℕ) (F G : List Float) (records : ℕ) (offsets columns : List ℕ) (values : List Float) (r : Updated) : Type 0 where
+  pub done : UpdateDone h w F G (updatedOf h w F records offsets columns values) r
+  pub unsound : soundOf h w (length F) records ≡ false → G ≡ F

@@ -1,13 +1,31 @@
-// mod.rs: the calls that build a hierarchy: `new` and `new_with_face_weights`.
+// mod.rs: the calls that build a hierarchy, `new` and `new_with_face_weights`, up to their statistics.
+ghost use mathlib.Core.Path.{_≡_};
 ghost use mathlib.Core.Bool.{true, false};
 ghost use mathlib.Core.List.{[]};
 ghost use Rattle.build.specs.Steps.{inputOf};
-ghost use Rattle.multigrid.specs.New.{NewDone};
+ghost use Rattle.multigrid.specs.Contract.{cellsAt, tableOf, CellsOk, BuildRan};
 use options::MultigridOptions;
+use solver::BuildRun;
 use solver::Built;
 
-// Both builds: the hierarchy, then the statistics of its levels, which are zeros where the build refuses.
-fn with_weights(
+// The rows of so many levels, as their words tell them, and zeros behind them.
+fn cells(words: &[u32], levels: usize) -> [u64; 128]
+    requires { ⌜ CellsOk (now words) levels ⌝ }
+    ensures { λ r. ⌜ r ≡ tableOf (cellsAt levels (now (words .entry)) 0) ⌝ }
+{
+    let mut table = [0u64; 128];
+    let mut a = 0;
+    let mut k = 0;
+    while k < levels {
+        table[k] = store::wide(words[a]) as u64;
+        a = layout::words_end(words, a);
+        k += 1;
+    }
+    table
+}
+
+// Both builds, with so many records lent: the hierarchy, and the rows of its levels, none where the build refuses.
+fn run(
     rows: usize,
     offsets: &[u32],
     columns: &[u32],
@@ -15,13 +33,13 @@ fn with_weights(
     given: bool,
     weights: &[f64],
     options: MultigridOptions,
+    lent: usize,
     words: &mut [u32],
     floats: &mut [f64],
-    statistics: &mut [u64],
-) -> Built
-    ensures { λ r. ⌜ NewDone (now (words .entry)) (now (words .exit)) (now (floats .entry)) (now (floats .exit)) (now (statistics .entry)) (now (statistics .exit)) (inputOf rows (now (offsets .entry)) (now (columns .entry)) (now (values .entry)) given (now (weights .entry)) options) r ⌝ }
+) -> BuildRun
+    ensures { λ r. ⌜ BuildRan (now (words .entry)) (now (words .exit)) (now (floats .entry)) (now (floats .exit)) lent (inputOf rows (now (offsets .entry)) (now (columns .entry)) (now (values .entry)) given (now (weights .entry)) options) r ⌝ }
 {
-    let built = build::build(
+    match build::build(
         rows,
         offsets,
         columns,
@@ -29,28 +47,42 @@ fn with_weights(
         given,
         weights,
         options,
-        statistics.len() / 4,
+        lent,
         words,
         floats,
-    );
-    statistics::publish(built, words, statistics)
+    ) {
+        Built::Made(h) => {
+            let table = cells(words, h.levels as usize);
+            BuildRun {
+                answer: Built::Made(h),
+                cells: table,
+            }
+        }
+        Built::Refused(q) => {
+            let table = [0u64; 128];
+            BuildRun {
+                answer: Built::Refused(q),
+                cells: table,
+            }
+        }
+    }
 }
 
 // The hierarchy of a matrix in compressed rows, paired by its values, in stores that the caller lends, whatever these held.
-pub fn new(
+pub fn by_values(
     rows: usize,
     offsets: &[u32],
     columns: &[u32],
     values: &[f64],
     options: MultigridOptions,
+    records: usize,
     words: &mut [u32],
     floats: &mut [f64],
-    statistics: &mut [u64],
-) -> Built
-    ensures { λ r. ⌜ NewDone (now (words .entry)) (now (words .exit)) (now (floats .entry)) (now (floats .exit)) (now (statistics .entry)) (now (statistics .exit)) (inputOf rows (now (offsets .entry)) (now (columns .entry)) (now (values .entry)) false [] options) r ⌝ }
+) -> BuildRun
+    ensures { λ r. ⌜ BuildRan (now (words .entry)) (now (words .exit)) (now (floats .entry)) (now (floats .exit)) records (inputOf rows (now (offsets .entry)) (now (columns .entry)) (now (values .entry)) false [] options) r ⌝ }
 {
     // Where no weights are given nobody reads them, so any slice serves.
-    with_weights(
+    run(
         rows,
         offsets,
         columns,
@@ -58,28 +90,28 @@ pub fn new(
         false,
         values,
         options,
+        records,
         words,
         floats,
-        statistics,
     )
 }
 
 // The same, paired by fixed geometric face strengths instead of flow-dependent matrix coefficients. Weights follow the entries;
 // diagonal weights are ignored and internal weights sum on coarse levels.
-pub fn new_with_face_weights(
+pub fn by_face_weights(
     rows: usize,
     offsets: &[u32],
     columns: &[u32],
     values: &[f64],
     face_weights: &[f64],
     options: MultigridOptions,
+    records: usize,
     words: &mut [u32],
     floats: &mut [f64],
-    statistics: &mut [u64],
-) -> Built
-    ensures { λ r. ⌜ NewDone (now (words .entry)) (now (words .exit)) (now (floats .entry)) (now (floats .exit)) (now (statistics .entry)) (now (statistics .exit)) (inputOf rows (now (offsets .entry)) (now (columns .entry)) (now (values .entry)) true (now («face_weights» .entry)) options) r ⌝ }
+) -> BuildRun
+    ensures { λ r. ⌜ BuildRan (now (words .entry)) (now (words .exit)) (now (floats .entry)) (now (floats .exit)) records (inputOf rows (now (offsets .entry)) (now (columns .entry)) (now (values .entry)) true (now («face_weights» .entry)) options) r ⌝ }
 {
-    with_weights(
+    run(
         rows,
         offsets,
         columns,
@@ -87,8 +119,8 @@ pub fn new_with_face_weights(
         true,
         face_weights,
         options,
+        records,
         words,
         floats,
-        statistics,
     )
 }

@@ -170,7 +170,7 @@ module _ {h : Handle} {w : List ℕ} (F : List Float) {g : Regions} (ready : Rea
 -- ---- on copies
 
 -- A table of zeros.
-zeros-are : (n : ℕ) → replicate {A = ℕ} n 0 ≡ filled n 0
+pub zeros-are : (n : ℕ) → replicate {A = ℕ} n 0 ≡ filled n 0
 zeros-are n =
     ext-getD 0 (replicate n 0) (filled n 0) (length-replicate n 0 ∙ sym (length-tab (λ _. 0) n))
     (λ i h. let b : i < n = rw length-replicate at h in getD-replicate n i 0 0 b ∙ sym (getD-tab (λ _. 0) n i 0 b))

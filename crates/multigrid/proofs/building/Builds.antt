@@ -1,53 +1,30 @@
--- What an answer tells of a build: how many levels there are to publish, what is left of the statistics, and that weights which are
--- not given play no part.
+-- What an answer tells of a build: how many levels there are, the rows that it gives its call, and that weights which are not given play no
+-- part.
 -- Assumes nothing.
 use mathlib.Core.Path.{_≡_, refl, sym, ap, _∙_}
-use mathlib.Core.Bool.{false, cond, _&&_}
+use mathlib.Core.Bool.{false}
 use mathlib.Core.List.{List, []}
-use Prim.Native.Nat.{ℕ, _/_, _≤_}
+use Prim.Native.Nat.{ℕ, _≤_}
 use native.Mathlib.Omega.{arith}
-use lib.Dec.{leb}
-use lib.ListN.{length}
+use lib.ListN.{length, replicate}
 use lib.Ieee.{Float}
-use borrow.Author.Tests.{leb-true}
-use Rattle.store.specs.Region.{lay}
-use Rattle.store.specs.Vector.{filled}
-use Rattle.store.proofs.store.Each.{both-r}
 use Rattle.options.specs.declared.options.MultigridOptions.{MultigridOptions}
 use Rattle.options.specs.declared.options.Handle.{Handle}
 use Rattle.refusal.specs.declared.Refusal.{Refusal}
-use Rattle.refusal.specs.Refusal.{noRows, storeTooSmall}
-use Rattle.options.specs.Options.{controlsAsked}
-use Rattle.refusal.specs.Outcome.{Outcome, accepted, refused, passed}
-use Rattle.pattern.specs.Pattern.{entries}
-use Rattle.csr.specs.Questions.{matrixAsked}
-use Rattle.csr.specs.Weights.{weightsAsked}
+use Rattle.refusal.specs.Outcome.{Outcome, accepted, refused}
 use Rattle.hierarchy.specs.Level.{Hierarchy}
-use Rattle.hierarchy.specs.Build.{holds, Lent, Input, patternIn, buildOf}
-use Rattle.hierarchy.proofs.Accepted.{ask-split, then-split, fixedIn}
-use Rattle.hierarchy.proofs.Depth.{build-levels}
+use Rattle.hierarchy.specs.Build.{Lent, Input, buildOf}
 use Rattle.layout.specs.Layout.{viewOf}
 use Rattle.solver.specs.declared.answers.Built.{Built}
+use Rattle.solver.specs.declared.answers.BuildRun.{BuildRun}
 use Rattle.build.specs.Contract.{handleOf, builtOf, lentOf, BuildDone}
 use Rattle.build.specs.Steps.{inputOf}
-use Rattle.multigrid.specs.New.{statisticsOf, NewDone}
-use Rattle.statistics.specs.Fresh.{freshOf}
-use Rattle.statistics.proofs.statistics.Publishing.{fresh-is}
-use Rattle.statistics.specs.Published.{LevelsFit, publishedOf, Published}
+use Rattle.build_sound.proofs.Sound.{built-sound}
+use Rattle.solve.proofs.Solving.{zeros-are, opened-of}
+use Rattle.multigrid.specs.Contract.{cellsAt, cellsOf, tableOf, tableBuilt, CellsOk, BuildRan}
+use Rattle.multigrid.proofs.building.Reading.{cells-are}
 
 -- ---- the answer
-
--- An accepted build was lent a record for each level that its controls allow.
-records-enough : (l : Lent) (x : Input) {h : Hierarchy} → buildOf l x ≡ accepted h → x .options .«max_levels» ≤ l .records
-unfolding buildOf
-records-enough l x e =
-    let o = x .options in
-    let a = then-split (matrixAsked (x .rows) (x .offsets) (x .columns) (x .values)) _ e in
-    let b = then-split (cond (x .given) (weightsAsked (entries (patternIn x)) (x .weights)) passed) _ (a .2) in
-    let c = then-split (controlsAsked o) _ (b .2) in
-    let rows = ask-split (leb 1 (x .rows)) noRows _ (c .2) in
-    let room = ask-split (holds (l .stores) (fixedIn x) && leb (o .«max_levels») (l .records)) storeTooSmall _ (rows .1) in
-    leb-true (o .«max_levels») (l .records) (both-r (holds (l .stores) (fixedIn x)) _ (room .0))
 
 -- Only an accepted build answers with a handle, and with its own,
 pub made-is : (x : Input) {h : Handle} (out : Outcome Hierarchy) → Built.Made h ≡ builtOf x out
@@ -60,34 +37,48 @@ pub refused-is : (x : Input) {q : Refusal} (out : Outcome Hierarchy) → Built.R
 refused-is x (accepted k) e = absurd (let none : _≡_ {A = ℕ} 0 1 = cc in omega arith)
 refused-is x (refused q) e = cc
 
--- ---- the statistics
+-- ---- the levels
 
--- What is published of an answer are the statistics of its hierarchy; of a refusal zeros.
-published-is : (n : ℕ) (z : List ℕ) (G : List Float) (x : Input) {built : Built} (out : Outcome Hierarchy) → built ≡ builtOf x out
-    → ((k : Hierarchy) → out ≡ accepted k → viewOf (length (k .levels)) z G 0 ≡ k) → publishedOf n z built ≡ statisticsOf n out
-unfolding statisticsOf publishedOf viewOf
-published-is n z G x (accepted k) e view = rw e
-    (ap (λ (v : List ℕ). lay v (filled n 0)) (fresh-is (length (k .levels)) z G 0 0 ∙ ap (λ (k : Hierarchy). freshOf (k .levels)) (view k refl)))
-published-is n z G x (refused q) e view = rw e refl
+module _ {w z : List ℕ} {F G : List Float} {records : ℕ} {x : Input} {r : Built} (d : BuildDone w z F G x records r) where
+  -- A build has at most 128 levels, and a record was lent for each.
+  pub levels-few : (k : Hierarchy) → buildOf (lentOf w F records) x ≡ accepted k → (length (k .levels) ≤ 128) × (length (k .levels) ≤ records)
+  levels-few k e =
+      let o = opened-of (handleOf x k) z (length G) records
+      (built-sound (lentOf w F records) x e z G (d .view k e) (d .fits k e) (d .wordsize) (d .floatsize)) in
+      (o .0 .deep, o .1)
 
-module _ {w z : List ℕ} {F G : List Float} {x : Input} {built : Built} where
-  -- The levels of a handle can be published in as many words of statistics as the build had records for.
-  pub levels-fit : {size : ℕ} → BuildDone w z F G x (size / 4) built → LevelsFit z size built
-  levels-fit {size} d = record {
-    made = λ h e.
-        let l = lentOf w F (size / 4) in
-        let m = made-is x (buildOf l x) (sym e ∙ d .answer) in
-        let levels : h .levels ≡ length (m .0 .levels) = ap (λ (k : Handle). k .levels) (m .2) in
-        let few = build-levels l x (m .1) .few in
-        let enough = records-enough l x (m .1) in
-        record { fits = rw levels (d .fits (m .0) (m .1)); room = omega arith };
-  }
+  -- The rows of a handle's levels can be read.
+  pub cells-ok : {h : Handle} → r ≡ Built.Made h → CellsOk z (h .levels)
+  cells-ok {h} e =
+      let m = made-is x (buildOf (lentOf w F records) x) (sym e ∙ d .answer) in
+      let levels : h .levels ≡ length (m .0 .levels) = ap (λ (k : Handle). k .levels) (m .2) in
+      record { fits = rw levels (d .fits (m .0) (m .1)); few = rw levels (levels-few (m .0) (m .1) .0) }
 
-  -- A build and then its statistics.
-  pub with-done : {s t : List ℕ} {r : Built} → BuildDone w z F G x (length s / 4) built → Published z s t built r → NewDone w z F G s t x r
-  with-done {s} {r = r} d p =
-      let done : BuildDone w z F G x (length s / 4) r = rw (p .answer) d in
-      record { built = done; statistics = p .statistics ∙ published-is (length s) z G x (buildOf (lentOf w F (length s / 4)) x) (d .answer) (d .view) }
+  -- The answer as it is told.
+  told : {b : Built} → r ≡ b → BuildDone w z F G x records b
+  told e = rw e at d
+
+  -- Rows that were read are those of the hierarchy.
+  pub ran-made : {h : Handle} {table : List ℕ} → r ≡ Built.Made h → table ≡ tableOf (cellsAt (h .levels) z 0)
+      → BuildRan w z F G records x (record { answer = Built.Made h; cells = table })
+  unfolding tableBuilt viewOf
+  ran-made {h} {table} e rows =
+      let m = made-is x (buildOf (lentOf w F records) x) (sym e ∙ d .answer) in
+      let levels : h .levels ≡ length (m .0 .levels) = ap (λ (k : Handle). k .levels) (m .2) in
+      let n = length (m .0 .levels) in
+      record {
+        built = told e;
+        cells = rows ∙ ap (λ (k : ℕ). tableOf (cellsAt k z 0)) levels ∙ ap tableOf (cells-are n z G 0 0)
+            ∙ ap (λ (k : Hierarchy). tableOf (cellsOf (k .levels))) (d .view (m .0) (m .1)) ∙ sym (ap tableBuilt (m .1));
+      }
+
+  -- Where the build refuses there are none.
+  pub ran-refused : {q : Refusal} {table : List ℕ} → r ≡ Built.Refused q → table ≡ replicate 128 0
+      → BuildRan w z F G records x (record { answer = Built.Refused q; cells = table })
+  unfolding tableBuilt
+  ran-refused {q} e zeros =
+      let none = refused-is x (buildOf (lentOf w F records) x) (sym e ∙ d .answer) in
+      record { built = told e; cells = zeros ∙ zeros-are 128 ∙ sym (ap tableBuilt none) }
 
 -- ---- weights that are not given
 
@@ -111,9 +102,10 @@ module _ (rows : ℕ) (offsets columns : List ℕ) (values weights : List Float)
   answer-unread (refused q) = refl
 
   -- nor what it leaves.
-  pub new-done : {w z : List ℕ} {F G : List Float} {s t : List ℕ} {r : Built} → NewDone w z F G s t with-some r → NewDone w z F G s t with-none r
-  new-done {w} {z} {F} {G} {s} {t} {r} d =
-      let l = lentOf w F (length s / 4) in
+  pub ran-unweighted : {w z : List ℕ} {F G : List Float} {records : ℕ} {run : BuildRun} → BuildRan w z F G records with-some run
+      → BuildRan w z F G records with-none run
+  ran-unweighted {w} {z} {F} {G} {records} {run} d =
+      let l = lentOf w F records in
       let same = weights-unread l in
       let b = d .built in
       record {
@@ -127,5 +119,5 @@ module _ (rows : ℕ) (offsets columns : List ℕ) (values weights : List Float)
           wordsize = b .wordsize;
           floatsize = b .floatsize;
         };
-        statistics = d .statistics ∙ ap (statisticsOf (length s)) same;
+        cells = d .cells ∙ ap tableBuilt same;
       }

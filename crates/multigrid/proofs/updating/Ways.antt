@@ -3,7 +3,7 @@
 use mathlib.Core.Path.{_≡_, refl}
 use mathlib.Core.Bool.{true, false}
 use mathlib.Core.List.{List}
-use Prim.Native.Nat.{ℕ, _/_}
+use Prim.Native.Nat.{ℕ}
 use lib.ListN.{length}
 use lib.Ieee.{Float}
 use Rattle.store.proofs.store.Region.{kept-self}
@@ -17,18 +17,18 @@ use Rattle.update.specs.Contract.{updatedAt, UpdateDone}
 use Rattle.multigrid.specs.UpdatingCall.{updatedOf, UpdateCall}
 
 -- The index check passes: the update of the hierarchy in the stores.
-pub update-sound : {h : Handle} {w : List ℕ} {F G : List Float} {t offsets columns : List ℕ} {values : List Float} {r : Updated}
-    → soundOf h w (length F) (length t / 4) ≡ true → UpdateDone h w F G (updatedAt h w F offsets columns values) r
-    → UpdateCall h w F G t offsets columns values r
+pub update-sound : {h : Handle} {w : List ℕ} {F G : List Float} {records : ℕ} {offsets columns : List ℕ} {values : List Float} {r : Updated}
+    → soundOf h w (length F) records ≡ true → UpdateDone h w F G (updatedAt h w F offsets columns values) r
+    → UpdateCall h w F G records offsets columns values r
 update-sound e d = record { done = rw e d; unsound = λ f. absurd (not-both e f) }
 
 -- It does not: nothing is written.
-pub update-unsound : {h : Handle} {w : List ℕ} {F : List Float} {t offsets columns : List ℕ} {values : List Float}
-    → soundOf h w (length F) (length t / 4) ≡ false → UpdateCall h w F F t offsets columns values (Updated.Refused unsoundStores)
+pub update-unsound : {h : Handle} {w : List ℕ} {F : List Float} {records : ℕ} {offsets columns : List ℕ} {values : List Float}
+    → soundOf h w (length F) records ≡ false → UpdateCall h w F F records offsets columns values (Updated.Refused unsoundStores)
 update-unsound e = record { done = rw e (record { answer = refl; view = refl; kept = λ _ _. kept-self; size = refl }); unsound = λ _. refl }
 
 -- No update depends on a scratch word: of two stores of one size with the same hierarchy, each gives the other's answer and hierarchy.
-pub update-free : (h : Handle) (w : List ℕ) (F G : List Float) (t offsets columns : List ℕ) (values : List Float)
+pub update-free : (h : Handle) (w : List ℕ) (F G : List Float) (records : ℕ) (offsets columns : List ℕ) (values : List Float)
     → length G ≡ length F → viewOf (h .levels) w G 0 ≡ viewOf (h .levels) w F 0
-    → updatedOf h w G t offsets columns values ≡ updatedOf h w F t offsets columns values
-update-free h w F G t offsets columns values size view = rw (size, view)
+    → updatedOf h w G records offsets columns values ≡ updatedOf h w F records offsets columns values
+update-free h w F G records offsets columns values size view = rw (size, view)

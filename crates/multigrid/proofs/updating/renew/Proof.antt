@@ -1,11 +1,11 @@
--- `update_values` asks the index check, and then updates.
+-- `updating::renew` asks the index check, and then updates.
 -- Assumes nothing.
 use mathlib.Core.Path.{sym, _∙_}
 use Rattle.update.proofs.refresh.Sounding.{update-ready}
 use Rattle.multigrid.proofs.updating.Ways.{update-sound, update-unsound}
 use borrow.Author.Needs.{needs}
-use Rattle.multigrid.proofs.updating.update_values.Statement.{statement}
-use Rattle.multigrid.proofs.updating.update_values.Tie as tie
+use Rattle.multigrid.proofs.updating.renew.Statement.{statement}
+use Rattle.multigrid.proofs.updating.renew.Tie as tie
 
 update-requires : tie.Need-update-requires
 update-requires c κs = update-ready _ _ _ _ (sym (c .before .before .check .ensures) ∙ c .before .if1 .taken)
@@ -16,6 +16,6 @@ returns c = update-sound (sym (c .before .before .before .before .before .check 
 returns-2 : tie.Need-returns-2
 returns-2 c = update-unsound (sym (c .before .check .ensures) ∙ c .if1 .left)
 
-pub update-values-spec : {M : Type 1} → statement M
-update-values-spec =
+pub renew-spec : {M : Type 1} → statement M
+renew-spec =
     tie.close (tie.spec (λ c κs. search needs) update-requires (λ c. search needs) returns returns-2)

@@ -1,0 +1,28 @@
+-- `solving::run` asks the index check, and then solves.
+-- Assumes nothing.
+use mathlib.Core.Path.{sym, _∙_}
+use Rattle.multigrid.proofs.solving.Ways.{solve-opened, ran-sound, ran-unsound}
+use borrow.Author.Needs.{needs}
+use Rattle.multigrid.proofs.solving.run.Statement.{statement}
+use Rattle.multigrid.proofs.solving.run.Tie as tie
+
+solve-requires : tie.Need-solve-requires
+solve-requires c κs = solve-opened _ (sym (c .before .before .before .check .ensures) ∙ c .before .before .if1 .taken)
+
+returns : tie.Need-returns
+returns c = ran-sound (sym (c .before .before .before .before .before .before .before .before .check .ensures) ∙ c .before .before .before .before .before .before .before .if1 .taken) (c .before .before .before .before .solve .ensures)
+
+returns-2 : tie.Need-returns-2
+returns-2 c = ran-unsound (sym (c .before .before .check .ensures) ∙ c .before .if1 .left) (c .refused .ensures)
+
+pub run-spec : {M : Type 1} → statement M
+run-spec =
+    tie.close
+    (tie.spec
+    (λ c κs. search needs)
+    solve-requires
+    (λ c. search needs)
+    (λ c. search needs)
+    returns
+    (λ c κs. search needs)
+    returns-2)
