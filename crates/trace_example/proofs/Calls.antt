@@ -4,7 +4,7 @@
 use mathlib.Core.Path.{_≡_, refl, sym, ap, _∙_}
 use mathlib.Core.Bool.{true}
 use mathlib.Core.List.{List, [], _∷_, _++_}
-use Prim.Native.Nat.{ℕ, _/_}
+use Prim.Native.Nat.{ℕ}
 use native.Mathlib.Omega.{arith}
 use lib.ListN.{length}
 use lib.Ieee.{Float}
@@ -27,18 +27,21 @@ use Rattle.index_check.specs.Sound.{soundOf}
 use Rattle.solver.specs.declared.answers.Built.{Built}
 use Rattle.solver.specs.declared.answers.Solved.{Solved}
 use Rattle.solver.specs.declared.answers.Updated.{Updated}
+use Rattle.solver.specs.declared.statistics.MultigridLevelStatistics.{MultigridLevelStatistics}
+use Rattle.solver.specs.Statistics.{unvisited}
 use Rattle.build.specs.Contract.{handleOf, lentOf}
 use Rattle.iterations.specs.Iteration.{systemOf}
 use Rattle.iterations.specs.Iterate.{Solution, answerOf}
-use Rattle.solve.specs.Solve.{solveOf}
-use Rattle.solve.specs.Contract as solve
-use Rattle.solve.proofs.Counters.{same-answer, same-solution}
+use Rattle.solve.specs.Solve.{uncounted, solveOf}
+use Rattle.solve.specs.Contract.{solutionOf}
 use Rattle.update_levels.specs.Update.{updateOf}
 use Rattle.multigrid.specs.New.{NewDone, statisticsOf}
 use Rattle.multigrid.specs.UpdatingCall.{updatedOf, UpdateCall}
-use Rattle.multigrid.specs.SolvingCall.{solvedOf, SolveCall}
+use Rattle.multigrid.specs.SolvingCall.{solvedOf, recordsOf, SolveCall}
 use Rattle.multigrid.specs.Trace.{Trace, withValues, Agrees}
 use Rattle.multigrid.proofs.Trace.{new-sound, refreshed-is-fresh}
+use Rattle.multigrid.proofs.building.Publishing.{build-length}
+use Rattle.multigrid.proofs.solving.Counting.{solve-length}
 use Rattle.trace_example.specs.Calls.{Answer, Example, calls}
 
 -- ---- stores that hold a hierarchy, and zeros wherever else
@@ -70,16 +73,16 @@ module _ (e : Example) where
   floatsFor h = lay (allLevels levelFloats (h .levels) ++ h .sums) (filled (e .floats) zero64)
 
   -- the statistics lent
-  abbrev pub statisticsLent : List ℕ
-  statisticsLent = filled (e .statistics) 0
+  abbrev pub statisticsLent : List MultigridLevelStatistics
+  statisticsLent = filled (e .statistics) (unvisited 0)
 
   -- what is lent: words and floats of zeros
   abbrev pub lent : Lent
-  lent = lentOf (filled (e .words) 0) (filled (e .floats) zero64) (length statisticsLent / 4)
+  lent = lentOf (filled (e .words) 0) (filled (e .floats) zero64) (length statisticsLent)
 
-  -- an accepted solve, whose counters nobody looks at
+  -- an accepted solve, its counts in a table with room for every level
   abbrev pub given : Answer → Outcome Solution
-  given a = accepted (record { report = a .report; x = a .solution; counts = [] })
+  given a = accepted (record { report = a .report; x = a .solution; counts = lay (a .counts) uncounted })
 
 -- What is left to an example, whose builds from the first and from the accepted values make these hierarchies.
 pub record Computes (e : Example) (before after : Hierarchy) : Type 0 where
@@ -92,13 +95,8 @@ pub record Computes (e : Example) (before after : Hierarchy) : Type 0 where
   pub heads : headsAt (length (before .levels)) (wordsFor e before) 0 ≡ headsOf (before .levels)
   pub refuses : updateOf (e .input .options) (shapesIn (before .levels)) (e .input .offsets) (e .input .columns) (e .wrong) ≡ refused (e .refusal)
   pub accepts : updateOf (e .input .options) (shapesIn (before .levels)) (e .input .offsets) (e .input .columns) (e .right) ≡ accepted after
-  pub solves : solveOf (systemOf (e .input .options) before) (e .asked) (e .rhs) (e .start) [] ≡ given e (e .before)
-  pub solved : solveOf (systemOf (e .input .options) after) (e .asked) (e .rhs) (e .start) [] ≡ given e (e .after)
-
--- A solve keeps the length of the statistics.
-solve-length : (levels : ℕ) (t : List ℕ) (out : Outcome Solution) → length (solve.statisticsOf levels t out) ≡ length t
-solve-length levels t (accepted v) = length-lay _ t
-solve-length levels t (refused q) = refl
+  pub solves : solveOf (systemOf (e .input .options) before) (e .asked) (e .rhs) (e .start) ≡ given e (e .before)
+  pub solved : solveOf (systemOf (e .input .options) after) (e .asked) (e .rhs) (e .start) ≡ given e (e .after)
 
 module _ {e : Example} {before after : Hierarchy} (c : Computes e before after) where
   -- the handle of the build
@@ -137,64 +135,59 @@ module _ {e : Example} {before after : Hierarchy} (c : Computes e before after) 
 
   -- Its statistics are as long as they were.
   statistics-size : length (statisticsOf (length (statisticsLent e)) (accepted before)) ≡ length (statisticsLent e)
-  unfolding statisticsOf
-  statistics-size = length-lay _ _ ∙ length-tab (λ _. 0) (length (statisticsLent e))
+  statistics-size = build-length (length (statisticsLent e)) (accepted before)
 
   -- Stores of those sizes pass question 19.
-  sound : (h : Hierarchy) (t : List ℕ) → length t ≡ length (statisticsLent e) → soundOf handle words (length (floats h)) (length t / 4) ≡ true
+  sound : (h : Hierarchy) (t : List MultigridLevelStatistics) → length t ≡ length (statisticsLent e) → soundOf handle words (length (floats h)) (length t) ≡ true
   sound h t size =
       let first = new-sound new-done in
       rw (floats-size h, size) (rw (floats-size before, statistics-size) at first)
 
   -- ---- a call
 
-  module _ (h : Hierarchy) (v : viewOf (handle .levels) words (floats h) 0 ≡ h) (t : List ℕ) (n : length t ≡ length (statisticsLent e)) where
+  module _ (h : Hierarchy) (v : viewOf (handle .levels) words (floats h) 0 ≡ h) (t : List MultigridLevelStatistics) (n : length t ≡ length (statisticsLent e)) where
     -- the solve's outcome
     abbrev outcome : Outcome Solution
-    outcome = solvedOf handle words (floats h) t (e .rhs) (e .start) (e .asked)
+    outcome = solvedOf handle words (floats h) (length t) (e .rhs) (e .start) (e .asked)
 
     -- It is one of the hierarchy.
-    outcome-is : outcome ≡ solveOf (systemOf (e .input .options) h) (e .asked) (e .rhs) (e .start) (solve.countersOf (handle .levels) t)
+    outcome-is : outcome ≡ solveOf (systemOf (e .input .options) h) (e .asked) (e .rhs) (e .start)
     outcome-is = ask-yes _ unsoundStores _ (sound h t n)
-        ∙ ap (λ (b : Hierarchy). solveOf (systemOf (e .input .options) b) (e .asked) (e .rhs) (e .start) (solve.countersOf (handle .levels) t)) v
+        ∙ ap (λ (b : Hierarchy). solveOf (systemOf (e .input .options) b) (e .asked) (e .rhs) (e .start)) v
 
     -- A solve can be made.
-    solve-made : (a : Answer) → solveOf (systemOf (e .input .options) h) (e .asked) (e .rhs) (e .start) [] ≡ given e a
-        → SolveCall handle words (floats h) (floats h) t (solve.statisticsOf (handle .levels) t outcome) (e .rhs) (e .start) (a .solution) (e .asked) (Solved.Report (a .report))
+    solve-made : (a : Answer) → solveOf (systemOf (e .input .options) h) (e .asked) (e .rhs) (e .start) ≡ given e a
+        → SolveCall handle words (floats h) (floats h) t (recordsOf (handle .levels) t outcome) (e .rhs) (e .start) (a .solution) (e .asked) (Solved.Report (a .report))
     solve-made a k =
-        let y = systemOf (e .input .options) h in
-        let counters = solve.countersOf (handle .levels) t in
         record {
-          done = record {
-            answer = sym (ap answerOf outcome-is ∙ same-answer y (e .asked) (e .rhs) (e .start) counters [] ∙ ap answerOf k);
-            solution = sym (ap (solve.solutionOf (e .start)) outcome-is ∙ same-solution y (e .asked) (e .rhs) (e .start) counters [] ∙ ap (solve.solutionOf (e .start)) k);
-            statistics = refl;
-            floats = record { below = refl; size = refl };
-          };
+          answer = sym (ap answerOf (outcome-is ∙ k));
+          solution = sym (ap (solutionOf (e .start)) (outcome-is ∙ k));
+          statistics = refl;
+          floats = record { below = refl; size = refl };
           view = refl;
           unsound = λ _. refl;
         }
 
     -- It keeps the length of the statistics.
-    solve-size : length (solve.statisticsOf (handle .levels) t outcome) ≡ length (statisticsLent e)
+    solve-size : length (recordsOf (handle .levels) t outcome) ≡ length (statisticsLent e)
     solve-size = solve-length (handle .levels) t outcome ∙ n
 
     -- An update is one of the hierarchy's shapes.
-    update-is : (values : List Float) → updatedOf handle words (floats h) t (e .input .offsets) (e .input .columns) values
+    update-is : (values : List Float) → updatedOf handle words (floats h) (length t) (e .input .offsets) (e .input .columns) values
         ≡ updateOf (e .input .options) (shapesIn (h .levels)) (e .input .offsets) (e .input .columns) values
     update-is values = ask-yes _ unsoundStores _ (sound h t n)
         ∙ ap (λ (b : Hierarchy). updateOf (e .input .options) (shapesIn (b .levels)) (e .input .offsets) (e .input .columns) values) v
 
   -- The update that is refused can be made,
-  refused-update : (t : List ℕ) → length t ≡ length (statisticsLent e)
-      → UpdateCall handle words (floats before) (floats before) t (e .input .offsets) (e .input .columns) (e .wrong) (Updated.Refused (e .refusal))
+  refused-update : (t : List MultigridLevelStatistics) → length t ≡ length (statisticsLent e)
+      → UpdateCall handle words (floats before) (floats before) (length t) (e .input .offsets) (e .input .columns) (e .wrong) (Updated.Refused (e .refusal))
   refused-update t n =
       let is = update-is before (c .view) t n (e .wrong) ∙ c .refuses in
       record { done = record { answer = rw is refl; view = rw is refl; kept = λ q k. record { below = refl; size = refl }; size = refl }; unsound = λ _. refl }
 
   -- and so can the one that is accepted.
-  accepted-update : (t : List ℕ) → length t ≡ length (statisticsLent e)
-      → UpdateCall handle words (floats before) (floats after) t (e .input .offsets) (e .input .columns) (e .right) Updated.Done
+  accepted-update : (t : List MultigridLevelStatistics) → length t ≡ length (statisticsLent e)
+      → UpdateCall handle words (floats before) (floats after) (length t) (e .input .offsets) (e .input .columns) (e .right) Updated.Done
   accepted-update t n =
       let is = update-is before (c .view) t n (e .right) ∙ c .accepts in
       record {
@@ -214,9 +207,9 @@ module _ {e : Example} {before after : Hierarchy} (c : Computes e before after) 
   pub calls-made : Trace handle words (floats before) (statisticsOf (length (statisticsLent e)) (accepted before)) (calls e)
   calls-made =
       let t = statisticsOf (length (statisticsLent e)) (accepted before) in
-      let u = solve.statisticsOf (handle .levels) t (outcome before (c .view) t statistics-size) in
+      let u = recordsOf (handle .levels) t (outcome before (c .view) t statistics-size) in
       let n = solve-size before (c .view) t statistics-size in
-      let w = solve.statisticsOf (handle .levels) u (outcome before (c .view) u n) in
+      let w = recordsOf (handle .levels) u (outcome before (c .view) u n) in
       let m = solve-size before (c .view) u n in
       Trace.solve (solve-made before (c .view) t statistics-size (e .before) (c .solves))
       (Trace.update (refused-update u n)

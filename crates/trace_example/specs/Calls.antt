@@ -10,15 +10,16 @@ use Rattle.solver.specs.declared.answers.Updated.{Updated}
 use Rattle.hierarchy.specs.Build.{Input}
 use Rattle.multigrid.specs.Trace.{Event, updated, solved}
 
--- a solve's report and its solution
+-- a solve's report, its solution and what it counted, three numbers to a level
 pub record Answer : Type 0 where
   pub report : LinearSolveReport
   pub solution : List Float
+  pub counts : List ℕ
 
 -- a build in lent stores of zeros, values that an update refuses and others that it accepts, and a solve with its answer before and after
 pub record Example : Type 0 where
   pub input : Input
-  -- so many words, floats and words of statistics are lent
+  -- so many words, floats and records of statistics are lent
   pub words : ℕ
   pub floats : ℕ
   pub statistics : ℕ

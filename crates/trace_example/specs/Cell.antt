@@ -51,7 +51,7 @@ input = record {
   options = controls;
 }
 
--- converged after one iteration, from a residual of 1 to zero
+-- converged after one iteration, from a residual of 1 to zero, with one visit
 abbrev pub converged : List Float → Answer
 converged x = record {
   report = record {
@@ -62,6 +62,7 @@ converged x = record {
     «relative_residual» = zero64;
   };
   solution = x;
+  counts = 1 ∷ 0 ∷ 0 ∷ [];
 }
 
 -- A solve for 1, from zero, down to half of the first residual, in five iterations at most. An update to the coefficient 0 is refused by
@@ -71,7 +72,7 @@ cell = record {
   input = input;
   words = 109;
   floats = 45;
-  statistics = 4;
+  statistics = 1;
   wrong = zero64 ∷ [];
   refusal = badDiagonal 0 0;
   right = two ∷ [];

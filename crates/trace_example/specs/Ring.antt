@@ -59,7 +59,8 @@ input = record {
 abbrev pub floatsOf : List ℕ → List Float
 floatsOf bits = map (ofBits binary64) bits
 
--- converged after so many iterations, with these three residuals and this solution, by their bits
+-- converged after so many iterations, with these three residuals and this solution, by their bits; each iteration visits both levels and makes
+-- one sweep on the finest
 abbrev pub converged : ℕ → ℕ → ℕ → ℕ → List ℕ → Answer
 converged iterations initial last relative x = record {
   report = record {
@@ -70,6 +71,7 @@ converged iterations initial last relative x = record {
     «relative_residual» = ofBits binary64 relative;
   };
   solution = floatsOf x;
+  counts = iterations ∷ iterations ∷ 0 ∷ iterations ∷ 0 ∷ 0 ∷ [];
 }
 
 -- A solve for 8, 0, 0, 0 from 1, 0, 0, 0, down to a 256th of the first residual, in five iterations at most. An update to diagonal 4 and −2 at
@@ -79,7 +81,7 @@ ring = record {
   input = input;
   words = 382;
   floats = 340;
-  statistics = 8;
+  statistics = 2;
   wrong = ringOf (pos 4) (negℤ (pos 2)) (negℤ (pos 2));
   refusal = badPivot 1 1;
   right = ringOf (pos 8) (negℤ (pos 2)) (negℤ (pos 1));
