@@ -5,6 +5,7 @@ mod calls;
 pub mod lent;
 mod options;
 mod refusal;
+mod sentences;
 mod solver;
 
 use lent::Charge;

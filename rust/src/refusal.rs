@@ -1,5 +1,6 @@
 //! Why a call refuses: one case for each question, named as in crates/refusal.
 
+use crate::sentences::SENTENCES;
 use std::error::Error;
 use std::fmt::{Display, Formatter, Result as Written};
 
@@ -140,54 +141,9 @@ impl Refusal {
         self.place().map_or(0, |(_, row)| row)
     }
 
-    fn sentence(self) -> &'static str {
-        match self {
-            Self::TooLarge => "there are more than 65,536 rows or 1,048,576 entries",
-            Self::BadOffsets => {
-                "the offsets do not rise from 0 to the number of entries, one more than rows, or there are not as many values as columns"
-            }
-            Self::BadColumns => {
-                "the columns of a row do not rise, or one is not below the number of rows"
-            }
-            Self::WeightCount => "there are not as many weights as entries",
-            Self::BadWeight => "a weight is not finite or below zero",
-            Self::InvalidControls => "the controls are outside their ranges",
-            Self::NotCholesky => "the coarse solver is not Cholesky",
-            Self::NoRows => "there is no row",
-            Self::StoreTooSmall => "the stores or the statistics are too small",
-            Self::UnequalMirrors => {
-                "the matrix is not symmetric, or a value off its diagonal is not finite"
-            }
-            Self::MissingDiagonal { .. } => "a diagonal entry is missing",
-            Self::BadDiagonal { .. } => "a diagonal is not finite or not above zero",
-            Self::BadReciprocal { .. } => "the reciprocal of a diagonal is not finite",
-            Self::TooManyCoupled => {
-                "more rows are coupled on the last level than coarsest_cells allows"
-            }
-            Self::BadPivot { .. } => "a Cholesky pivot is not finite or not above zero",
-            Self::BadDicPivot { .. } => "a DIC pivot is not finite or not above zero",
-            Self::BadDicReciprocal { .. } => "the reciprocal of a DIC pivot is not finite",
-            Self::BadCoarseValue => "a Galerkin value is not finite",
-            Self::UnsoundStores => "the stores do not hold a hierarchy of this handle",
-            Self::WrongLength => {
-                "the right-hand side or the solution has not as many elements as there are rows"
-            }
-            Self::BadInput => {
-                "the iteration limit is zero, a tolerance is not finite or below zero, or a vector is not finite"
-            }
-            Self::BadNormalization => "the normalization is not finite",
-            Self::BadResidual => "the norm of a residual is not finite",
-            Self::BadCoarseSolution => "the solution of the last level is not finite",
-            Self::BadSmootherOutput => "what the smoother gives is not finite",
-            Self::BadCorrectionProduct => "a product of a correction is not finite",
-            Self::BadCorrectionScale => "the scale of a correction is not finite",
-            Self::BadDotProduct => "a dot product of the accelerator is not finite",
-            Self::ZeroImage => "the image of a correction is zero",
-            Self::BadDirection => "a direction of the accelerator is not finite",
-            Self::OtherPattern => {
-                "offsets or columns are not those of the build, or there are not as many values as columns"
-            }
-        }
+    /// What is wrong, in words.
+    pub fn sentence(self) -> &'static str {
+        SENTENCES[self.number() as usize]
     }
 }
 
