@@ -6,7 +6,7 @@ use options::MultigridOptions;
 use options::MultigridResidualNorm;
 use options::MultigridSmoother;
 
-pub fn smoother_of(number: u8) -> MultigridSmoother
+pub fn smoother_of(number: u64) -> MultigridSmoother
     ensures { λ r. ⌜ r ≡ smootherOf number ⌝ }
 {
     if number == 0 {
@@ -18,7 +18,7 @@ pub fn smoother_of(number: u8) -> MultigridSmoother
     }
 }
 
-pub fn residual_norm_of(number: u8) -> MultigridResidualNorm
+pub fn residual_norm_of(number: u64) -> MultigridResidualNorm
     ensures { λ r. ⌜ r ≡ residualNormOf number ⌝ }
 {
     if number == 0 {
@@ -28,7 +28,7 @@ pub fn residual_norm_of(number: u8) -> MultigridResidualNorm
     }
 }
 
-pub fn coarse_solver_of(number: u8) -> MultigridCoarseSolver
+pub fn coarse_solver_of(number: u64) -> MultigridCoarseSolver
     ensures { λ r. ⌜ r ≡ coarseSolverOf number ⌝ }
 {
     if number == 0 {
@@ -63,8 +63,8 @@ pub fn options_of(
         «coarse_relative_tolerance» «coarse_max_iterations» «scale_correction» ⌝ }
 {
     MultigridOptions {
-        smoother: smoother_of(smoother),
-        residual_norm: residual_norm_of(residual_norm),
+        smoother: smoother_of(smoother as u64),
+        residual_norm: residual_norm_of(residual_norm as u64),
         pre_sweeps: pre_sweeps,
         post_sweeps: post_sweeps,
         finest_sweeps: finest_sweeps,
@@ -74,7 +74,7 @@ pub fn options_of(
         max_levels: max_levels,
         merge_levels: merge_levels,
         krylov_dimension: krylov_dimension,
-        coarse_solver: coarse_solver_of(coarse_solver),
+        coarse_solver: coarse_solver_of(coarse_solver as u64),
         coarse_absolute_tolerance: coarse_absolute_tolerance,
         coarse_relative_tolerance: coarse_relative_tolerance,
         coarse_max_iterations: coarse_max_iterations,

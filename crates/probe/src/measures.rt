@@ -29,7 +29,7 @@ pub extern "C" fn probe_measure(
         ≡ writtenOf (measureOf (residualNormOf norm) n (part residual n (now (f .entry))) factor) (now (out .entry)) ⌝ }
 {
     tell(
-        measure::measure(f, n, residual, residual_norm_of(norm), factor),
+        measure::measure(f, n, residual, residual_norm_of(norm as u64), factor),
         out,
     )
 }
@@ -48,7 +48,15 @@ pub extern "C" fn probe_normalization(
     ensures { λ r. ⌜ r ≡ normalizationOf (residualNormOf norm) n (part x n (now (f .entry))) (part rhs n (now (f .entry)))
         (part product n (now (f .entry))) (part rowsums n (now (f .entry))) ⌝ }
 {
-    normalization::normalization(f, n, x, rhs, product, rowsums, residual_norm_of(norm))
+    normalization::normalization(
+        f,
+        n,
+        x,
+        rhs,
+        product,
+        rowsums,
+        residual_norm_of(norm as u64),
+    )
 }
 
 #[no_mangle]

@@ -156,7 +156,7 @@ pub extern "C" fn probe_smooth(
         neighbors: neighbors,
         coefficients: coefficients,
     };
-    let smoother = smoother_of(kind);
+    let smoother = smoother_of(kind as u64);
     answer(
         smoother::smooth(w, f, s, dic, smoother, rhs, x, work, correction, sweeps),
         place,
