@@ -5,17 +5,19 @@ use mathlib.Core.Path.{_≡_, refl}
 use mathlib.Core.Bool.{Bool, true, false, cond, _&&_}
 use Prim.Native.Nat.{ℕ}
 use lib.Dec.{leb}
+use lib.Ieee.{round, ofBits, lt}
 use Rattle.refusal.specs.Refusal.{invalidControls}
-use Rattle.refusal.specs.Outcome.{refused}
+use Rattle.refusal.specs.Outcome.{refused, passed}
+use Rattle.float.specs.Float.{isFinite}
 use Rattle.options.specs.declared.options.Handle.{Handle}
 use Rattle.options.specs.declared.options.MultigridOptions.{MultigridOptions}
 use Rattle.options.specs.declared.options.MultigridSmoother.{MultigridSmoother}
 use Rattle.options.specs.declared.options.MultigridResidualNorm.{MultigridResidualNorm}
 use Rattle.options.specs.declared.options.MultigridCoarseSolver.{MultigridCoarseSolver}
-use Rattle.options.specs.Options.{within, tolerable, validOf, controlsAsked}
+use Rattle.options.specs.Options.{defaultOptions, within, tolerable, validOf, controlsAsked}
 use Rattle.solver.specs.declared.answers.Built.{Built}
 use Rattle.export.specs.Flat.{isSet, smootherOf, residualNormOf, coarseSolverOf}
-use Rattle.export.specs.Structs.{inRange, controlsOf, handleOf, smootherNumber, residualNormNumber, coarseSolverNumber, structOf, builtStruct}
+use Rattle.export.specs.Structs.{inRange, controlsOf, handleOf, smootherNumber, residualNormNumber, coarseSolverNumber, structOf, withCholesky, defaultStruct, builtStruct}
 use Rattle.export.specs.declared.structs.OptionsForC.{OptionsForC}
 
 -- ---- out of range
@@ -96,6 +98,15 @@ controls-back o =
       solver-back (o .«coarse_solver»),
       scale-back (o .«scale_correction»),
     )
+
+-- The defaults of C stand for those of options.rs with Cholesky, and pass questions 6 and 7.
+pub defaults-back : controlsOf defaultStruct ≡ withCholesky defaultOptions
+unfolding defaultStruct
+defaults-back = controls-back (withCholesky defaultOptions)
+
+pub defaults-pass : controlsAsked (controlsOf defaultStruct) ≡ passed
+unfolding defaultOptions validOf isFinite round ofBits lt
+defaults-pass = rw defaults-back
 
 -- The struct that a build answers with stands for the handle of that build.
 pub handle-back : (o : OptionsForC) (h : Handle) → h .options ≡ controlsOf o → handleOf (builtStruct o (Built.Made h) .hierarchy) ≡ h

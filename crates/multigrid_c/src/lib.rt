@@ -4,3 +4,4 @@ mod by_values;
 mod by_weights;
 mod calls;
 mod counts;
+mod sizes;
