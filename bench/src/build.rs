@@ -46,7 +46,7 @@ impl Build {
         };
         // A level has at most about half the rows of the one before, so three times the finest is enough.
         let charge = lent::Charge::most(&build.lent(), &build.options, 3);
-        build.stores = Stores::new(charge, build.options.max_levels);
+        build.stores = Stores::new(charge).expect("there is memory");
         build.test();
         build
     }

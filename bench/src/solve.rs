@@ -43,7 +43,7 @@ impl Built {
         let controls = library::options(&options);
         // A level has at most about half the rows of the one before, so three times the finest is enough.
         let charge = lent::Charge::most(&lent, &controls, 3);
-        let mut stores = Stores::new(charge, controls.max_levels);
+        let mut stores = Stores::new(charge).expect("there is memory");
         let handle = lent::build(lent, Some(&grid.weights), &controls, &mut stores);
         let theirs = AlgebraicMultigrid::new_with_face_weights(&matrix, &grid.weights, options);
         let mut random = Random::new(1);

@@ -147,7 +147,7 @@ const ASKED: LinearSolverOptions = LinearSolverOptions {
 fn calls(name: &str, mesh: &Mesh, options: &MultigridOptions, levels: u64) -> bool {
     let matrix = mesh.lent();
     let charge = lent::Charge::most(&matrix, options, levels);
-    let mut stores = Stores::new(charge, options.max_levels);
+    let mut stores = Stores::new(charge).expect("there is memory");
     let mut answer = None;
     let build = bytes(&mut || {
         answer = lent::build(matrix, Some(&mesh.weights), options, &mut stores).ok();

@@ -1,56 +1,49 @@
-//! Solves two systems: the matrix 4, -2; -2, 2, and the pressure on a grid of 32 by 32 cells.
+//! The pressure on a grid of 32 by 32 cells: built once, refreshed for ten steps with stronger coupling each time, and solved.
 
 use multigrid::{AlgebraicMultigrid, CsrMatrix, LinearSolverOptions, MultigridOptions, Refusal};
 
 const SIDE: usize = 32;
+const CELLS: usize = SIDE * SIDE;
+const STEPS: u32 = 10;
 
 fn main() -> Result<(), Refusal> {
-    let mut x = [0.0; 2];
+    let (offsets, columns, values) = grid(1.0);
     let matrix = CsrMatrix {
-        rows: 2,
-        row_offsets: &[0, 2, 4],
-        column_indices: &[0, 1, 0, 1],
-        values: &[4.0, -2.0, -2.0, 2.0],
-    };
-    press("two rows", matrix, &[2.0, 0.0], &mut x)?;
-    println!("x {} {}", x[0], x[1]);
-
-    let (offsets, columns, values) = grid();
-    let matrix = CsrMatrix {
-        rows: SIDE * SIDE,
+        rows: CELLS,
         row_offsets: &offsets,
         column_indices: &columns,
         values: &values,
     };
-    let mut x = [0.0; SIDE * SIDE];
-    press("grid of 32 by 32", matrix, &[1.0; SIDE * SIDE], &mut x)?;
-    println!("pressure in the middle {:.6}", x[x.len() / 2 + SIDE / 2]);
-    Ok(())
-}
-
-/// Builds a hierarchy, solves for the right-hand side from what `x` holds, and prints what came of it.
-fn press(name: &str, matrix: CsrMatrix<'_>, rhs: &[f64], x: &mut [f64]) -> Result<(), Refusal> {
     let mut solver = AlgebraicMultigrid::new(matrix, &MultigridOptions::default())?;
-    let report = solver.solve(rhs, x, LinearSolverOptions::default())?;
+    println!("{}", solver.hierarchy());
+    for step in 1..=STEPS {
+        let (_, _, values) = grid(1.0 + 0.5 * f64::from(step));
+        solver.update_values(CsrMatrix {
+            values: &values,
+            ..matrix
+        })?;
+    }
+    let mut x = [0.0; CELLS];
+    let report = solver.solve(&[1.0; CELLS], &mut x, LinearSolverOptions::default())?;
     println!(
-        "{name}: {:?} after {} iterations on {} levels, relative residual {:.1e}",
+        "{:?} after {} iterations, relative residual {:.1e}, pressure in the middle {:.6}",
         report.status,
         report.iterations,
-        solver.statistics().len(),
-        report.relative_residual
+        report.relative_residual,
+        x[CELLS / 2 + SIDE / 2]
     );
     Ok(())
 }
 
 /// Each cell exchanges with its neighbours; those at the border also with the outside.
-fn grid() -> (Vec<u32>, Vec<u32>, Vec<f64>) {
+fn grid(strength: f64) -> (Vec<u32>, Vec<u32>, Vec<f64>) {
     let (mut offsets, mut columns, mut values) = (vec![0], vec![], vec![]);
-    for row in 0..SIDE * SIDE {
+    for row in 0..CELLS {
         let (i, j) = (row / SIDE, row % SIDE);
         let mut entry = |inside: bool, column: usize, value: f64| {
             if inside {
                 columns.push(column as u32);
-                values.push(value);
+                values.push(value * strength);
             }
         };
         entry(i > 0, row.wrapping_sub(SIDE), -1.0);

@@ -1,8 +1,90 @@
 //! What crates/multigrid_c exports, declared for Rust; include/multigrid.h is the same for C. compare/ holds the three
 //! texts against one another.
 
+use crate::MultigridLevelStatistics;
+
+/// `struct multigrid_options`
+#[repr(C)]
+#[derive(Clone, Copy)]
+pub struct Options {
+    pub smoother: u64,
+    pub residual_norm: u64,
+    pub pre_sweeps: u64,
+    pub post_sweeps: u64,
+    pub finest_sweeps: u64,
+    pub sweep_level_multiplier: u64,
+    pub max_sweeps: u64,
+    pub coarsest_cells: u64,
+    pub max_levels: u64,
+    pub merge_levels: u64,
+    pub krylov_dimension: u64,
+    pub coarse_solver: u64,
+    pub coarse_absolute_tolerance: f64,
+    pub coarse_relative_tolerance: f64,
+    pub coarse_max_iterations: u64,
+    pub scale_correction: u64,
+}
+
+/// `struct multigrid_answer`
+#[repr(C)]
+#[derive(Clone, Copy)]
+pub struct Answer {
+    pub question: u64,
+    pub level: u64,
+    pub row: u64,
+}
+
+/// `struct multigrid_hierarchy`
+#[repr(C)]
+#[derive(Clone, Copy)]
+pub struct Hierarchy {
+    pub options: Options,
+    pub levels: u64,
+    pub rows: u64,
+    pub entries: u64,
+}
+
+/// `struct multigrid_built`
+#[repr(C)]
+#[derive(Clone, Copy)]
+pub struct Built {
+    pub answer: Answer,
+    pub hierarchy: Hierarchy,
+}
+
+/// `struct multigrid_report`
+#[repr(C)]
+#[derive(Clone, Copy)]
+pub struct Report {
+    pub answer: Answer,
+    pub converged: u64,
+    pub iterations: u64,
+    pub initial_residual: f64,
+    pub final_residual: f64,
+    pub relative_residual: f64,
+}
+
+/// `struct multigrid_count`
+#[repr(C)]
+#[derive(Clone, Copy)]
+pub struct Count {
+    pub answer: Answer,
+    pub levels: u64,
+}
+
+/// `struct multigrid_charge`
+#[repr(C)]
+#[derive(Clone, Copy)]
+pub struct Charge {
+    pub words: u64,
+    pub floats: u64,
+    pub statistics: u64,
+}
+
 #[link(name = "multigrid_c", kind = "static")]
-unsafe extern "C" {
+extern "C" {
+    pub fn multigrid_default_options() -> Options;
+    pub fn multigrid_charge(rows: u64, entries: u64, options: Options, levels: u64) -> Charge;
     pub fn multigrid_new(
         rows: usize,
         offsets: *const u32,
@@ -11,31 +93,14 @@ unsafe extern "C" {
         columns_length: usize,
         values: *const f64,
         values_length: usize,
-        smoother: u8,
-        residual_norm: u8,
-        pre_sweeps: u64,
-        post_sweeps: u64,
-        finest_sweeps: u64,
-        sweep_level_multiplier: u64,
-        max_sweeps: u64,
-        coarsest_cells: u64,
-        max_levels: u64,
-        merge_levels: u64,
-        krylov_dimension: u64,
-        coarse_solver: u8,
-        coarse_absolute_tolerance: f64,
-        coarse_relative_tolerance: f64,
-        coarse_max_iterations: u64,
-        scale_correction: u8,
+        options: Options,
         words: *mut u32,
         words_length: usize,
         floats: *mut f64,
         floats_length: usize,
-        statistics: *mut u64,
+        statistics: *mut MultigridLevelStatistics,
         statistics_length: usize,
-        place: *mut u64,
-        place_length: usize,
-    ) -> u64;
+    ) -> Built;
     pub fn multigrid_new_with_face_weights(
         rows: usize,
         offsets: *const u32,
@@ -46,51 +111,16 @@ unsafe extern "C" {
         values_length: usize,
         face_weights: *const f64,
         face_weights_length: usize,
-        smoother: u8,
-        residual_norm: u8,
-        pre_sweeps: u64,
-        post_sweeps: u64,
-        finest_sweeps: u64,
-        sweep_level_multiplier: u64,
-        max_sweeps: u64,
-        coarsest_cells: u64,
-        max_levels: u64,
-        merge_levels: u64,
-        krylov_dimension: u64,
-        coarse_solver: u8,
-        coarse_absolute_tolerance: f64,
-        coarse_relative_tolerance: f64,
-        coarse_max_iterations: u64,
-        scale_correction: u8,
+        options: Options,
         words: *mut u32,
         words_length: usize,
         floats: *mut f64,
         floats_length: usize,
-        statistics: *mut u64,
+        statistics: *mut MultigridLevelStatistics,
         statistics_length: usize,
-        place: *mut u64,
-        place_length: usize,
-    ) -> u64;
+    ) -> Built;
     pub fn multigrid_update_values(
-        levels: u64,
-        rows: u64,
-        entries: u64,
-        smoother: u8,
-        residual_norm: u8,
-        pre_sweeps: u64,
-        post_sweeps: u64,
-        finest_sweeps: u64,
-        sweep_level_multiplier: u64,
-        max_sweeps: u64,
-        coarsest_cells: u64,
-        max_levels: u64,
-        merge_levels: u64,
-        krylov_dimension: u64,
-        coarse_solver: u8,
-        coarse_absolute_tolerance: f64,
-        coarse_relative_tolerance: f64,
-        coarse_max_iterations: u64,
-        scale_correction: u8,
+        hierarchy: Hierarchy,
         offsets: *const u32,
         offsets_length: usize,
         columns: *const u32,
@@ -101,36 +131,16 @@ unsafe extern "C" {
         words_length: usize,
         floats: *mut f64,
         floats_length: usize,
-        statistics: *const u64,
+        statistics: *const MultigridLevelStatistics,
         statistics_length: usize,
-        place: *mut u64,
-        place_length: usize,
-    ) -> u64;
+    ) -> Answer;
     pub fn multigrid_solve(
-        levels: u64,
-        rows: u64,
-        entries: u64,
-        smoother: u8,
-        residual_norm: u8,
-        pre_sweeps: u64,
-        post_sweeps: u64,
-        finest_sweeps: u64,
-        sweep_level_multiplier: u64,
-        max_sweeps: u64,
-        coarsest_cells: u64,
-        max_levels: u64,
-        merge_levels: u64,
-        krylov_dimension: u64,
-        coarse_solver: u8,
-        coarse_absolute_tolerance: f64,
-        coarse_relative_tolerance: f64,
-        coarse_max_iterations: u64,
-        scale_correction: u8,
+        hierarchy: Hierarchy,
         words: *const u32,
         words_length: usize,
         floats: *mut f64,
         floats_length: usize,
-        statistics: *mut u64,
+        statistics: *mut MultigridLevelStatistics,
         statistics_length: usize,
         rhs: *const f64,
         rhs_length: usize,
@@ -139,38 +149,14 @@ unsafe extern "C" {
         absolute_tolerance: f64,
         relative_tolerance: f64,
         max_iterations: u64,
-        place: *mut u64,
-        place_length: usize,
-        residuals: *mut f64,
-        residuals_length: usize,
-    ) -> u64;
+    ) -> Report;
     pub fn multigrid_statistics(
-        levels: u64,
-        rows: u64,
-        entries: u64,
-        smoother: u8,
-        residual_norm: u8,
-        pre_sweeps: u64,
-        post_sweeps: u64,
-        finest_sweeps: u64,
-        sweep_level_multiplier: u64,
-        max_sweeps: u64,
-        coarsest_cells: u64,
-        max_levels: u64,
-        merge_levels: u64,
-        krylov_dimension: u64,
-        coarse_solver: u8,
-        coarse_absolute_tolerance: f64,
-        coarse_relative_tolerance: f64,
-        coarse_max_iterations: u64,
-        scale_correction: u8,
+        hierarchy: Hierarchy,
         words: *const u32,
         words_length: usize,
         floats: *const f64,
         floats_length: usize,
-        statistics: *const u64,
+        statistics: *const MultigridLevelStatistics,
         statistics_length: usize,
-        place: *mut u64,
-        place_length: usize,
-    ) -> u64;
+    ) -> Count;
 }

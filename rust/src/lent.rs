@@ -1,36 +1,89 @@
 //! The calls as they are: over stores that the caller lends.
+//!
+//! ```
+//! use multigrid::lent::{self, Charge, CsrMatrix, Stores};
+//! use multigrid::{LinearSolverOptions, MultigridOptions, Refusal};
+//!
+//! fn main() -> Result<(), Refusal> {
+//!     let matrix = CsrMatrix { rows: 2, row_offsets: &[0, 2, 4], column_indices: &[0, 1, 0, 1], values: &[4.0, -2.0, -2.0, 2.0] };
+//!     let options = MultigridOptions::default();
+//!     let mut stores = Stores::new(Charge::most(&matrix, &options, 2))?;
+//!     let handle = lent::build(matrix, None, &options, &mut stores)?;
+//!     let mut x = [0.0; 2];
+//!     let report = lent::solve(&handle, &mut stores, &[2.0, 0.0], &mut x, LinearSolverOptions::default())?;
+//!     assert!(report.converged());
+//!     assert_eq!(lent::statistics(&handle, &stores)?, 1);
+//!     Ok(())
+//! }
+//! ```
 
-use crate::calls::{
-    multigrid_new, multigrid_new_with_face_weights, multigrid_solve, multigrid_statistics,
-    multigrid_update_values,
-};
+use crate::calls::{self, Answer};
 use crate::{
-    LinearSolveReport, LinearSolverOptions, LinearSolverStatus, MultigridOptions, Refusal,
+    Hierarchy, Level, LinearSolveReport, LinearSolverOptions, LinearSolverStatus,
+    MultigridLevelStatistics, MultigridOptions, Refusal,
 };
+use std::fmt::{Debug, Formatter, Result as Written};
+use std::mem::size_of;
 
 /// A matrix in compressed rows: `rows` + 1 offsets, and a column and a value for each entry. Anything may stand in the
 /// arrays; a build refuses what is no matrix.
-#[derive(Clone, Copy)]
+///
+/// ```
+/// use multigrid::{AlgebraicMultigrid, CsrMatrix, MultigridOptions, Refusal};
+///
+/// let falling = CsrMatrix { rows: 2, row_offsets: &[0, 2, 4], column_indices: &[1, 0, 0, 1], values: &[-2.0, 4.0, -2.0, 2.0] };
+/// let refused = AlgebraicMultigrid::new(falling, &MultigridOptions::default()).err();
+/// assert_eq!(refused, Some(Refusal::BadColumns));
+/// ```
+#[derive(Clone, Copy, Debug)]
 pub struct CsrMatrix<'a> {
+    /// How many rows it has, and columns.
     pub rows: usize,
+    /// Where the entries of each row start, and after the last row the number of entries.
     pub row_offsets: &'a [u32],
+    /// The column of each entry, rising in a row.
     pub column_indices: &'a [u32],
+    /// The value of each entry.
     pub values: &'a [f64],
 }
 
-/// What a build is lent, of any lengths; four words of statistics are a record.
+/// What a build is lent, of any lengths.
+///
+/// ```
+/// use multigrid::lent::{Charge, Stores};
+///
+/// let stores = Stores::new(Charge { words: 10, floats: 20, statistics: 3 })?;
+/// assert_eq!((stores.words.len(), stores.bytes()), (10, 4 * 10 + 8 * 20 + 32 * 3));
+/// # Ok::<(), multigrid::Refusal>(())
+/// ```
 #[derive(Clone, Default)]
 pub struct Stores {
+    /// The tables of all levels.
     pub words: Vec<u32>,
+    /// The numbers of all levels, and scratch.
     pub floats: Vec<f64>,
-    pub statistics: Vec<u64>,
+    /// A record for each level that there may be.
+    pub statistics: Vec<MultigridLevelStatistics>,
 }
 
-/// So many words and floats.
+/// So many words, floats and records of statistics.
+///
+/// ```
+/// use multigrid::lent::{Charge, CsrMatrix};
+/// use multigrid::MultigridOptions;
+///
+/// let matrix = CsrMatrix { rows: 2, row_offsets: &[0, 2, 4], column_indices: &[0, 1, 0, 1], values: &[4.0, -2.0, -2.0, 2.0] };
+/// let charge = Charge::most(&matrix, &MultigridOptions::default(), 1);
+/// assert_eq!(charge, Charge { words: 178, floats: 228, statistics: 64 });
+/// ```
 #[derive(Clone, Copy, Debug, PartialEq, Eq)]
 pub struct Charge {
+    /// Of 4 bytes.
     pub words: usize,
+    /// Of 8 bytes.
     pub floats: usize,
+    /// Of 32 bytes.
+    pub statistics: usize,
 }
 
 /// The greatest matrix and controls that pass questions 1 and 6: what is greater is refused whatever is lent.
@@ -43,76 +96,117 @@ const MOST_DIRECTIONS: u64 = 16;
 impl Charge {
     /// What question 9 asks for at most, for so many levels: none has more rows or entries than the finest.
     pub fn most(matrix: &CsrMatrix<'_>, options: &MultigridOptions, levels: u64) -> Self {
-        let (rows, entries) = (matrix.rows.min(MOST_ROWS), matrix.column_indices.len());
-        let entries = entries.min(MOST_ENTRIES);
-        let cells = options.coarsest_cells.min(MOST_CELLS) as usize;
-        let levels = levels.min(MOST_LEVELS) as usize;
-        let directions = options.krylov_dimension.min(MOST_DIRECTIONS) as usize;
+        let payable = MultigridOptions {
+            coarsest_cells: options.coarsest_cells.min(MOST_CELLS),
+            max_levels: options.max_levels.min(MOST_LEVELS),
+            krylov_dimension: options.krylov_dimension.min(MOST_DIRECTIONS),
+            ..*options
+        };
+        let rows = matrix.rows.min(MOST_ROWS) as u64;
+        let entries = matrix.column_indices.len().min(MOST_ENTRIES) as u64;
+        // SAFETY: numbers alone cross.
+        let due = unsafe {
+            calls::multigrid_charge(rows, entries, payable.crossing(), levels.min(MOST_LEVELS))
+        };
         Self {
-            words: 16 * rows + 12 * entries + 64 + levels * (5 * rows + 4 * entries + 8),
-            floats: (12 + 2 * directions) * rows
-                + 8 * entries
-                + cells * cells
-                + levels * (20 * rows + 4 * entries),
+            words: due.words as usize,
+            floats: due.floats as usize,
+            statistics: due.statistics as usize,
         }
+    }
+
+    /// The bytes of stores of that size.
+    pub fn bytes(&self) -> usize {
+        let words = self.words.saturating_mul(size_of::<u32>());
+        let floats = self.floats.saturating_mul(size_of::<f64>());
+        let record = size_of::<MultigridLevelStatistics>();
+        let statistics = self.statistics.saturating_mul(record);
+        words.saturating_add(floats).saturating_add(statistics)
     }
 }
 
 impl Stores {
-    pub fn new(charge: Charge, max_levels: u64) -> Self {
-        Self {
-            words: vec![0; charge.words],
-            floats: vec![0.0; charge.floats],
-            statistics: vec![0; 4 * max_levels.min(MOST_LEVELS) as usize],
+    /// Stores of that size, all zero; `Refusal::OutOfMemory` where there is no room for them.
+    pub fn new(charge: Charge) -> Result<Self, Refusal> {
+        fn zeros<T: Clone + Default>(count: usize, bytes: usize) -> Result<Vec<T>, Refusal> {
+            let mut store = Vec::new();
+            match store.try_reserve_exact(count) {
+                Ok(()) => store.resize(count, T::default()),
+                Err(_) => return Err(Refusal::OutOfMemory { bytes }),
+            }
+            Ok(store)
         }
+        let bytes = charge.bytes();
+        Ok(Self {
+            words: zeros(charge.words, bytes)?,
+            floats: zeros(charge.floats, bytes)?,
+            statistics: zeros(charge.statistics, bytes)?,
+        })
+    }
+
+    /// How many bytes they have.
+    pub fn bytes(&self) -> usize {
+        let charge = Charge {
+            words: self.words.len(),
+            floats: self.floats.len(),
+            statistics: self.statistics.len(),
+        };
+        charge.bytes()
+    }
+}
+
+/// Their lengths: they hold millions of numbers.
+impl Debug for Stores {
+    fn fmt(&self, formatter: &mut Formatter<'_>) -> Written {
+        let (words, floats) = (self.words.len(), self.floats.len());
+        formatter
+            .debug_struct("Stores")
+            .field("words", &words)
+            .field("floats", &floats)
+            .field("statistics", &self.statistics.len())
+            .finish()
     }
 }
 
 /// A build's answer, which the later calls are given with the stores of that build. Anything may stand in it; a call
 /// refuses a handle that does not fit the stores.
+///
+/// ```
+/// use multigrid::lent::{self, Handle, Stores};
+/// use multigrid::{MultigridOptions, Refusal};
+///
+/// let wild = Handle { options: MultigridOptions::default(), levels: 3, rows: u64::MAX, entries: 7 };
+/// assert_eq!(lent::statistics(&wild, &Stores::default()), Err(Refusal::UnsoundStores));
+/// ```
 #[derive(Clone, Copy, Debug, PartialEq)]
 pub struct Handle {
+    /// Those of the build.
     pub options: MultigridOptions,
+    /// How many there are.
     pub levels: u64,
+    /// Of the finest matrix.
     pub rows: u64,
+    /// Of the finest matrix.
     pub entries: u64,
 }
 
-/// Calls an export: what stands before the controls, the controls, what stands behind them. A slice crosses as its pointer
-/// and its length.
-macro_rules! call {
-    ($call:ident ( $($before:expr),* ) $options:expr => ( $($behind:expr),* )) => {{
-        let options: &MultigridOptions = $options;
-        // SAFETY: the pointers are slices' own, with their lengths; what is written is borrowed alone; `place` and
-        // `residuals` have three elements.
-        unsafe {
-            $call(
-                $($before,)*
-                options.smoother.number(),
-                options.residual_norm.number(),
-                options.pre_sweeps,
-                options.post_sweeps,
-                options.finest_sweeps,
-                options.sweep_level_multiplier,
-                options.max_sweeps,
-                options.coarsest_cells,
-                options.max_levels,
-                options.merge_levels,
-                options.krylov_dimension,
-                options.coarse_solver.number(),
-                options.coarse_absolute_tolerance,
-                options.coarse_relative_tolerance,
-                options.coarse_max_iterations,
-                u8::from(options.scale_correction),
-                $($behind,)*
-            )
+impl Handle {
+    fn crossing(&self) -> calls::Hierarchy {
+        calls::Hierarchy {
+            options: self.options.crossing(),
+            levels: self.levels,
+            rows: self.rows,
+            entries: self.entries,
         }
-    }};
+    }
 }
 
-/// The refusal of a call that answers a number other than zero.
-fn refusal(number: u64, place: [u64; 3]) -> Refusal {
-    Refusal::of(number, place[0], place[1]).expect("a call answers by a question's number")
+fn answered(answer: Answer) -> Result<(), Refusal> {
+    match answer.question {
+        0 => Ok(()),
+        number => Err(Refusal::of(number, answer.level, answer.row)
+            .expect("a call answers by a question's number")),
+    }
 }
 
 /// Builds a hierarchy in the stores, whatever they held. Refused, every word of them is zero.
@@ -122,37 +216,60 @@ pub fn build(
     options: &MultigridOptions,
     stores: &mut Stores,
 ) -> Result<Handle, Refusal> {
-    let Stores {
-        words,
-        floats,
-        statistics,
-    } = stores;
-    let (offsets, columns, values) = (matrix.row_offsets, matrix.column_indices, matrix.values);
-    let mut place = [0; 3];
-    let number = match face_weights {
-        Some(weights) => call!(multigrid_new_with_face_weights(
-            matrix.rows, offsets.as_ptr(), offsets.len(), columns.as_ptr(), columns.len(), values.as_ptr(), values.len(),
-            weights.as_ptr(), weights.len()
-        ) options => (
-            words.as_mut_ptr(), words.len(), floats.as_mut_ptr(), floats.len(), statistics.as_mut_ptr(), statistics.len(),
-            place.as_mut_ptr(), place.len()
-        )),
-        None => call!(multigrid_new(
-            matrix.rows, offsets.as_ptr(), offsets.len(), columns.as_ptr(), columns.len(), values.as_ptr(), values.len()
-        ) options => (
-            words.as_mut_ptr(), words.len(), floats.as_mut_ptr(), floats.len(), statistics.as_mut_ptr(), statistics.len(),
-            place.as_mut_ptr(), place.len()
-        )),
+    let CsrMatrix {
+        rows,
+        row_offsets: offsets,
+        column_indices: columns,
+        values,
+    } = matrix;
+    let (words, floats) = (&mut stores.words, &mut stores.floats);
+    let statistics = &mut stores.statistics;
+    // SAFETY: the pointers are slices' own, with their lengths; what is written is borrowed alone.
+    let built = unsafe {
+        match face_weights {
+            Some(weights) => calls::multigrid_new_with_face_weights(
+                rows,
+                offsets.as_ptr(),
+                offsets.len(),
+                columns.as_ptr(),
+                columns.len(),
+                values.as_ptr(),
+                values.len(),
+                weights.as_ptr(),
+                weights.len(),
+                options.crossing(),
+                words.as_mut_ptr(),
+                words.len(),
+                floats.as_mut_ptr(),
+                floats.len(),
+                statistics.as_mut_ptr(),
+                statistics.len(),
+            ),
+            None => calls::multigrid_new(
+                rows,
+                offsets.as_ptr(),
+                offsets.len(),
+                columns.as_ptr(),
+                columns.len(),
+                values.as_ptr(),
+                values.len(),
+                options.crossing(),
+                words.as_mut_ptr(),
+                words.len(),
+                floats.as_mut_ptr(),
+                floats.len(),
+                statistics.as_mut_ptr(),
+                statistics.len(),
+            ),
+        }
     };
-    match number {
-        0 => Ok(Handle {
-            options: *options,
-            levels: place[2],
-            rows: matrix.rows as u64,
-            entries: columns.len() as u64,
-        }),
-        _ => Err(refusal(number, place)),
-    }
+    answered(built.answer)?;
+    Ok(Handle {
+        options: *options,
+        levels: built.hierarchy.levels,
+        rows: built.hierarchy.rows,
+        entries: built.hierarchy.entries,
+    })
 }
 
 /// New values for the hierarchy in the stores. Refused, no word changes but scratch.
@@ -164,16 +281,25 @@ pub fn update_values(
     stores: &mut Stores,
 ) -> Result<(), Refusal> {
     let (words, floats, statistics) = (&stores.words, &mut stores.floats, &stores.statistics);
-    let mut place = [0; 3];
-    let number = call!(multigrid_update_values(handle.levels, handle.rows, handle.entries) &handle.options => (
-        row_offsets.as_ptr(), row_offsets.len(), column_indices.as_ptr(), column_indices.len(),
-        values.as_ptr(), values.len(), words.as_ptr(), words.len(), floats.as_mut_ptr(), floats.len(),
-        statistics.as_ptr(), statistics.len(), place.as_mut_ptr(), place.len()
-    ));
-    match number {
-        0 => Ok(()),
-        _ => Err(refusal(number, place)),
-    }
+    // SAFETY: the pointers are slices' own, with their lengths; what is written is borrowed alone.
+    let answer = unsafe {
+        calls::multigrid_update_values(
+            handle.crossing(),
+            row_offsets.as_ptr(),
+            row_offsets.len(),
+            column_indices.as_ptr(),
+            column_indices.len(),
+            values.as_ptr(),
+            values.len(),
+            words.as_ptr(),
+            words.len(),
+            floats.as_mut_ptr(),
+            floats.len(),
+            statistics.as_ptr(),
+            statistics.len(),
+        )
+    };
+    answered(answer)
 }
 
 /// Solves for the right-hand side, from what `x` holds. Refused, `x`, the statistics and the hierarchy stay as they were.
@@ -184,47 +310,73 @@ pub fn solve(
     x: &mut [f64],
     options: LinearSolverOptions,
 ) -> Result<LinearSolveReport, Refusal> {
-    let Stores {
-        words,
-        floats,
-        statistics,
-    } = stores;
-    let (mut place, mut residuals) = ([0; 3], [0.0; 3]);
-    let number = call!(multigrid_solve(handle.levels, handle.rows, handle.entries) &handle.options => (
-        words.as_ptr(), words.len(), floats.as_mut_ptr(), floats.len(), statistics.as_mut_ptr(), statistics.len(),
-        rhs.as_ptr(), rhs.len(), x.as_mut_ptr(), x.len(), options.absolute_tolerance, options.relative_tolerance,
-        options.max_iterations, place.as_mut_ptr(), place.len(), residuals.as_mut_ptr(), residuals.len()
-    ));
-    let [initial_residual, final_residual, relative_residual] = residuals;
-    match number {
-        0 => Ok(LinearSolveReport {
-            status: match place[0] {
-                0 => LinearSolverStatus::Converged,
-                _ => LinearSolverStatus::MaxIterations,
-            },
-            iterations: place[1],
-            initial_residual,
-            final_residual,
-            relative_residual,
-        }),
-        _ => Err(refusal(number, place)),
-    }
+    let (words, floats) = (&stores.words, &mut stores.floats);
+    let statistics = &mut stores.statistics;
+    // SAFETY: the pointers are slices' own, with their lengths; what is written is borrowed alone.
+    let report = unsafe {
+        calls::multigrid_solve(
+            handle.crossing(),
+            words.as_ptr(),
+            words.len(),
+            floats.as_mut_ptr(),
+            floats.len(),
+            statistics.as_mut_ptr(),
+            statistics.len(),
+            rhs.as_ptr(),
+            rhs.len(),
+            x.as_mut_ptr(),
+            x.len(),
+            options.absolute_tolerance,
+            options.relative_tolerance,
+            options.max_iterations,
+        )
+    };
+    answered(report.answer)?;
+    Ok(LinearSolveReport {
+        status: match report.converged {
+            0 => LinearSolverStatus::MaxIterations,
+            _ => LinearSolverStatus::Converged,
+        },
+        iterations: report.iterations,
+        initial_residual: report.initial_residual,
+        final_residual: report.final_residual,
+        relative_residual: report.relative_residual,
+    })
 }
 
 /// How many records at the front of the statistics are those of the levels.
 pub fn statistics(handle: &Handle, stores: &Stores) -> Result<usize, Refusal> {
-    let Stores {
-        words,
-        floats,
-        statistics,
-    } = stores;
-    let mut place = [0; 3];
-    let number = call!(multigrid_statistics(handle.levels, handle.rows, handle.entries) &handle.options => (
-        words.as_ptr(), words.len(), floats.as_ptr(), floats.len(), statistics.as_ptr(), statistics.len(),
-        place.as_mut_ptr(), place.len()
-    ));
-    match number {
-        0 => Ok(place[2] as usize),
-        _ => Err(refusal(number, place)),
+    let (words, floats, statistics) = (&stores.words, &stores.floats, &stores.statistics);
+    // SAFETY: the pointers are slices' own, with their lengths; nothing is written.
+    let count = unsafe {
+        calls::multigrid_statistics(
+            handle.crossing(),
+            words.as_ptr(),
+            words.len(),
+            floats.as_ptr(),
+            floats.len(),
+            statistics.as_ptr(),
+            statistics.len(),
+        )
+    };
+    answered(count.answer)?;
+    Ok(count.levels as usize)
+}
+
+/// The levels of the hierarchy in the stores, read out of the words: of a level its rows, whether it is the last, its coupled rows, offsets, columns, starts,
+/// diagonals, three lists of faces, links and positions (docs/ARCHITECTURE.md).
+pub fn hierarchy(handle: &Handle, stores: &Stores) -> Result<Hierarchy, Refusal> {
+    let count = statistics(handle, stores)?;
+    let word = |place: usize| stores.words.get(place).map_or(0, |&word| word as usize);
+    let (mut levels, mut place) = (Vec::with_capacity(count), 0);
+    for _ in 0..count {
+        let (rows, last, coupled) = (word(place), word(place + 1), word(place + 2));
+        let entries = word(place + 3 + rows);
+        let starts = place + 4 + rows + entries;
+        let faces = word(starts + rows);
+        levels.push(Level { rows, entries });
+        let links = if last == 1 { coupled } else { rows + entries };
+        place = starts + 2 * rows + 1 + 3 * faces + links;
     }
+    Ok(Hierarchy { levels })
 }

@@ -2,44 +2,121 @@
 
 use crate::sentences::SENTENCES;
 use std::error::Error;
-use std::fmt::{Display, Formatter, Result as Written};
+use std::fmt::{Debug, Display, Formatter, Result as Written};
 
 /// The questions of a build, of a solve and of an update, in order. Level and row say where it failed; the finest level is 0, and a matrix that is
-/// formed on the way to a level counts as that level.
-#[derive(Clone, Copy, Debug, PartialEq, Eq)]
+/// formed on the way to a level counts as that level. docs/REFUSALS.md says of each what to do about it.
+///
+/// It prints as its sentence, also where `main` ends with it.
+///
+/// ```
+/// use multigrid::Refusal;
+///
+/// let refusal = Refusal::BadDiagonal { level: 0, row: 7 };
+/// assert_eq!((refusal.number(), refusal.place()), (12, Some((0, 7))));
+/// let said = "question 12: a diagonal is not finite or not above zero (level 0, row 7)";
+/// assert_eq!((refusal.to_string(), format!("{refusal:?}")), (said.to_string(), said.to_string()));
+/// ```
+#[derive(Clone, Copy, PartialEq, Eq)]
 #[non_exhaustive]
 pub enum Refusal {
+    /// There are more than 65,536 rows or 1,048,576 entries.
     TooLarge,
+    /// The offsets do not rise from 0 to the number of entries, one more than rows, or there are not as many values as columns.
     BadOffsets,
+    /// The columns of a row do not rise, or one is not below the number of rows.
     BadColumns,
+    /// There are not as many weights as entries.
     WeightCount,
+    /// A weight is not finite or below zero.
     BadWeight,
+    /// The controls are outside their ranges.
     InvalidControls,
+    /// The coarse solver is not Cholesky.
     NotCholesky,
+    /// There is no row.
     NoRows,
+    /// The stores or the statistics are too small.
     StoreTooSmall,
+    /// The matrix is not symmetric, or a value off its diagonal is not finite.
     UnequalMirrors,
-    MissingDiagonal { level: u64, row: u64 },
-    BadDiagonal { level: u64, row: u64 },
-    BadReciprocal { level: u64, row: u64 },
+    /// A diagonal entry is missing.
+    MissingDiagonal {
+        /// Of the matrix.
+        level: u64,
+        /// Of that level.
+        row: u64,
+    },
+    /// A diagonal is not finite or not above zero.
+    BadDiagonal {
+        /// Of the matrix.
+        level: u64,
+        /// Of that level.
+        row: u64,
+    },
+    /// The reciprocal of a diagonal is not finite.
+    BadReciprocal {
+        /// Of the matrix.
+        level: u64,
+        /// Of that level.
+        row: u64,
+    },
+    /// More rows are coupled on the last level than coarsest_cells allows.
     TooManyCoupled,
-    BadPivot { level: u64, row: u64 },
-    BadDicPivot { level: u64, row: u64 },
-    BadDicReciprocal { level: u64, row: u64 },
+    /// A Cholesky pivot is not finite or not above zero.
+    BadPivot {
+        /// Of the matrix.
+        level: u64,
+        /// Of that level.
+        row: u64,
+    },
+    /// A DIC pivot is not finite or not above zero.
+    BadDicPivot {
+        /// Of the matrix.
+        level: u64,
+        /// Of that level.
+        row: u64,
+    },
+    /// The reciprocal of a DIC pivot is not finite.
+    BadDicReciprocal {
+        /// Of the matrix.
+        level: u64,
+        /// Of that level.
+        row: u64,
+    },
+    /// A Galerkin value is not finite.
     BadCoarseValue,
+    /// The stores do not hold a hierarchy of this handle.
     UnsoundStores,
+    /// The right-hand side or the solution has not as many elements as there are rows.
     WrongLength,
+    /// The iteration limit is zero, a tolerance is not finite or below zero, or a vector is not finite.
     BadInput,
+    /// The normalization is not finite.
     BadNormalization,
+    /// The norm of a residual is not finite.
     BadResidual,
+    /// The solution of the last level is not finite.
     BadCoarseSolution,
+    /// What the smoother gives is not finite.
     BadSmootherOutput,
+    /// A product of a correction is not finite.
     BadCorrectionProduct,
+    /// The scale of a correction is not finite.
     BadCorrectionScale,
+    /// A dot product of the accelerator is not finite.
     BadDotProduct,
+    /// The image of a correction is zero.
     ZeroImage,
+    /// A direction of the accelerator is not finite.
     BadDirection,
+    /// Offsets or columns are not those of the build, or there are not as many values as columns.
     OtherPattern,
+    /// There is no memory for the stores: no question of the library, which allocates nothing, but of this wrapper.
+    OutOfMemory {
+        /// Of all three stores.
+        bytes: usize,
+    },
 }
 
 impl Refusal {
@@ -81,7 +158,7 @@ impl Refusal {
         })
     }
 
-    /// The number of the question.
+    /// The number of the question; zero for `OutOfMemory`, which is none.
     pub fn number(self) -> u64 {
         match self {
             Self::TooLarge => 1,
@@ -115,6 +192,7 @@ impl Refusal {
             Self::ZeroImage => 29,
             Self::BadDirection => 30,
             Self::OtherPattern => 31,
+            Self::OutOfMemory { .. } => 0,
         }
     }
 
@@ -143,17 +221,30 @@ impl Refusal {
 
     /// What is wrong, in words.
     pub fn sentence(self) -> &'static str {
-        SENTENCES[self.number() as usize]
+        match self {
+            Self::OutOfMemory { .. } => "there is no memory for the stores",
+            _ => SENTENCES[self.number() as usize],
+        }
     }
 }
 
 impl Display for Refusal {
     fn fmt(&self, formatter: &mut Formatter<'_>) -> Written {
+        if let Self::OutOfMemory { bytes } = self {
+            return write!(formatter, "{} of {bytes} bytes", self.sentence());
+        }
         write!(formatter, "question {}: {}", self.number(), self.sentence())?;
         match self.place() {
             Some((level, row)) => write!(formatter, " (level {level}, row {row})"),
             None => Ok(()),
         }
+    }
+}
+
+/// The sentence too: it is what `main` prints that ends with a refusal.
+impl Debug for Refusal {
+    fn fmt(&self, formatter: &mut Formatter<'_>) -> Written {
+        Display::fmt(self, formatter)
     }
 }
 

@@ -1,8 +1,9 @@
 //! The wrapper over the proved calls; compare/ has the calls themselves.
 
+use multigrid::lent::Charge;
 use multigrid::{
     AlgebraicMultigrid, CsrMatrix, MultigridCoarseSolver, MultigridOptions, MultigridSmoother,
-    Refusal,
+    Refusal, Stores,
 };
 
 const OFFSETS: [u32; 3] = [0, 2, 4];
@@ -107,4 +108,32 @@ fn stores_grow_with_the_levels() {
     let built = AlgebraicMultigrid::new(matrix, &options);
     let due = [64, 32, 16, 8, 4, 2, 1].map(|coupled| 1_000 + coupled);
     assert_eq!(built.map(|built| rows(&built)), Ok(due.to_vec()));
+}
+
+/// No process has that much: an error, not an abort.
+#[test]
+fn what_cannot_be_had_is_an_error() {
+    let charge = Charge {
+        words: usize::MAX / 16,
+        floats: 0,
+        statistics: 0,
+    };
+    let refused = Stores::new(charge).err();
+    let bytes = charge.bytes();
+    assert_eq!(refused, Some(Refusal::OutOfMemory { bytes }));
+    let sentence = refused.map(|refusal| format!("{:?}", refusal));
+    let said = format!("there is no memory for the stores of {bytes} bytes");
+    assert_eq!(sentence, Some(said));
+}
+
+/// Two rows have room for two levels, not for the 64 that there may be.
+#[test]
+fn stores_are_no_larger_than_they_have_to_be() {
+    let values = [4.0, -2.0, -2.0, 2.0];
+    let options = MultigridOptions::default();
+    let built = AlgebraicMultigrid::new(two_rows(&values), &options).expect("it builds");
+    let charge = Charge::most(&two_rows(&values), &options, 2);
+    assert_eq!(built.stores().bytes(), charge.bytes());
+    let printed = format!("{built:?}");
+    assert!(printed.contains("Level { rows: 2, entries: 4 }") && printed.len() < 1_500);
 }

@@ -68,6 +68,34 @@ fn an_update_is_solved_with_and_a_refused_one_is_not() {
 }
 
 #[test]
+fn an_update_asks_the_number_of_rows() {
+    let mut solver = built();
+    let other = solver.update_values(CsrMatrix {
+        rows: 3,
+        ..two_rows(&PRESS)
+    });
+    assert_eq!(other, Err(Refusal::OtherPattern));
+}
+
+#[test]
+fn a_clone_and_a_restored_one_solve_alike() {
+    let solver = built();
+    let (handle, mut stores) = (*solver.handle(), solver.stores().clone());
+    let restored = AlgebraicMultigrid::restored(handle, stores.clone()).expect("it is sound");
+    for mut copy in [solver.clone(), restored, solver] {
+        let mut x = [0.0; 2];
+        let report = copy.solve(&[2.0, 0.0], &mut x, half());
+        assert_eq!(
+            (report.map(|report| report.iterations), x),
+            (Ok(1), [1.0, 1.0])
+        );
+    }
+    stores.words[0] = u32::MAX;
+    let refused = AlgebraicMultigrid::restored(handle, stores).err();
+    assert_eq!(refused, Some(Refusal::UnsoundStores));
+}
+
+#[test]
 fn a_refused_solve_leaves_everything() {
     let (mut solver, mut x) = (built(), [7.0, f64::NAN]);
     let refused = solver.solve(&[2.0, 0.0], &mut x, half());
