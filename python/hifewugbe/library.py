@@ -109,8 +109,8 @@ CALLS = {
 def _candidates():
     """Where the library may be: beside the package, as `make install` leaves it; in the repository, as `make` leaves it; where the system keeps libraries."""
     here = Path(__file__).resolve().parent
-    yield here / "libhifewugbe.so"
-    yield here.parents[1] / "target" / "lib" / "libhifewugbe.so"
+    yield here / "libmultigrid_c.so"
+    yield here.parents[1] / "target" / "lib" / "libmultigrid_c.so"
 
 
 def _file():
@@ -120,9 +120,9 @@ def _file():
     for candidate in _candidates():
         if candidate.is_file():
             return str(candidate)
-    found = ctypes.util.find_library("hifewugbe")
+    found = ctypes.util.find_library("multigrid_c")
     if found is None:
-        raise ImportError(f"there is no libhifewugbe.so: run `make` in the repository, or name the file in {VARIABLE}")
+        raise ImportError(f"there is no libmultigrid_c.so: run `make` in the repository, or name the file in {VARIABLE}")
     return found
 
 
