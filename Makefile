@@ -50,8 +50,9 @@ install: all
 bundle: all
 	rm -rf target/bundle
 	$(MAKE) --no-print-directory install DESTDIR=target/bundle PREFIX=/$(BUNDLE) PYTHONDIR=/$(BUNDLE)/python
-	cp -R rust examples python/examples target/bundle/$(BUNDLE) && rm -rf target/bundle/$(BUNDLE)/rust/target
-	mkdir target/bundle/$(BUNDLE)/docs && cp $(DOCUMENTS) target/bundle/$(BUNDLE)/docs
+	cp -R examples target/bundle/$(BUNDLE) && cp -R python/examples target/bundle/$(BUNDLE)/python
+	mkdir target/bundle/$(BUNDLE)/rust && cp -R $(addprefix rust/,Cargo.toml Cargo.lock build.rs src examples tests) target/bundle/$(BUNDLE)/rust
+	cp --parents $(DOCUMENTS) target/bundle/$(BUNDLE)
 	cd target/bundle/$(BUNDLE) && find . -type f ! -name SHA256SUMS | LC_ALL=C sort | xargs sha256sum >SHA256SUMS
 	tar -C target/bundle --sort=name --mtime=@0 --owner=0 --group=0 --numeric-owner -czf target/$(BUNDLE).tar.gz $(BUNDLE)
 	cd target && sha256sum $(BUNDLE).tar.gz | tee $(BUNDLE).tar.gz.sha256
