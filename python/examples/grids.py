@@ -17,20 +17,22 @@ def neighbours(shape):
         yield cell, below, above[::-1]
 
 
-def laplacian(shape, permeability=None):
+def laplacian(shape, permeability=None, stretch=None):
     """Offsets, columns and values of the pressure equation on a box of so many cells along each axis. A face between two cells lets through the harmonic mean of their
-    permeabilities, which are one for each cell, or all 1; a face at the border lets through twice the permeability of its cell."""
+    permeabilities, which are one for each cell, or all 1; a face at the border lets through twice the permeability of its cell. `stretch` is a factor for the faces across
+    each axis: cells that are thin along an axis exchange more along it."""
     offsets, columns, values = [0], [], []
     for cell, below, above in neighbours(shape):
         here = permeability[cell] if permeability else 1.0
         diagonal = 0.0
         beside = []
-        for other, _ in below + [(cell, None)] + above:
+        for other, axis in below + [(cell, 0)] + above:
             if other == cell:
                 beside.append((cell, None))
                 continue
             there = here if other < 0 else permeability[other] if permeability else 1.0
             through = 2 * here if other < 0 else 2 * here * there / (here + there)
+            through *= stretch[axis] if stretch else 1.0
             diagonal += through
             if other >= 0:
                 beside.append((other, -through))

@@ -10,8 +10,10 @@ from .library import LIBRARY, MOST_COARSEST_CELLS, MOST_DIRECTIONS, MOST_ENTRIES
 from .options import Options
 from .refusals import StoreTooSmall, refusal
 
-# The levels shrink, so room for this many of the finest's size is nearly always enough; where question 9 says no, there is room for twice as many.
-FIRST_ROOM = 2
+
+def _first_room(controls):
+    """For how many levels of the finest's size there is room at first: one pairing halves the rows, two of them leave a quarter, so that this is nearly always enough."""
+    return 3 if controls.merge_levels == 1 else 2
 
 
 def _arrays(matrix):
@@ -82,7 +84,7 @@ class Multigrid:
         self._levels = levels_of(self._stores.words, self._handle.levels)
 
     def _build(self, controls, values, weights):
-        """Builds in stores that grow until question 9 is content, or there is room for as many levels as there may be."""
+        """Builds in stores that double until question 9 is content, or there is room for as many levels as there may be."""
         offsets, columns = lend(self._offsets, WORDS, "offsets"), lend(self._columns, WORDS, "columns")
         matrix = [offsets, columns, lend(values, FLOATS, "values")]
         call = LIBRARY.multigrid_new
@@ -90,7 +92,7 @@ class Multigrid:
             matrix.append(lend(weights, FLOATS, "weights"))
             call = LIBRARY.multigrid_new_with_face_weights
         rows = max(offsets.length - 1, 0)
-        room, most = FIRST_ROOM, min(controls.max_levels, MOST_LEVELS)
+        room, most = _first_room(controls), min(controls.max_levels, MOST_LEVELS)
         while True:
             self._stores = None
             self._stores = _Stores(_charge(rows, columns.length, controls, room))

@@ -40,8 +40,14 @@ use std::fmt::{Debug, Formatter, Result as Written};
 /// The version of the library.
 pub const VERSION: &str = env!("CARGO_PKG_VERSION");
 
-/// The levels shrink, so that room for so many of the finest's size is nearly always enough.
-const FIRST_ROOM: u64 = 2;
+/// For how many levels of the finest's size there is room at first: one pairing halves the rows, two of them leave a quarter,
+/// so that this is nearly always enough.
+fn first_room(options: &MultigridOptions) -> u64 {
+    match options.merge_levels {
+        1 => 3,
+        _ => 2,
+    }
+}
 
 /// A hierarchy in stores of its own.
 ///
@@ -85,7 +91,7 @@ impl AlgebraicMultigrid {
         face_weights: Option<&[f64]>,
         options: &MultigridOptions,
     ) -> Result<Self, Refusal> {
-        let mut room = FIRST_ROOM;
+        let mut room = first_room(options);
         loop {
             let mut stores = Stores::new(Charge::most(&matrix, options, room))?;
             match lent::build(matrix, face_weights, options, &mut stores) {
