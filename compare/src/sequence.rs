@@ -16,7 +16,9 @@ use crate::numbers::BLOCK;
 use crate::random::Random;
 use crate::report::{Report, hex, same};
 use multigrid::lent::{self, Handle};
-use multigrid::{LinearSolveReport, LinearSolverOptions, LinearSolverStatus, Refusal};
+use multigrid::{
+    LinearSolveReport, LinearSolverOptions, LinearSolverStatus, MultigridLevelStatistics, Refusal,
+};
 use oracle::{AlgebraicMultigrid, MultigridResidualNorm, during_build};
 
 pub fn compare(report: &mut Report, random: &mut Random, effort: Effort) {
@@ -239,7 +241,7 @@ struct Session<'a> {
     stores: Stores,
     theirs: AlgebraicMultigrid,
     /// The statistics that are due: the Rust counts refused solves too.
-    statistics: Vec<u64>,
+    statistics: Vec<MultigridLevelStatistics>,
     /// The latest accepted values.
     arrays: Arrays,
     /// The hierarchy that is due.
@@ -308,10 +310,10 @@ fn theirs(problem: &Problem, arrays: &Arrays) -> Option<AlgebraicMultigrid> {
 impl Session<'_> {
     /// Counters that are about to stop.
     fn near_the_end(&mut self, random: &mut Random) {
-        for record in self.stores.statistics.chunks_exact_mut(4) {
-            for counter in &mut record[1..] {
-                *counter = u64::MAX - random.below(4);
-            }
+        for record in &mut self.stores.statistics {
+            record.visits = u64::MAX - random.below(4);
+            record.smoothing_sweeps = u64::MAX - random.below(4);
+            record.coarse_iterations = u64::MAX - random.below(4);
         }
         self.statistics = self.stores.statistics.clone();
     }

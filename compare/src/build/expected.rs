@@ -74,9 +74,8 @@ fn attempt(problem: &Problem, charges: &mut Vec<Charge>) -> Asked<Hierarchy> {
     ask(options.coarse_solver == MultigridCoarseSolver::Cholesky, 7)?;
     ask(rows > 0, 8)?;
     let fixed = Charge::fixed(options, rows, entries);
-    let records = problem.lent.statistics / 4;
     charge(charges, fixed, &problem.lent)?;
-    ask(options.max_levels <= records, 9)?;
+    ask(options.max_levels <= problem.lent.statistics, 9)?;
     charge(charges, fixed.and_level(rows, entries), &problem.lent)?;
     ask(matrix.is_symmetric(0.0), 10)?;
     let (levels, kernel) = grow(problem, matrix, charges)?;

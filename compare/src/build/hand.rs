@@ -47,7 +47,7 @@ fn weighed((arrays, weights): (Arrays, Vec<f64>), options: MultigridOptions) -> 
 
 fn lending_enough(mut problem: Problem) -> Problem {
     let last = expected::build(&problem).charges.last().copied();
-    problem.lent = Lent::of(last.unwrap_or_default(), 4 * problem.options.max_levels);
+    problem.lent = Lent::of(last.unwrap_or_default(), problem.options.max_levels);
     problem
 }
 

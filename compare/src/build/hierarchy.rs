@@ -3,6 +3,7 @@
 
 use super::problem::Stores;
 use crate::report::{hex, same};
+use multigrid::MultigridLevelStatistics;
 
 /// One level: the words of its shape, then its numbers, in the order of the stores.
 #[derive(Clone, Default)]
@@ -164,10 +165,10 @@ impl Hierarchy {
     }
 
     /// The statistics of a build: the rows of each level with counters of zero, and zeros past the last level.
-    pub fn statistics(&self, length: usize) -> Vec<u64> {
-        let mut statistics = vec![0; length];
-        for (record, level) in statistics.chunks_exact_mut(4).zip(&self.levels) {
-            record[0] = level.rows() as u64;
+    pub fn statistics(&self, records: usize) -> Vec<MultigridLevelStatistics> {
+        let mut statistics = vec![MultigridLevelStatistics::default(); records];
+        for (record, level) in statistics.iter_mut().zip(&self.levels) {
+            record.cells = level.rows() as u64;
         }
         statistics
     }

@@ -8,7 +8,7 @@
 //! - the offsets, the columns, the bits of the values, the bits of the weights;
 //! - the 16 controls in the order of options.rs without `profile`: enums by their place there from 0, yes as 1, tolerances as
 //!   bits;
-//! - how many words, floats and words of statistics are lent;
+//! - how many words, floats and records of statistics are lent;
 //! - the answer: 0 or the question's number, its level, its row, the levels built;
 //! - the rows of each of these levels;
 //! - the checksum of an accepted build over the view that stands in the stores: of each level its rows, 1 if it is the
@@ -28,7 +28,7 @@ use std::fmt::Write;
 /// What a replay has room for.
 const ENTRIES: usize = 120;
 const WORDS: usize = 8_192;
-const STATISTICS: usize = 512;
+const RECORDS: usize = 128;
 
 /// So many problems are drawn to find those that are wanted.
 const DRAWN: u64 = 100_000;
@@ -66,7 +66,7 @@ pub fn fits(problem: &Problem) -> bool {
     .all(|&length| length <= ENTRIES)
         && lent.words <= WORDS
         && lent.floats <= WORDS
-        && lent.statistics <= STATISTICS
+        && lent.statistics <= RECORDS
 }
 
 fn one_build(problem: &Problem) -> String {

@@ -7,10 +7,11 @@ use crate::options;
 use crate::pattern::{Pattern, Shape};
 use crate::random::Random;
 use crate::stores::Word;
-pub use multigrid::Stores;
+use multigrid::MultigridLevelStatistics;
+pub use multigrid::lent::Stores;
 use oracle::{MultigridCoarseSolver, MultigridOptions, MultigridSmoother};
 
-/// How many words, floats and words of statistics are lent.
+/// How many words, floats and records of statistics are lent.
 #[derive(Clone, Copy, Debug)]
 pub struct Lent {
     pub words: usize,
@@ -31,7 +32,16 @@ pub fn noisy(random: &mut Random, lent: &Lent) -> Stores {
     Stores {
         words: (0..lent.words).map(|_| u32::noise(random)).collect(),
         floats: (0..lent.floats).map(|_| f64::noise(random)).collect(),
-        statistics: (0..lent.statistics).map(|_| random.bits()).collect(),
+        statistics: (0..lent.statistics).map(|_| noise(random)).collect(),
+    }
+}
+
+fn noise(random: &mut Random) -> MultigridLevelStatistics {
+    MultigridLevelStatistics {
+        cells: random.bits(),
+        visits: random.bits(),
+        smoothing_sweeps: random.bits(),
+        coarse_iterations: random.bits(),
     }
 }
 
@@ -39,7 +49,10 @@ pub fn noisy(random: &mut Random, lent: &Lent) -> Stores {
 pub fn are_zero(stores: &Stores) -> bool {
     stores.words.iter().all(|&word| word == 0)
         && stores.floats.iter().all(|float| float.to_bits() == 0)
-        && stores.statistics.iter().all(|&word| word == 0)
+        && stores
+            .statistics
+            .iter()
+            .all(|&record| record == MultigridLevelStatistics::default())
 }
 
 type Draw = fn(&mut Random) -> f64;
@@ -238,7 +251,7 @@ impl Problem {
         problem.options.max_levels = 64;
         let charges = expected::build(&problem).charges;
         let last = charges.last().copied().unwrap_or_default();
-        problem.lent = Lent::of(last, 4 * problem.options.max_levels);
+        problem.lent = Lent::of(last, problem.options.max_levels);
         problem
     }
 
@@ -286,16 +299,16 @@ impl Problem {
             return ENOUGH;
         };
         let records = self.options.max_levels;
-        self.lent = Lent::of(last, 4 * records);
+        self.lent = Lent::of(last, records);
         match random.below(12) {
             0..=3 => return "exactly-enough",
             4 => {
-                self.lent = Lent::of(random.pick(&charges), 4 * records);
+                self.lent = Lent::of(random.pick(&charges), records);
                 self.lent.words -= 1;
                 return "a-word-short";
             }
             5 => {
-                self.lent = Lent::of(random.pick(&charges), 4 * records);
+                self.lent = Lent::of(random.pick(&charges), records);
                 self.lent.floats -= 1;
                 return "a-float-short";
             }
@@ -307,7 +320,7 @@ impl Problem {
         }
         self.lent.words += random.index(50);
         self.lent.floats += random.index(50);
-        self.lent.statistics += random.index(12);
+        self.lent.statistics += random.index(3);
         ENOUGH
     }
 }

@@ -81,7 +81,7 @@ const DAMAGES: [(&str, Damage); 12] = [
         handle.options = compare::library::options(&options::any(random));
     }),
     ("records", |random, stores, _| {
-        shorten(random, &mut stores.statistics, 9);
+        shorten(random, &mut stores.statistics, 3);
     }),
     ("floats-lent", |random, stores, _| {
         shorten(random, &mut stores.floats, 65);
@@ -209,10 +209,13 @@ fn changed(before: &Stores, now: &Stores, floats: usize, counted: usize) -> Opti
     if let Some(at) = pairs.position(|(then, now)| then.to_bits() != now.to_bits()) {
         return Some(format!("float {at} of {floats} changed"));
     }
-    let records = before.statistics.chunks(4).zip(now.statistics.chunks(4));
+    let records = before.statistics.iter().zip(&now.statistics);
     for (record, (then, now)) in records.enumerate() {
         let kept = if record < counted {
-            then[0] == now[0] && then.iter().zip(now).all(|(then, now)| then <= now)
+            then.cells == now.cells
+                && then.visits <= now.visits
+                && then.smoothing_sweeps <= now.smoothing_sweeps
+                && then.coarse_iterations <= now.coarse_iterations
         } else {
             then == now
         };

@@ -6,7 +6,9 @@ use crate::build::expected;
 use crate::build::hierarchy::Hierarchy;
 use crate::build::problem::Problem;
 use crate::csr::Arrays;
-use multigrid::{LinearSolveReport, LinearSolverOptions, LinearSolverStatus};
+use multigrid::{
+    LinearSolveReport, LinearSolverOptions, LinearSolverStatus, MultigridLevelStatistics,
+};
 use oracle::{AlgebraicMultigrid, LinearAlgebraError};
 
 pub struct Solved {
@@ -21,7 +23,7 @@ pub fn solve(
     rhs: &[f64],
     x: &[f64],
     options: LinearSolverOptions,
-    statistics: &mut [u64],
+    statistics: &mut [MultigridLevelStatistics],
 ) -> Solved {
     let before = theirs.statistics().to_vec();
     let mut y = x.to_vec();
@@ -37,15 +39,17 @@ pub fn solve(
     match answer {
         Ok(report) => {
             let levels = before.iter().zip(theirs.statistics());
-            for ((before, after), record) in levels.zip(statistics.chunks_exact_mut(4)) {
-                let counted = [
-                    after.visits - before.visits,
+            for ((before, after), record) in levels.zip(statistics) {
+                let add = |counter: &mut u64, more: u64| *counter = counter.saturating_add(more);
+                add(&mut record.visits, after.visits - before.visits);
+                add(
+                    &mut record.smoothing_sweeps,
                     after.smoothing_sweeps - before.smoothing_sweeps,
+                );
+                add(
+                    &mut record.coarse_iterations,
                     after.coarse_iterations - before.coarse_iterations,
-                ];
-                for (word, counted) in record[1..].iter_mut().zip(counted) {
-                    *word = word.saturating_add(counted);
-                }
+                );
             }
             Solved {
                 answer: Ok(LinearSolveReport {

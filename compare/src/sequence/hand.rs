@@ -25,7 +25,7 @@ fn lent(mut problem: Problem) -> Problem {
     problem.lent = Lent::PLENTY;
     let charges = expected::build(&problem).charges;
     let last = charges.last().copied().unwrap_or_default();
-    problem.lent = Lent::of(last, 4 * problem.options.max_levels);
+    problem.lent = Lent::of(last, problem.options.max_levels);
     problem
 }
 

@@ -141,7 +141,14 @@ fn one_sequence(problem: &Problem, calls: &[Call], added: u64) -> (String, Vec<S
                     ),
                 }
                 let solution = rising(due.x.iter().map(|value| value.to_bits()));
-                line(&mut text, [solution, rising(statistics.iter().copied())]);
+                let counted = statistics.iter().flat_map(|record| {
+                    let counters = [record.visits, record.smoothing_sweeps];
+                    [record.cells]
+                        .into_iter()
+                        .chain(counters)
+                        .chain([record.coarse_iterations])
+                });
+                line(&mut text, [solution, rising(counted)]);
             }
         }
     }
