@@ -1,5 +1,5 @@
 #!/usr/bin/env python3
-"""bench/controls.py [--quick] [--only NAME]: what each control does, on five meshes; docs/CONTROLS.md has a run of it.
+"""bench/controls.py [--quick] [--hard] [--only NAME]: what each control does, on five meshes; docs/CONTROLS.md has a run of it.
 
 Each solve goes from zero to 1e-8 of the first residual, at most 200 iterations. Times are the processor's for this thread, the least of three, in milliseconds."""
 
@@ -17,6 +17,8 @@ from hifewugbe.buffers import FLOATS, WORDS, lend  # noqa: E402
 
 QUICK = "--quick" in sys.argv[1:]
 ONLY = sys.argv[sys.argv.index("--only") + 1] if "--only" in sys.argv[1:] else ""
+# Of the rough plane: how many powers of ten its permeabilities range over.
+DECADES = 6 if "--hard" in sys.argv[1:] else 3
 SIDE, DEEP = (32, 10) if QUICK else (160, 32)
 
 
@@ -24,7 +26,7 @@ def meshes():
     """Name, matrix and right-hand side of each."""
     draw = random.Random(1)
     plane, box = (SIDE, SIDE), (DEEP, DEEP, DEEP)
-    rough = [10 ** draw.uniform(-1.5, 1.5) for _ in range(SIDE * SIDE)]
+    rough = [10 ** draw.uniform(-DECADES / 2, DECADES / 2) for _ in range(SIDE * SIDE)]
     layers = [1.0 if height % 8 < 4 else 1e-3 for height in range(DEEP) for _ in range(DEEP * DEEP)]
     for name, matrix in [
         ("plane", laplacian(plane)),
