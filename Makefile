@@ -46,11 +46,13 @@ install: all
 	sed 's/@VERSION@/$(VERSION)/' include/hifewugbe.pc.in >'$(DESTDIR)$(PREFIX)/lib/pkgconfig/hifewugbe.pc'
 	install -m 644 python/hifewugbe/*.py '$(DESTDIR)$(PYTHONDIR)/hifewugbe'
 	install -m 755 $(LIBRARY) '$(DESTDIR)$(PYTHONDIR)/hifewugbe/libmultigrid_c.so'
+	@echo 'installed under $(DESTDIR)$(PREFIX); the Python package in $(DESTDIR)$(PYTHONDIR)'
 
 bundle: all
 	rm -rf target/bundle
 	$(MAKE) --no-print-directory install DESTDIR=target/bundle PREFIX=/$(BUNDLE) PYTHONDIR=/$(BUNDLE)/python
-	cp -R examples target/bundle/$(BUNDLE) && cp -R python/examples target/bundle/$(BUNDLE)/python
+	cp -R examples target/bundle/$(BUNDLE)
+	mkdir target/bundle/$(BUNDLE)/python/examples && cp python/examples/*.py target/bundle/$(BUNDLE)/python/examples
 	mkdir target/bundle/$(BUNDLE)/rust && cp -R $(addprefix rust/,Cargo.toml Cargo.lock build.rs src examples tests) target/bundle/$(BUNDLE)/rust
 	cp --parents $(DOCUMENTS) target/bundle/$(BUNDLE)
 	cd target/bundle/$(BUNDLE) && find . -type f ! -name SHA256SUMS | LC_ALL=C sort | xargs sha256sum >SHA256SUMS

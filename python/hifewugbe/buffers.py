@@ -29,6 +29,8 @@ class Slice:
 
 
 def _view(values):
+    if isinstance(values, (bytes, bytearray)):
+        raise TypeError("bytes are no numbers")
     try:
         return memoryview(values)
     except TypeError:
@@ -54,17 +56,17 @@ def _shared(values, view, width, codes):
 
 
 def _copied(values, view, kind, name):
+    """An `array` of the numbers."""
     code, width, _ = kind
     if view is not None and view.ndim != 1:
         raise ValueError(f"{name} has {view.ndim} dimensions, not one")
     try:
         items = values if view is None or not hasattr(values, "tolist") else values.tolist()
-        copy = array(code, items)
+        return array(code, items)
     except OverflowError:
         raise ValueError(f"{name} has a number that is below 0 or does not fit in {8 * width} bits") from None
     except TypeError as error:
         raise TypeError(f"{name}: {error}") from None
-    return own(copy)
 
 
 def own(numbers):
@@ -73,11 +75,17 @@ def own(numbers):
     return Slice(address, length, numbers.itemsize, numbers)
 
 
+def keep(values, kind, name):
+    """The numbers themselves where their own memory has the right form, else a copy, to be lent again and again."""
+    view = _view(values)
+    return values if view is not None and _shared(values, view, kind[1], kind[2]) else _copied(values, view, kind, name)
+
+
 def lend(values, kind, name):
     """The slice of some numbers to be read: of their own memory where it has the right form, else of a copy."""
     view = _view(values)
     shared = None if view is None else _shared(values, view, kind[1], kind[2])
-    return _copied(values, view, kind, name) if shared is None else shared
+    return own(_copied(values, view, kind, name)) if shared is None else shared
 
 
 def lend_written(values, name):

@@ -4,7 +4,7 @@ import ctypes
 import threading
 from array import array
 
-from .buffers import FLOATS, WORDS, lend, lend_written, own
+from .buffers import FLOATS, WORDS, keep, lend, lend_written, own
 from .hierarchy import LevelStatistics, Report, levels_of
 from .library import LIBRARY, MOST_COARSEST_CELLS, MOST_DIRECTIONS, MOST_ENTRIES, MOST_LEVELS, MOST_ROWS, Handle, Record
 from .options import Options
@@ -78,7 +78,7 @@ class Multigrid:
         if values is None:
             raise TypeError("values are missing")
         self.options = options
-        self._offsets, self._columns = offsets, columns
+        self._offsets, self._columns = keep(offsets, WORDS, "offsets"), keep(columns, WORDS, "columns")
         self._lock = threading.Lock()
         self._build(options._controls(), values, weights)
         self._levels = levels_of(self._stores.words, self._handle.levels)

@@ -93,7 +93,12 @@ class Builds(unittest.TestCase):
                 Multigrid(*given)
 
     def test_what_cannot_cross_is_said(self):
-        for given, error in [(([0, -1], [0], [1.0]), ValueError), (([0, 1], [0.5], [1.0]), TypeError), (([0, 1], [0]), TypeError)]:
+        for given, error in [
+            (([0, -1], [0], [1.0]), ValueError),
+            (([0, 1], [0.5], [1.0]), TypeError),
+            (([0, 1], [0]), TypeError),
+            (([0, 1], [0], b"12345678"), TypeError),
+        ]:
             with self.assertRaises(error):
                 Multigrid(*given)
         for wrong in [{"pre_sweeps": -1}, {"max_levels": 2**64}, {"post_sweeps": 0.5}]:
@@ -175,6 +180,19 @@ class Solves(unittest.TestCase):
         for thread in threads:
             thread.join()
         self.assertEqual(set(answers), {due})
+
+
+    def test_a_pattern_that_is_changed_is_refused(self):
+        offsets, columns, values = array("I", PRESS[0]), array("I", PRESS[1]), PRESS[2]
+        press = Multigrid(offsets, columns, values)
+        press.update(values)
+        columns[1] = 0
+        with self.assertRaises(refusals.OtherPattern):
+            press.update(values)
+        listed = list(PRESS[1])
+        press = Multigrid(PRESS[0], listed, values)
+        listed.clear()
+        press.update(values)
 
 
 class Calls(unittest.TestCase):
