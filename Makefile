@@ -4,6 +4,7 @@
 # make check                 the examples and tests of C, Rust and Python (.ci/library)
 # make version               the number of the file VERSION, written wherever it is shown
 
+.DEFAULT_GOAL := all
 PREFIX ?= /usr/local
 DESTDIR ?=
 PYTHON ?= python3
