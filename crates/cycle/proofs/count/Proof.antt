@@ -7,7 +7,7 @@ use Rattle.cycle.proofs.count.Tie as tie
 
 returns : tie.Need-returns
 unfolding countOf
-returns c = rw (c .saturating-add .ensures)
+returns c = cc
 
 pub count-spec : {M : Type 1} → statement M
 count-spec =

@@ -19,11 +19,20 @@ attempt-requires c κs = attempt-ok (c .before .before .before .before .before .
 copy-out-requires : tie.Need-copy-out-requires
 copy-out-requires c κs = omega (arith, leave-ok _ _ _ _ (c .before .before .before .before .before .before .before .before .before .before .before .before .before .before .before .before .before .before .before .before .pre) (c .before .before .before .before .before .before .before .before .before .before .before .before .before .before .before .regions .ensures) (c .before .before .before .before .before .before .before .before .before .before .before .before .enter .ensures) (c .before .before .before .before .before .before .before .attempt .ensures))
 
+refused-requires : tie.Need-refused-requires
+refused-requires c κs = search needs
+
 returns : tie.Need-returns
 returns c = begin-yes _ _ _ _ (c .before .before .before .before .before .before .before .before .before .before .before .before .before .before .before .before .before .before .before .before .before .before .before .pre) (c .before .before .before .before .before .before .before .before .before .before .before .before .before .before .before .before .before .before .regions .ensures) (c .before .before .before .before .before .before .before .before .before .before .before .before .before .before .before .enter .ensures) (c .before .before .before .before .before .before .before .before .before .before .attempt .ensures) (c .before .before .before .before .before .before .report .given .1) (c .before .before .copy-out .ensures)
 
 returns-2 : tie.Need-returns-2
-returns-2 c = begin-no _ _ _ _ (c .before .before .before .before .before .before .before .before .before .before .before .before .before .before .before .before .before .before .before .pre) (c .before .before .before .before .before .before .before .before .before .before .before .before .before .before .regions .ensures) (c .before .before .before .before .before .before .before .before .before .before .before .enter .ensures) (c .before .before .before .before .before .before .attempt .ensures) (c .before .before .q .given .1) (c .refused .ensures)
+returns-2 c =
+    let at-q = c .before .before in
+    let at-attempt = at-q .before .before .before .before in
+    let at-enter = at-attempt .before .before .before .before .before in
+    let at-regions = at-enter .before .before .before in
+    let start = at-regions .before .before .before .before .before in
+    begin-no _ _ _ _ (start .pre) (at-regions .regions .ensures) (at-enter .enter .ensures) (at-attempt .attempt .ensures) (at-q .q .given .1) (c .refused .ensures)
 
 pub begin-spec : {M : Type 1} → statement M
 begin-spec =
@@ -35,7 +44,7 @@ begin-spec =
     (λ c. search needs)
     copy-out-requires
     (λ c. search needs)
-    (λ c κs. search needs)
+    refused-requires
     (λ c. search needs)
     (λ c. search needs)
     returns

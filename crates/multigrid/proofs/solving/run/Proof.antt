@@ -9,11 +9,16 @@ use Rattle.multigrid.proofs.solving.run.Tie as tie
 solve-requires : tie.Need-solve-requires
 solve-requires c κs = solve-opened _ (sym (c .before .before .before .check .ensures) ∙ c .before .before .if1 .taken)
 
+refused-requires : tie.Need-refused-requires
+refused-requires c κs = search needs
+
 returns : tie.Need-returns
 returns c = ran-sound (sym (c .before .before .before .before .before .before .before .before .check .ensures) ∙ c .before .before .before .before .before .before .before .if1 .taken) (c .before .before .before .before .solve .ensures)
 
 returns-2 : tie.Need-returns-2
-returns-2 c = ran-unsound (sym (c .before .before .check .ensures) ∙ c .before .if1 .left) (c .refused .ensures)
+returns-2 c =
+    let at-if1 = c .before in
+    ran-unsound (sym (at-if1 .before .check .ensures) ∙ at-if1 .if1 .left) (c .refused .ensures)
 
 pub run-spec : {M : Type 1} → statement M
 run-spec =
@@ -24,5 +29,5 @@ run-spec =
     (λ c. search needs)
     (λ c. search needs)
     returns
-    (λ c κs. search needs)
+    refused-requires
     returns-2)

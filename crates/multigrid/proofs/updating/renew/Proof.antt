@@ -14,8 +14,16 @@ returns : tie.Need-returns
 returns c = update-sound (sym (c .before .before .before .before .before .check .ensures) ∙ c .before .before .before .before .if1 .taken) (c .before .before .update .ensures)
 
 returns-2 : tie.Need-returns-2
-returns-2 c = update-unsound (sym (c .before .check .ensures) ∙ c .if1 .left)
+returns-2 c =
+    let at-if1 = c in
+    update-unsound (sym (at-if1 .before .check .ensures) ∙ at-if1 .if1 .left)
 
 pub renew-spec : {M : Type 1} → statement M
 renew-spec =
-    tie.close (tie.spec (λ c κs. search needs) update-requires (λ c. search needs) returns returns-2)
+    tie.close
+    (tie.spec
+    (λ c κs. search needs)
+    update-requires
+    (λ c. search needs)
+    returns
+    returns-2)
