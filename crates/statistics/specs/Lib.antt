@@ -1,2 +1,3 @@
 pub mod Fresh
-pub mod Published
+pub mod Contract
+pub mod Steps
