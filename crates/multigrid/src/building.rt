@@ -1,12 +1,14 @@
-// mod.rs: the calls that build a hierarchy, `new` and `new_with_face_weights`, up to their statistics.
+// mod.rs: the calls that build a hierarchy, `new` and `new_with_face_weights`: up to their statistics, and whole.
 ghost use mathlib.Core.Path.{_≡_};
 ghost use mathlib.Core.Bool.{true, false};
 ghost use mathlib.Core.List.{[]};
 ghost use Rattle.build.specs.Steps.{inputOf};
 ghost use Rattle.multigrid.specs.Contract.{cellsAt, tableOf, CellsOk, BuildRan};
+ghost use Rattle.multigrid.specs.New.{NewDone};
 use options::MultigridOptions;
 use solver::BuildRun;
 use solver::Built;
+use solver::MultigridLevelStatistics;
 
 // The rows of so many levels, as their words tell them, and zeros behind them.
 fn cells(words: &[u32], levels: usize) -> [u64; 128]
@@ -68,8 +70,8 @@ fn run(
     }
 }
 
-// The hierarchy of a matrix in compressed rows, paired by its values, in stores that the caller lends, whatever these held.
-pub fn by_values(
+// A build that pairs by the values.
+fn by_values(
     rows: usize,
     offsets: &[u32],
     columns: &[u32],
@@ -96,20 +98,19 @@ pub fn by_values(
     )
 }
 
-// The same, paired by fixed geometric face strengths instead of flow-dependent matrix coefficients. Weights follow the entries;
-// diagonal weights are ignored and internal weights sum on coarse levels.
-pub fn by_face_weights(
+// A build that pairs by strengths of the faces.
+fn by_face_weights(
     rows: usize,
     offsets: &[u32],
     columns: &[u32],
     values: &[f64],
-    face_weights: &[f64],
+    strengths: &[f64],
     options: MultigridOptions,
     records: usize,
     words: &mut [u32],
     floats: &mut [f64],
 ) -> BuildRun
-    ensures { λ r. ⌜ BuildRan (now (words .entry)) (now (words .exit)) (now (floats .entry)) (now (floats .exit)) records (inputOf rows (now (offsets .entry)) (now (columns .entry)) (now (values .entry)) true (now («face_weights» .entry)) options) r ⌝ }
+    ensures { λ r. ⌜ BuildRan (now (words .entry)) (now (words .exit)) (now (floats .entry)) (now (floats .exit)) records (inputOf rows (now (offsets .entry)) (now (columns .entry)) (now (values .entry)) true (now (strengths .entry)) options) r ⌝ }
 {
     run(
         rows,
@@ -117,10 +118,68 @@ pub fn by_face_weights(
         columns,
         values,
         true,
-        face_weights,
+        strengths,
         options,
         records,
         words,
         floats,
     )
+}
+
+// The hierarchy of a matrix in compressed rows, paired by its values, in stores that the caller lends, whatever these held; and the
+// statistics of its levels, which are zeros where the build refuses.
+pub fn new(
+    rows: usize,
+    offsets: &[u32],
+    columns: &[u32],
+    values: &[f64],
+    options: MultigridOptions,
+    words: &mut [u32],
+    floats: &mut [f64],
+    statistics: &mut [MultigridLevelStatistics],
+) -> Built
+    ensures { λ r. ⌜ NewDone (now (words .entry)) (now (words .exit)) (now (floats .entry)) (now (floats .exit)) (now (statistics .entry)) (now (statistics .exit)) (inputOf rows (now (offsets .entry)) (now (columns .entry)) (now (values .entry)) false [] options) r ⌝ }
+{
+    let records = statistics.len();
+    let run = by_values(
+        rows,
+        offsets,
+        columns,
+        values,
+        options,
+        records,
+        words,
+        floats,
+    );
+    statistics::publish(run, statistics)
+}
+
+// The same, paired by fixed geometric face strengths instead of flow-dependent matrix coefficients. Weights follow the entries;
+// diagonal weights are ignored and internal weights sum on coarse levels.
+pub fn new_with_face_weights(
+    rows: usize,
+    offsets: &[u32],
+    columns: &[u32],
+    values: &[f64],
+    face_weights: &[f64],
+    options: MultigridOptions,
+    words: &mut [u32],
+    floats: &mut [f64],
+    statistics: &mut [MultigridLevelStatistics],
+) -> Built
+    ensures { λ r. ⌜ NewDone (now (words .entry)) (now (words .exit)) (now (floats .entry)) (now (floats .exit)) (now (statistics .entry)) (now (statistics .exit)) (inputOf rows (now (offsets .entry)) (now (columns .entry)) (now (values .entry)) true (now («face_weights» .entry)) options) r ⌝ }
+{
+    let held = statistics.len();
+    let run = by_face_weights(
+        rows,
+        offsets,
+        columns,
+        values,
+        face_weights,
+        options,
+        held,
+        words,
+        floats,
+    );
+    statistics::publish(run, statistics)
 }

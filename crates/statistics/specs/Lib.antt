@@ -1,3 +1,2 @@
-pub mod Fresh
 pub mod Contract
 pub mod Steps

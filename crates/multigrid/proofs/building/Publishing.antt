@@ -1,6 +1,6 @@
 -- A build whose rows are published in the records of the statistics leaves the statistics of its hierarchy.
 -- Assumes nothing.
-use mathlib.Core.Path.{_≡_, refl, sym, ap, _∙_}
+use mathlib.Core.Path.{_≡_, refl, sym, ap, subst, _∙_}
 use mathlib.Core.List.{List, [], _∷_}
 use mathlib.Core.Logic.{_⊎_, inl, inr}
 use Prim.Native.Nat.{ℕ, zero, suc, _≤_, _<_}
@@ -16,6 +16,8 @@ use Rattle.refusal.specs.Outcome.{Outcome, accepted, refused}
 use Rattle.hierarchy.specs.Level.{Level, Hierarchy}
 use Rattle.hierarchy.specs.Build.{Input, buildOf}
 use Rattle.solver.specs.declared.answers.BuildRun.{BuildRun}
+use Rattle.solver.specs.declared.answers.Built.{Built}
+use Rattle.statistics.specs.Contract.{PublishDone}
 use Rattle.solver.specs.declared.statistics.MultigridLevelStatistics.{MultigridLevelStatistics}
 use Rattle.solver.specs.Statistics.{unvisited, Published}
 use Rattle.build.specs.Contract.{lentOf}
@@ -121,3 +123,8 @@ new-published {w} {z} {F} {G} {s} {t} {x} {run} d p =
           let long = p .as-many in
           p .each i (omega arith) ∙ ap (λ (c : List ℕ). unvisited (getD c i 0)) (d .cells) ∙ sym (told-at (length s) i out (levels-few (d .built))));
     }
+
+-- So it is where `publish` gives the answer.
+pub new-done : {w z : List ℕ} {F G : List Float} {s t : List MultigridLevelStatistics} {x : Input} {run : BuildRun} {r : Built}
+    → BuildRan w z F G (length s) x run → PublishDone run s t r → NewDone w z F G s t x r
+new-done {w} {z} {F} {G} {s} {t} {x} d p = subst (λ (r : Built). NewDone w z F G s t x r) (sym (p .answer)) (new-published d (p .records))

@@ -1,6 +1,6 @@
 -- A solve whose counts are added to the records of its levels leaves the statistics that its call ensures.
 -- Assumes nothing.
-use mathlib.Core.Path.{_≡_, refl, sym, ap, _∙_}
+use mathlib.Core.Path.{_≡_, refl, sym, ap, subst, _∙_}
 use mathlib.Core.Bool.{Bool, true, false}
 use mathlib.Core.List.{List, [], _∷_}
 use mathlib.Core.Logic.{_⊎_, inl, inr}
@@ -20,6 +20,8 @@ use Rattle.refusal.proofs.Outcome.{ask-no}
 use Rattle.index_check.specs.Sound.{soundOf}
 use Rattle.iterations.specs.Iterate.{Solution}
 use Rattle.solver.specs.declared.answers.SolveRun.{SolveRun}
+use Rattle.solver.specs.declared.answers.Solved.{Solved}
+use Rattle.statistics.specs.Contract.{CountOk, CountDone}
 use Rattle.solver.specs.declared.statistics.MultigridLevelStatistics.{MultigridLevelStatistics}
 use Rattle.solver.specs.Statistics.{unvisited, countedAt, countedOn, CountedUp}
 use Rattle.solve.specs.Contract.{solvedAt, levelsCounted}
@@ -121,3 +123,13 @@ solve-counted {h} {w} {F} {t = t} {rhs = rhs} {x = x} {s = s} d c = record {
   view = d .view;
   unsound = d .unsound;
 }
+
+-- `count` may be asked for what a solve gives,
+pub solve-count-ok : {h : Handle} {w : List ℕ} {F G : List Float} {records : ℕ} {rhs x y : List Float} {s : LinearSolverOptions} {run : SolveRun}
+    → SolveRan h w F G records rhs x y s run → CountOk (run .levels) records
+solve-count-ok d = record { counted = counted-few d .0; room = counted-few d .1 }
+
+-- and with its answer the call ensures the same.
+pub solve-done : {h : Handle} {w : List ℕ} {F G : List Float} {t u : List MultigridLevelStatistics} {rhs x y : List Float} {s : LinearSolverOptions}
+    {run : SolveRun} {r : Solved} → SolveRan h w F G (length t) rhs x y s run → CountDone run t u r → SolveCall h w F G t u rhs x y s r
+solve-done {h} {w} {F} {G} {t} {u} {rhs} {x} {y} {s} d c = subst (λ (r : Solved). SolveCall h w F G t u rhs x y s r) (sym (c .answer)) (solve-counted d (c .records))
