@@ -103,6 +103,8 @@ def main():
     table("coarsest_cells", [(str(k), {"coarsest_cells": k}) for k in (1, 10, 50, 256)], grids)
     capped = [(str(k), {"max_levels": k, "coarsest_cells": 256}) for k in (2, 3, 4, 5, 6, 64)]
     table("max_levels, with 256 coarsest cells", capped, grids)
+    together = [{}, {"krylov_dimension": 16, "finest_sweeps": 2}, {"krylov_dimension": 16, "pre_sweeps": 2}, {"krylov_dimension": 16, "merge_levels": 1}]
+    table("some together", [(", ".join(f"{name} {value}" for name, value in some.items()) or "defaults", some) for some in together], grids)
     if not ONLY:
         joined(grids)
     table("residual_norm", [(norm.name.lower(), {"residual_norm": norm}) for norm in ResidualNorm], grids)
