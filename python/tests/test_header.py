@@ -1,4 +1,4 @@
-"""The structs are written down three times, for C, Rust and Python: the texts are compared, field by field. So are the limits, and the version."""
+"""The structs and the calls are written down three times, for C, Rust and Python: the texts are compared, field by field and argument by argument. So are the limits, and the version."""
 
 import ctypes
 import os
@@ -50,7 +50,41 @@ def of_python(kind):
     return [(name, numbers.get(field) or back[field.__name__]) for name, field in kind._fields_]
 
 
+def called_in_header():
+    """Of each call what it takes, in Rust's words, and what it answers."""
+    header = re.sub(r"/\*.*?\*/", "", text("include/multigrid.h"), flags=re.S)
+    kinds = dict(NUMBERS, size_t="usize", uint32_t="u32", void="()", **{f"struct {name}": rust for name, (rust, _) in NAMES.items()})
+    calls = {}
+    for answer, name, arguments in re.findall(r"^(struct \w+)\s+(multigrid_\w+)\(([^)]*)\);", header, re.M):
+        takes = []
+        for argument in [] if arguments == "void" else arguments.split(","):
+            lent, kind, pointer = re.fullmatch(r"\s*(const )?((?:struct )?\w+) (\*?)\w+", argument).groups()
+            takes.append(("*const " if lent else "*mut ") + kinds[kind] if pointer else kinds[kind])
+        calls[name] = (takes, kinds[answer])
+    return calls
+
+
+def called_in_rust():
+    block = re.search(r'extern "C" \{(.*?)^\}', text("rust/src/calls.rs"), re.S | re.M).group(1)
+    found = re.findall(r"pub fn (\w+)\(([^)]*)\) -> (\w+);", block)
+    return {name: ([part.split(":")[1].strip() for part in takes.split(",") if ":" in part], answer) for name, takes, answer in found}
+
+
+def called_in_python():
+    """What ctypes is told: a pointer has no kind there, and a size is a word."""
+    numbers = {ctypes.c_uint64: "word", ctypes.c_double: "f64", ctypes.c_void_p: "pointer"}
+    back = {python: rust for rust, python in NAMES.values()}
+    return {name: ([numbers.get(kind) or back[kind.__name__] for kind in takes], back[answer.__name__]) for name, (takes, answer) in library.CALLS.items()}
+
+
 class Header(unittest.TestCase):
+    def test_calls_agree(self):
+        header = called_in_header()
+        self.assertEqual(len(header), 7)
+        self.assertEqual(header, called_in_rust())
+        plain = {name: ([re.sub(r"\*.*", "pointer", re.sub("usize|u64", "word", kind)) for kind in takes], answer) for name, (takes, answer) in header.items()}
+        self.assertEqual(plain, called_in_python())
+
     def test_structs_agree(self):
         header, rust = of_header(), of_rust()
         self.assertEqual(set(header), set(NAMES))
