@@ -29,10 +29,7 @@ finiteOf NotFinite = refused badDotProduct
 unfoldable pub stepOf : ℕ → Pair → Pair → Outcome Pair
 stepOf n m s = do
   beta ← finiteOf (productOf (dotOf n (s .image) (m .image)))
-  accepted (record {
-    direction = lessOf n beta (m .direction) (s .direction);
-    image = lessOf n beta (m .image) (s .image);
-  })
+  accepted (record { direction = lessOf n beta (m .direction) (s .direction); image = lessOf n beta (m .image) (s .image) })
 
 -- one pass over the stored pairs
 unfoldable pub passOf : ℕ → List Pair → Pair → Outcome Pair

@@ -69,7 +69,7 @@ module _ (a : Weighted) (forward : Bool) (none : NoneAbove a) where
       }
 
   none-count : pairsOf a forward .count ≡ a .rows
-  unfolding pairsOf
+  unfolding pairsOf turnOf
   none-count =
       for-count Alone (turnOf a forward) 0 (a .rows) zero-le (λ k _ h p on. alone-on k h p on)
       (pairing (filled (a .rows) (a .rows)) 0)

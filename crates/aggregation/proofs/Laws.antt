@@ -43,7 +43,7 @@ module _ {w : List ℕ} {F : List Float} {g : Graph} {row : ℕ} where
   pub choosing-start : {floats first end : ℕ} → GraphOk w floats g → row < g .rows
       → first ≡ idx w (g .offsets + row) → end ≡ idx w (g .offsets + row + 1)
       → Choosing g w F row end first (choice (g .rows) zero64 (g .rows) zero64)
-  unfolding strongestOf
+  unfolding strongestOf entryOf
   choosing-start {floats} {first} {end} ok r a b =
       let z : g .offsets + row + 1 ≡ g .offsets + (row + 1) = omega arith in
       let lo : first ≡ idx (offsetsAt g w) row = a ∙ sym (getD-part (g .offsets) (g .rows + 1) w row 0 (omega arith)) in
@@ -177,7 +177,7 @@ module _ {g : Graph} {forward : Bool} {w₀ : List ℕ} {F : List Float} where
   -- At the start the map is filled with "no aggregate yet".
   pub walking-start : {w : List ℕ} → GraphOk w (length F) g → Wrote (g .map) (g .rows) (filled (g .rows) (g .rows)) w w₀
       → Walking g forward w₀ F 0 w₀ 0
-  unfolding pairsOf
+  unfolding pairsOf turnOf
   walking-start ok h =
       let now = graph-kept ok h in
       record {

@@ -171,7 +171,7 @@ module _ {m : ℕ} (a : Weighted) (forward : Bool) (ok : InRange (a .rows) m (a 
   }
 
   along : Along n forward n (pairsOf a forward)
-  unfolding pairsOf
+  unfolding pairsOf turnOf
   along =
       for-count (Along n forward) (turnOf a forward) 0 n zero-le (λ k _ h p on. along-on k h p on) (pairing (filled n n) 0) along-start
 

@@ -20,9 +20,6 @@ pub record Weighted : Type 0 where
   pub columns : List ℕ
   pub weights : List Float
 
-abbrev pub weighted : ℕ → List ℕ → List ℕ → List Float → Weighted
-weighted n o c v = record { rows = n; offsets = o; columns = c; weights = v }
-
 -- the strength of one entry: its weight, or, where no weights are given, the absolute value of the matrix there
 abbrev pub strengthOf : Bool → Float → Float
 strengthOf absolute x = cond absolute (absOf x) x
@@ -35,32 +32,26 @@ strengthsOf absolute v = cond absolute (map absOf v) v
 abbrev pub choice : ℕ → Float → ℕ → Float → Choice
 choice f x a y = record { free = f; adjacent = a; freeweight = x; adjacentweight = y }
 
--- the candidate test, `weight > best`: strict, so that of equal weights the first in row order stays
-abbrev pub candidate : Float → Float → Bool
-candidate best weight = lt best weight
-
--- one entry: not the diagonal; a free neighbour, or one of the aggregate `cluster`, may be the strongest of its kind so far
+-- one entry: not the diagonal; a free neighbour, or one of the aggregate `cluster`, may be the strongest of its kind so far. The test,
+-- `weight > best`, is strict, so that of equal weights the first in row order stays.
 unfoldable pub considerOf : ℕ → ℕ → ℕ → Float → ℕ → Choice → Choice
 considerOf n row column weight cluster s =
-    cond (eqb column row) s
-    (cond (eqb cluster n)
-    (cond (candidate (s .freeweight) weight) (choice column weight (s .adjacent) (s .adjacentweight)) s)
-    (cond (candidate (s .adjacentweight) weight) (choice (s .free) (s .freeweight) cluster weight) s))
+    cond (eqb column row) s (cond (eqb cluster n)
+    (cond (lt (s .freeweight) weight) (choice column weight (s .adjacent) (s .adjacentweight)) s)
+    (cond (lt (s .adjacentweight) weight) (choice (s .free) (s .freeweight) cluster weight) s))
 
--- entry e of a row, by the map so far
-unfoldable pub entryOf : Weighted → List ℕ → ℕ → ℕ → Choice → Choice
-entryOf a map row e s = considerOf (a .rows) row (idx (a .columns) e) (at (a .weights) e) (idx map (idx (a .columns) e)) s
-
--- the choice of a row: all its entries, from none
+-- the choice of a row, by the map so far: all its entries, from none
 unfoldable pub strongestOf : Weighted → List ℕ → ℕ → Choice
 strongestOf a map row =
-    for (entryOf a map row) (idx (a .offsets) row) (idx (a .offsets) (row + 1)) (choice (a .rows) zero64 (a .rows) zero64)
+    for (λ e. considerOf (a .rows) row (idx (a .columns) e) (at (a .weights) e) (idx map (idx (a .columns) e)))
+    (idx (a .offsets) row) (idx (a .offsets) (row + 1)) (choice (a .rows) zero64 (a .rows) zero64)
 
 -- the aggregate of each row, and how many there are
 pub record Pairing : Type 0 where
   pub map : List ℕ
   pub count : ℕ
 
+-- such a pairing
 abbrev pub pairing : List ℕ → ℕ → Pairing
 pairing m c = record { map = m; count = c }
 
@@ -68,14 +59,27 @@ pairing m c = record { map = m; count = c }
 unfoldable pub placeOf : ℕ → ℕ → Choice → Pairing → Pairing
 placeOf n row s p =
     cond (eqb (s .free) n)
-    (cond (eqb (s .adjacent) n)
-    (pairing (set (p .map) row (p .count)) (p .count + 1))
-    (pairing (set (p .map) row (s .adjacent)) (p .count)))
+    (cond (eqb (s .adjacent) n) (pairing (set (p .map) row (p .count)) (p .count + 1)) (pairing (set (p .map) row (s .adjacent)) (p .count)))
     (pairing (set (set (p .map) row (p .count)) (s .free) (p .count)) (p .count + 1))
 
 -- one row: passed over where it is assigned already
 unfoldable pub pairRowOf : Weighted → ℕ → Pairing → Pairing
 pairRowOf a row p = cond (eqb (idx (p .map) row) (a .rows)) (placeOf (a .rows) row (strongestOf a (p .map) row) p) p
+
+-- `pairs`: the rows upward, or downward, from none assigned
+unfoldable pub pairsOf : Weighted → Bool → Pairing
+pairsOf a forward =
+    for (λ index. pairRowOf a (cond forward index (a .rows - 1 - index))) 0 (a .rows) (pairing (filled (a .rows) (a .rows)) 0)
+
+-- ---- the turns of the loops above, by the names that proofs have for them
+
+-- such a matrix
+abbrev pub weighted : ℕ → List ℕ → List ℕ → List Float → Weighted
+weighted n o c v = record { rows = n; offsets = o; columns = c; weights = v }
+
+-- entry e of a row, by the map so far
+unfoldable pub entryOf : Weighted → List ℕ → ℕ → ℕ → Choice → Choice
+entryOf a map row e s = considerOf (a .rows) row (idx (a .columns) e) (at (a .weights) e) (idx map (idx (a .columns) e)) s
 
 -- the row of a turn: rows upward, or downward
 abbrev pub rowOf : Bool → ℕ → ℕ → ℕ
@@ -85,9 +89,7 @@ rowOf forward n index = cond forward index (n - 1 - index)
 unfoldable pub turnOf : Weighted → Bool → ℕ → Pairing → Pairing
 turnOf a forward index p = pairRowOf a (rowOf forward (a .rows) index) p
 
--- `pairs`: a turn for each row, from none assigned
-unfoldable pub pairsOf : Weighted → Bool → Pairing
-pairsOf a forward = for (turnOf a forward) 0 (a .rows) (pairing (filled (a .rows) (a .rows)) 0)
+-- ---- what is proved of it
 
 -- a pattern of n rows and m entries is in range: each row's entries are among the m, and each column is a row
 pub record InRange (n m : ℕ) (offsets columns : List ℕ) : Type 0 where

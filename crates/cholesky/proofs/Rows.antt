@@ -114,7 +114,7 @@ module _ (F : List Float) (t : Terminal) (w : List ℕ) (ok : TerminalOk w (leng
   columns-law : (row : ℕ) → row < t .size → (v : List Float) → length v ≡ tri (t .size)
       → (length (columnsOf (entryAt t w F) row v) ≡ tri (t .size))
       × (for (columnTurn t w row) 0 row (splice (t .factor) v F) ≡ splice (t .factor) (columnsOf (entryAt t w F) row v) F)
-  unfolding columnsOf
+  unfolding columnsOf columnOf
   columns-law row h v q =
       for-map (λ (u : List Float). splice (t .factor) u F) (λ (u : List Float). length u ≡ tri (t .size)) _ _ 0 row
       (λ column _ c u e. column-turn row h column c u e) v q

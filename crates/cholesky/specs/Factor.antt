@@ -5,14 +5,14 @@ use Prim.Native.Nat.{ℕ, zero, suc, _+_, _-_}
 use lib.Dec.{eqb}
 use lib.Ieee.{Float, lt}
 use lib.ListN.{set}
-use Rattle.float.specs.Float.{div64, zero64, isFinite}
+use Rattle.float.specs.Float.{sub64, mul64, div64, zero64, isFinite}
 use Rattle.float.specs.Sqrt.{sqrtOf}
 use Rattle.refusal.specs.Refusal.{badPivot}
 use Rattle.refusal.specs.Outcome.{Outcome, accepted, ask, _>>=_}
 use Rattle.store.specs.Loop.{for}
 use Rattle.store.specs.Region.{at, idx}
 use Rattle.store.specs.Vector.{filled}
-use Rattle.cholesky.specs.Triangle.{tri, lessOf}
+use Rattle.cholesky.specs.Triangle.{tri}
 
 -- a matrix by its rows: the entries of row r stand from offsets[r] up to offsets[r + 1]
 pub record Csr : Type 0 where
@@ -29,22 +29,14 @@ seekOf a column (suc entries) e = cond (eqb (idx (a .columns) e) column) (at (a 
 unfoldable pub getOf : Csr → ℕ → ℕ → Float
 getOf a row column = seekOf a column (idx (a .offsets) (row + 1) - idx (a .offsets) row) (idx (a .offsets) row)
 
--- an entry of the compact matrix of coarse.rs: that of the coupled rows
-abbrev pub compactOf : Csr → List ℕ → ℕ → ℕ → Float
-compactOf a coupled row column = getOf a (idx coupled row) (idx coupled column)
-
 module _ (entry : ℕ → ℕ → Float) where
   -- an entry less the products of what stands before it in its row and in its column's row
   unfoldable pub restOf : ℕ → ℕ → List Float → Float
-  restOf row column l = for (lessOf l (tri row) (tri column)) 0 column (entry row column)
+  restOf row column l = for (λ k value. sub64 value (mul64 (at l (tri row + k)) (at l (tri column + k)))) 0 column (entry row column)
 
-  -- an element below the diagonal: the rest over the column's diagonal
-  unfoldable pub columnOf : ℕ → ℕ → List Float → List Float
-  columnOf row column l = set l (tri row + column) (div64 (restOf row column l) (at l (tri column + column)))
-
-  -- the row's elements below the diagonal
+  -- the row's elements below the diagonal: the rest of each over its column's diagonal
   unfoldable pub columnsOf : ℕ → List Float → List Float
-  columnsOf row l = for (columnOf row) 0 row l
+  columnsOf row l = for (λ column l. set l (tri row + column) (div64 (restOf row column l) (at l (tri column + column)))) 0 row l
 
 -- question 15: the pivot is finite and above zero
 unfoldable pub goodPivot : Float → Bool
@@ -65,6 +57,18 @@ module _ (level : ℕ) (coupled : List ℕ) (entry : ℕ → ℕ → Float) wher
     next ← rowOf row l
     rowsOf rows (row + 1) next
 
--- `cholesky` of the compact matrix of so many coupled rows
+-- `cholesky` of the compact matrix of coarse.rs, that of so many coupled rows
 unfoldable pub choleskyOf : ℕ → Csr → ℕ → List ℕ → Outcome (List Float)
-choleskyOf level a size coupled = rowsOf level coupled (compactOf a coupled) size 0 (filled (tri size) zero64)
+choleskyOf level a size coupled =
+    rowsOf level coupled (λ row column. getOf a (idx coupled row) (idx coupled column)) size 0 (filled (tri size) zero64)
+
+-- ---- names that proofs have for parts of it
+
+-- an entry of the compact matrix of coarse.rs: that of the coupled rows
+abbrev pub compactOf : Csr → List ℕ → ℕ → ℕ → Float
+compactOf a coupled row column = getOf a (idx coupled row) (idx coupled column)
+
+module _ (entry : ℕ → ℕ → Float) where
+  -- an element below the diagonal: the rest over the column's diagonal
+  unfoldable pub columnOf : ℕ → ℕ → List Float → List Float
+  columnOf row column l = set l (tri row + column) (div64 (restOf entry row column l) (at l (tri column + column)))

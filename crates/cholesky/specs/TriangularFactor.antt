@@ -9,6 +9,21 @@ use Rattle.store.specs.Region.{at}
 use Rattle.cholesky.specs.Triangle.{tri}
 
 module _ (l : List Float) where
+  -- a row of the forward substitution, `x[row] -= lower[row, k] * x[k]`; x[row] is written once, at its end
+  unfoldable pub lowRow : ℕ → List Float → List Float
+  lowRow row x = set x row (div64 (for (λ k value. sub64 value (mul64 (at l (tri row + k)) (at x k))) 0 row (at x row)) (at l (tri row + row)))
+
+  -- a row of the backward substitution over n rows, `x[row] -= lower[k, row] * x[k]`
+  unfoldable pub highRow : ℕ → ℕ → List Float → List Float
+  highRow n row x = set x row (div64 (for (λ k value. sub64 value (mul64 (at l (tri k + row)) (at x k))) (row + 1) n (at x row)) (at l (tri row + row)))
+
+-- `solve_factor`: rows upward, then downward
+unfoldable pub solveFactorOf : ℕ → List Float → List Float → List Float
+solveFactorOf n l rhs = for (λ j. highRow l n (n - 1 - j)) 0 n (for (lowRow l) 0 n rhs)
+
+-- ---- the turns of the loops above, by the names that proofs have for them
+
+module _ (l : List Float) where
   -- `x[row] -= lower[row, k] * x[k]`
   unfoldable pub lowTerm : ℕ → List Float → ℕ → Float → Float
   lowTerm row x k value = sub64 value (mul64 (at l (tri row + k)) (at x k))
@@ -16,15 +31,3 @@ module _ (l : List Float) where
   -- `x[row] -= lower[k, row] * x[k]`
   unfoldable pub highTerm : ℕ → List Float → ℕ → Float → Float
   highTerm row x k value = sub64 value (mul64 (at l (tri k + row)) (at x k))
-
-  -- a row of the forward substitution; x[row] is written once, at its end
-  unfoldable pub lowRow : ℕ → List Float → List Float
-  lowRow row x = set x row (div64 (for (lowTerm row x) 0 row (at x row)) (at l (tri row + row)))
-
-  -- a row of the backward substitution over n rows
-  unfoldable pub highRow : ℕ → ℕ → List Float → List Float
-  highRow n row x = set x row (div64 (for (highTerm row x) (row + 1) n (at x row)) (at l (tri row + row)))
-
--- `solve_factor`: rows upward, then downward
-unfoldable pub solveFactorOf : ℕ → List Float → List Float → List Float
-solveFactorOf n l rhs = for (λ j. highRow l n (n - 1 - j)) 0 n (for (lowRow l) 0 n rhs)

@@ -160,7 +160,7 @@ module _ {w : List ℕ} {F G : List Float} {inverse rhs x work : ℕ} {t : Termi
   module _ {H : List Float} {r : Bool} (h : CoupledSolved t w rhs x work G H) (e : r ≡ allFinite (t .rows) (part x (t .rows) H)) where
     solution-is : part x (t .rows) H
         ≡ solutionOf (t .rows) (part inverse (t .rows) F) (t .size) (coupledAt t w) (factorAt t F) (part rhs (t .rows) F)
-    unfolding solutionOf
+    unfolding solutionOf scatterOf gatherOf diagonalOf
     solution-is =
         let b : t .factor + tri (t .size) ≤ rhs = ok .coupled .factors in
         let c : rhs + t .rows ≤ x = ok .coupled .rhss in

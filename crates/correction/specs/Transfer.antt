@@ -8,17 +8,9 @@ use Rattle.store.specs.Loop.{for}
 use Rattle.store.specs.Region.{at, idx}
 use Rattle.store.specs.Vector.{tab, filled}
 
--- one row's residual, added to its aggregate's sum
-unfoldable pub gatherTurn : List ℕ → List Float → ℕ → List Float → List Float
-gatherTurn map residual row v = set v (idx map row) (add64 (at v (idx map row)) (at residual row))
-
--- v with the residuals of n rows added, each at its aggregate, in row order
-unfoldable pub gatherOf : ℕ → List ℕ → List Float → List Float → List Float
-gatherOf n map residual v = for (gatherTurn map residual) 0 n v
-
 -- `coarse_rhs` of cycle.rs: the residuals of n rows, added up over each of the `count` aggregates from +0
 unfoldable pub restrictOf : ℕ → ℕ → List ℕ → List Float → List Float
-restrictOf count n map residual = gatherOf n map residual (filled count zero64)
+restrictOf count n map residual = for (λ row v. set v (idx map row) (add64 (at v (idx map row)) (at residual row))) 0 n (filled count zero64)
 
 -- `correction` of cycle.rs: for each of n rows the coarse solution at its aggregate
 unfoldable pub prolongOf : ℕ → List ℕ → List Float → List Float
@@ -37,3 +29,13 @@ pub record ProlongOk (w : List ℕ) (size n count map coarse out : ℕ) : Type 0
   pub outs : out + n ≤ coarse
   pub coarses : coarse + count ≤ size
   pub near : (row : ℕ) → row < n → idx w (map + row) < count
+
+-- ---- the turns of the loops above, by the names that proofs have for them
+
+-- one row's residual, added to its aggregate's sum
+unfoldable pub gatherTurn : List ℕ → List Float → ℕ → List Float → List Float
+gatherTurn map residual row v = set v (idx map row) (add64 (at v (idx map row)) (at residual row))
+
+-- v with the residuals of n rows added, each at its aggregate, in row order
+unfoldable pub gatherOf : ℕ → List ℕ → List Float → List Float → List Float
+gatherOf n map residual v = for (gatherTurn map residual) 0 n v

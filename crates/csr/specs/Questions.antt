@@ -17,42 +17,27 @@ use Rattle.refusal.specs.Refusal.{tooLarge, badOffsets, badColumns}
 unfoldable pub sizeOk : ℕ → List ℕ → Bool
 sizeOk rows columns = leb rows 65536 && leb (length columns) 1048576
 
--- whether row r does not end before it starts
-unfoldable pub stepOk : List ℕ → ℕ → Bool
-stepOk offsets r = leb (idx offsets r) (idx offsets (r + 1))
-
--- whether no row does
+-- whether no row ends before it starts
 unfoldable pub neverFall : ℕ → List ℕ → Bool
-neverFall rows offsets = each (stepOk offsets) rows
+neverFall rows offsets = each (λ r. leb (idx offsets r) (idx offsets (r + 1))) rows
 
 -- question 2: rows + 1 offsets, starting at 0, never falling, ending at the entry count, and as many values as columns
 unfoldable pub offsetsOk : ℕ → List ℕ → List ℕ → List Float → Bool
 offsetsOk rows offsets columns values =
-    eqb (length offsets) (rows + 1)
-    && eqb (idx offsets 0) 0
-    && neverFall rows offsets
-    && eqb (idx offsets rows) (length columns)
-    && eqb (length values) (length columns)
+    eqb (length offsets) (rows + 1) && eqb (idx offsets 0) 0 && neverFall rows offsets
+    && eqb (idx offsets rows) (length columns) && eqb (length values) (length columns)
 
 -- the test of entry e in a row that ends at `last`: its column is below the rows, and below the row's next one
 unfoldable pub entryOk : ℕ → List ℕ → ℕ → ℕ → Bool
 entryOk rows columns last e = ltb (idx columns e) rows && (leb last (e + 1) || ltb (idx columns e) (idx columns (e + 1)))
 
--- the test of the row's k-th entry, counted from `first`
-unfoldable pub entryFrom : ℕ → List ℕ → ℕ → ℕ → ℕ → Bool
-entryFrom rows columns first last k = entryOk rows columns last (first + k)
-
 -- whether it holds of each entry from `first` up to `last`
 unfoldable pub rowOk : ℕ → List ℕ → ℕ → ℕ → Bool
-rowOk rows columns first last = each (entryFrom rows columns first last) (last - first)
-
--- the test of row r
-unfoldable pub rowAt : ℕ → List ℕ → List ℕ → ℕ → Bool
-rowAt rows offsets columns r = rowOk rows columns (idx offsets r) (idx offsets (r + 1))
+rowOk rows columns first last = each (λ k. entryOk rows columns last (first + k)) (last - first)
 
 -- question 3: in each row, each column is below the rows, and they rise strictly
 unfoldable pub columnsOk : ℕ → List ℕ → List ℕ → Bool
-columnsOk rows offsets columns = each (rowAt rows offsets columns) rows
+columnsOk rows offsets columns = each (λ r. rowOk rows columns (idx offsets r) (idx offsets (r + 1))) rows
 
 -- questions 1 to 3
 abbrev pub matrixAsked : ℕ → List ℕ → List ℕ → List Float → Outcome Unit
@@ -77,3 +62,17 @@ pub record Rowed (rows : ℕ) (offsets columns : List ℕ) : Type 0 where
   pub size : length offsets ≡ rows + 1
   pub starts : (r : ℕ) → r < rows → idx offsets r ≤ idx offsets (r + 1)
   pub ends : (r : ℕ) → r < rows → idx offsets (r + 1) ≤ length columns
+
+-- ---- the turns of the loops above, by the names that proofs have for them
+
+-- whether row r does not end before it starts
+unfoldable pub stepOk : List ℕ → ℕ → Bool
+stepOk offsets r = leb (idx offsets r) (idx offsets (r + 1))
+
+-- the test of the row's k-th entry, counted from `first`
+unfoldable pub entryFrom : ℕ → List ℕ → ℕ → ℕ → ℕ → Bool
+entryFrom rows columns first last k = entryOk rows columns last (first + k)
+
+-- the test of row r
+unfoldable pub rowAt : ℕ → List ℕ → List ℕ → ℕ → Bool
+rowAt rows offsets columns r = rowOk rows columns (idx offsets r) (idx offsets (r + 1))

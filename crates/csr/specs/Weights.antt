@@ -11,6 +11,19 @@ use Rattle.options.specs.Options.{tolerable}
 use Rattle.refusal.specs.Outcome.{Outcome, passed, ask, _>>_}
 use Rattle.refusal.specs.Refusal.{weightCount, badWeight}
 
+-- question 5: each weight is finite and not below zero; minus zero passes, a NaN does not
+unfoldable pub weightsOk : List Float → Bool
+weightsOk weights = each (λ k. tolerable (at weights k)) (length weights)
+
+-- questions 4 and 5
+abbrev pub weightsAsked : ℕ → List Float → Outcome Unit
+weightsAsked entries weights = do
+  ask (eqb (length weights) entries) weightCount
+  ask (weightsOk weights) badWeight
+  passed
+
+-- ---- the turns of the loops above, by the names that proofs have for them
+
 -- question 4: as many weights as entries
 abbrev pub weightsCounted : ℕ → List Float → Bool
 weightsCounted entries weights = eqb (length weights) entries
@@ -18,14 +31,3 @@ weightsCounted entries weights = eqb (length weights) entries
 -- the test of weight k: it is finite and not below zero; minus zero passes, a NaN does not
 unfoldable pub weightOk : List Float → ℕ → Bool
 weightOk weights k = tolerable (at weights k)
-
--- question 5: each weight passes it
-unfoldable pub weightsOk : List Float → Bool
-weightsOk weights = each (weightOk weights) (length weights)
-
--- questions 4 and 5
-abbrev pub weightsAsked : ℕ → List Float → Outcome Unit
-weightsAsked entries weights = do
-  ask (weightsCounted entries weights) weightCount
-  ask (weightsOk weights) badWeight
-  passed

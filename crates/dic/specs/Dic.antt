@@ -38,6 +38,15 @@ pivotRow level k row o = do
 unfoldable pub pivotsOf : ℕ → Kernel → Outcome (List Float)
 pivotsOf level k = for (pivotRow level k) 0 (k .rows) (accepted (k .diagonal))
 
+-- `update_dic_diagonal`: the reciprocals of the pivots, which have all been asked by then, each with question 17
+unfoldable pub dicOf : ℕ → Kernel → Outcome (List Float)
+dicOf level k = do
+  d ← pivotsOf level k
+  askEach (k .rows) (λ row. ask (isFinite (div64 one64 (at d row))) (badDicReciprocal level row) passed)
+  accepted (tab (λ row. div64 one64 (at d row)) (k .rows))
+
+-- ---- what the functions require and ensure
+
 -- question 17: the reciprocal of row's pivot is finite
 abbrev pub reciprocalAsked : ℕ → List Float → ℕ → Outcome Unit
 reciprocalAsked level d row = ask (isFinite (div64 one64 (at d row))) (badDicReciprocal level row) passed
@@ -46,17 +55,11 @@ reciprocalAsked level d row = ask (isFinite (div64 one64 (at d row))) (badDicRec
 abbrev pub invertedOf : ℕ → List Float → List Float
 invertedOf n d = tab (λ row. div64 one64 (at d row)) n
 
--- the same with question 17
+-- the reciprocals of n pivots, each with question 17
 unfoldable pub reciprocalsOf : ℕ → ℕ → List Float → Outcome (List Float)
 reciprocalsOf level n d = do
-  askEach n (reciprocalAsked level d)
-  accepted (invertedOf n d)
-
--- `update_dic_diagonal`: the reciprocals of the pivots, which have all been asked by then
-unfoldable pub dicOf : ℕ → Kernel → Outcome (List Float)
-dicOf level k = do
-  d ← pivotsOf level k
-  reciprocalsOf level (k .rows) d
+  askEach n (λ row. ask (isFinite (div64 one64 (at d row))) (badDicReciprocal level row) passed)
+  accepted (tab (λ row. div64 one64 (at d row)) n)
 
 -- the matrix lies below the diagonal that is made
 pub record DicOk (w : List ℕ) (size : ℕ) (s : SymmetricMatrix) (d : ℕ) : Type 0 where

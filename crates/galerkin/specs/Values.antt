@@ -14,22 +14,16 @@ use Rattle.galerkin.specs.Whole.{half}
 
 -- ---- the coarse values
 
--- fine entry e more: `*coefficients.entry(..).or_insert(0.0) += values[e]`
-unfoldable pub addEntry : List ℕ → List Float → ℕ → List Float → List Float
-addEntry positions values e v = set v (idx positions e) (add64 (at v (idx positions e)) (at values e))
-
--- the sums of m fine entries, each at its position, in entry order from plus zero
+-- the sums of m fine entries, each at its position, in entry order from plus zero: `*coefficients.entry(..).or_insert(0.0) += values[e]`
 unfoldable pub sumsOf : ℕ → ℕ → List ℕ → List Float → List Float
-sumsOf total m positions values = for (addEntry positions values) 0 m (filled total zero64)
+sumsOf total m positions values =
+    for (λ e v. set v (idx positions e) (add64 (at v (idx positions e)) (at values e))) 0 m (filled total zero64)
 
--- `0.5 * x + 0.5 * y`
-abbrev pub meanOf : Float → Float → Float
-meanOf x y = add64 (mul64 half x) (mul64 half y)
-
--- both entries of face k become their mean
+-- both entries of face k become their mean, `0.5 * x + 0.5 * y`
 unfoldable pub averageFace : List ℕ → List ℕ → ℕ → List Float → List Float
 averageFace upper lower k v =
-    set (set v (idx upper k) (meanOf (at v (idx upper k)) (at v (idx lower k)))) (idx lower k) (meanOf (at v (idx upper k)) (at v (idx lower k)))
+    let mean = add64 (mul64 half (at v (idx upper k))) (mul64 half (at v (idx lower k))) in
+    set (set v (idx upper k) mean) (idx lower k) mean
 
 -- half plus half for each mirrored pair, in face order: also `symmetrize_coarse_values` of matrix.rs
 unfoldable pub symmetrizeOf : ℕ → List ℕ → List ℕ → List Float → List Float
@@ -45,17 +39,9 @@ galerkinOf total m positions values faces upper lower = symmetrizeOf faces upper
 unfoldable pub zeroEntry : List ℕ → ℕ → ℕ → List Float → List Float
 zeroEntry columns row e v = cond (eqb (idx columns e) row) (set v e zero64) v
 
--- the entries from lo to hi, all of one row
-unfoldable pub zeroEntries : List ℕ → ℕ → ℕ → ℕ → List Float → List Float
-zeroEntries columns row lo hi v = for (zeroEntry columns row) lo hi v
-
--- the entries of `row`
-abbrev pub zeroRow : List ℕ → List ℕ → ℕ → List Float → List Float
-zeroRow offsets columns row v = zeroEntries columns row (idx offsets row) (idx offsets (row + 1)) v
-
 -- the diagonal entries of `count` rows become zero
 unfoldable pub zeroDiagonalOf : ℕ → List ℕ → List ℕ → List Float → List Float
-zeroDiagonalOf count offsets columns v = for (zeroRow offsets columns) 0 count v
+zeroDiagonalOf count offsets columns v = for (λ row. for (zeroEntry columns row) (idx offsets row) (idx offsets (row + 1))) 0 count v
 
 -- `restrict_weights`: the weights summed as the values are, then those of the diagonal zero
 abbrev pub restrictWeightsOf : ℕ → ℕ → List ℕ → List Float → ℕ → List ℕ → List ℕ → List Float
@@ -102,3 +88,21 @@ pub record RowsOk (w : List ℕ) (size count offsets columns total out : ℕ) : 
 pub record WeightsOk (w : List ℕ) (size count m positions offsets columns weights total out : ℕ) : Type 0 where
   pub sums : SumsOk w size m positions weights total out
   pub rows : RowsOk w size count offsets columns total out
+
+-- ---- the turns of the loops above, by the names that proofs have for them
+
+-- fine entry e more: `*coefficients.entry(..).or_insert(0.0) += values[e]`
+unfoldable pub addEntry : List ℕ → List Float → ℕ → List Float → List Float
+addEntry positions values e v = set v (idx positions e) (add64 (at v (idx positions e)) (at values e))
+
+-- the entries from lo to hi, all of one row
+unfoldable pub zeroEntries : List ℕ → ℕ → ℕ → ℕ → List Float → List Float
+zeroEntries columns row lo hi v = for (zeroEntry columns row) lo hi v
+
+-- the entries of `row`
+abbrev pub zeroRow : List ℕ → List ℕ → ℕ → List Float → List Float
+zeroRow offsets columns row v = zeroEntries columns row (idx offsets row) (idx offsets (row + 1)) v
+
+-- `0.5 * x + 0.5 * y`
+abbrev pub meanOf : Float → Float → Float
+meanOf x y = add64 (mul64 half x) (mul64 half y)

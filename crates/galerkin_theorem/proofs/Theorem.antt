@@ -66,7 +66,7 @@ module _ (total m : ℕ) (positions : List ℕ) (values : List Float) (z : ℕ �
 
   -- A sum is exact.
   sums-exact : Summed m (sumsOf total m positions values)
-  unfolding sumsOf
+  unfolding sumsOf addEntry
   sums-exact = for-count (λ (k : ℕ) (v : List Float). Summed k v) (addEntry positions values) 0 m zero-le (λ k _ h v s. summed-on k h v s) (filled total zero64) summed-start
 
 -- ---- half plus half

@@ -72,13 +72,13 @@ module _ (k : Kernel) where
       let u = set v row (add64 (at v row) a) in
       set u j (add64 (at u j) a)
 
-  -- the faces of one row
+  -- `row_sums_into`: the sum of each row of A, from its diagonal, over the faces of every row in row order
+  unfoldable pub rowSumsOf : List Float
+  rowSumsOf = for (λ row. for (sumFace row) (idx (k .offsets) row) (idx (k .offsets) (row + 1))) 0 (k .rows) (k .diagonal)
+
+  -- the faces of one row, by the name that proofs have for them
   unfoldable pub sumRow : ℕ → List Float → List Float
   sumRow row v = for (sumFace row) (idx (k .offsets) row) (idx (k .offsets) (row + 1)) v
-
-  -- `row_sums_into`: the sum of each row of A, from its diagonal
-  unfoldable pub rowSumsOf : List Float
-  rowSumsOf = for sumRow 0 (k .rows) (k .diagonal)
 
 -- The layout of a kernel: its words lie in w, its floats end at or below `low`, a row's faces end by the last, and a
 -- neighbour is a row.

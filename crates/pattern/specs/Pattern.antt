@@ -90,13 +90,9 @@ placeOf count g a b = startOf count g a + howMany (g a) b
 
 -- ---- the coarse pattern, of a fine pattern p and the aggregate map[i] of each fine row i
 
--- whether fine entry e joins aggregate a to aggregate b
-unfoldable pub joinsBy : Pattern → List ℕ → ℕ → ℕ → ℕ → Bool
-joinsBy p map a b e = eqb (idx map (rowOf p e)) a && eqb (idx map (columnOf p e)) b
-
--- whether some fine entry does
+-- whether some fine entry joins aggregate a to aggregate b
 unfoldable pub joins : Pattern → List ℕ → ℕ → ℕ → Bool
-joins p map a b = some (joinsBy p map a b) (entries p)
+joins p map a b = some (λ e. eqb (idx map (rowOf p e)) a && eqb (idx map (columnOf p e)) b) (entries p)
 
 -- where each coarse row starts, and the number of coarse entries
 unfoldable pub coarseOffsets : Pattern → List ℕ → ℕ → List ℕ
@@ -129,3 +125,9 @@ pub record Onto (map : List ℕ) (n count : ℕ) : Type 0 where
 -- the map of a step followed by that of the next: `*aggregate = next_map[*aggregate]` of hierarchy.rs
 unfoldable pub composeOf : ℕ → List ℕ → List ℕ → List ℕ
 composeOf n map next = tab (λ i. idx next (idx map i)) n
+
+-- ---- the turns of the loops above, by the names that proofs have for them
+
+-- whether fine entry e joins aggregate a to aggregate b
+unfoldable pub joinsBy : Pattern → List ℕ → ℕ → ℕ → ℕ → Bool
+joinsBy p map a b e = eqb (idx map (rowOf p e)) a && eqb (idx map (columnOf p e)) b

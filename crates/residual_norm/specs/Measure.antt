@@ -10,13 +10,24 @@ use Rattle.store.specs.Region.{at}
 use Rattle.vector.specs.declared.vector.Product.{Product}
 use Rattle.vector.specs.Dot.{productOf}
 
+-- `iter().map(g).sum()` of n rows, in order, from −0
+unfoldable pub sumOf : ℕ → (ℕ → Float) → Float
+sumOf n g = for (λ row sum. add64 sum (g row)) 0 n negZero
+
+-- `value` of `measure`: the norm of a residual of n rows
+unfoldable pub valueOf : MultigridResidualNorm → ℕ → List Float → Float → Float
+valueOf MultigridResidualNorm.AbsoluteL2 n residual factor = sqrtOf (sumOf n (λ row. mul64 (at residual row) (at residual row)))
+valueOf MultigridResidualNorm.NormalizedL1 n residual factor = div64 (sumOf n (λ row. absOf (at residual row))) factor
+
+-- `measure` of mod.rs, with question 23
+unfoldable pub measureOf : MultigridResidualNorm → ℕ → List Float → Float → Product
+measureOf norm n residual factor = productOf (valueOf norm n residual factor)
+
+-- ---- the turns of the loops above, by the names that proofs have for them
+
 -- one term more
 unfoldable pub sumTurn : (ℕ → Float) → ℕ → Float → Float
 sumTurn g row sum = add64 sum (g row)
-
--- `iter().map(g).sum()` of n rows, in order, from −0
-unfoldable pub sumOf : ℕ → (ℕ → Float) → Float
-sumOf n g = for (sumTurn g) 0 n negZero
 
 -- `v * v` of one row
 unfoldable pub squareAt : List Float → ℕ → Float
@@ -33,12 +44,3 @@ squaresOf n v = sumOf n (squareAt v)
 -- the absolute values of n elements, added up
 unfoldable pub sizesOf : ℕ → List Float → Float
 sizesOf n v = sumOf n (sizeAt v)
-
--- `value` of `measure`: the norm of a residual of n rows
-unfoldable pub valueOf : MultigridResidualNorm → ℕ → List Float → Float → Float
-valueOf MultigridResidualNorm.AbsoluteL2 n residual factor = sqrtOf (squaresOf n residual)
-valueOf MultigridResidualNorm.NormalizedL1 n residual factor = div64 (sizesOf n residual) factor
-
--- `measure` of mod.rs, with question 23
-unfoldable pub measureOf : MultigridResidualNorm → ℕ → List Float → Float → Product
-measureOf norm n residual factor = productOf (valueOf norm n residual factor)

@@ -12,6 +12,23 @@ use Rattle.residual_norm.specs.Measure.{sumOf}
 unfoldable pub meanOf : ℕ → List Float → Float
 meanOf n x = div64 (sumOf n (at x)) (ofInt binary64 (pos n))
 
+-- `factor` of mod.rs: 1, or the sum of `(ax - sum * mean).abs() + (b - sum * mean).abs()` and at least 1e-300, which a NaN gives too
+unfoldable pub normalizationOf : MultigridResidualNorm → ℕ → List Float → List Float → List Float → List Float → Float
+normalizationOf MultigridResidualNorm.AbsoluteL2 n x rhs product rowsums = one64
+normalizationOf MultigridResidualNorm.NormalizedL1 n x rhs product rowsums =
+    let mean = meanOf n x in
+    let spread : ℕ → Float = λ row. add64 (absOf (sub64 (at product row) (mul64 (at rowsums row) mean))) (absOf (sub64 (at rhs row) (mul64 (at rowsums row) mean))) in
+    maxNum (sumOf n spread) (ratio 1 (10 ^ 300))
+
+-- four regions of n elements in a store of that size
+pub record NormalizationOk (size n x rhs product rowsums : ℕ) : Type 0 where
+  pub xs : x + n ≤ size
+  pub rhss : rhs + n ≤ size
+  pub products : product + n ≤ size
+  pub sums : rowsums + n ≤ size
+
+-- ---- the turns of the loops above, by the names that proofs have for them
+
 -- `(ax - sum * mean).abs() + (b - sum * mean).abs()`
 unfoldable pub spreadOf : Float → Float → Float → Float → Float
 spreadOf b ax rowsum mean = add64 (absOf (sub64 ax (mul64 rowsum mean))) (absOf (sub64 b (mul64 rowsum mean)))
@@ -23,16 +40,3 @@ spreadAt rhs product rowsums mean row = spreadOf (at rhs row) (at product row) (
 -- the same of n rows, added up
 unfoldable pub spreadsOf : ℕ → List Float → List Float → List Float → Float → Float
 spreadsOf n rhs product rowsums mean = sumOf n (spreadAt rhs product rowsums mean)
-
--- `factor` of mod.rs: 1, or the sum about the mean and at least 1e-300, which a NaN gives too
-unfoldable pub normalizationOf : MultigridResidualNorm → ℕ → List Float → List Float → List Float → List Float → Float
-normalizationOf MultigridResidualNorm.AbsoluteL2 n x rhs product rowsums = one64
-normalizationOf MultigridResidualNorm.NormalizedL1 n x rhs product rowsums =
-    maxNum (spreadsOf n rhs product rowsums (meanOf n x)) (ratio 1 (10 ^ 300))
-
--- four regions of n elements in a store of that size
-pub record NormalizationOk (size n x rhs product rowsums : ℕ) : Type 0 where
-  pub xs : x + n ≤ size
-  pub rhss : rhs + n ≤ size
-  pub products : product + n ≤ size
-  pub sums : rowsums + n ≤ size

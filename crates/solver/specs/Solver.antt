@@ -30,10 +30,5 @@ relativeOf initial last = cond (lt zero64 initial) (div64 last initial) zero64
 
 -- `report` of mod.rs
 abbrev pub reportOf : LinearSolverStatus → ℕ → Float → Float → LinearSolveReport
-reportOf status iterations initial last = record {
-  status = status;
-  iterations = iterations;
-  «initial_residual» = initial;
-  «final_residual» = last;
-  «relative_residual» = relativeOf initial last;
-}
+reportOf status iterations initial last =
+    record { status = status; iterations = iterations; «initial_residual» = initial; «final_residual» = last; «relative_residual» = relativeOf initial last }

@@ -26,7 +26,7 @@ module _ {F : List Float} {n solution p q residual : ℕ} {d : Product} (ok : Ad
   pub advance-yes : {G : List Float} {alpha : Float} → d ≡ Finite alpha
       → Wrote solution n (moreOf n alpha (part p n F) (part solution n F)) F G
       → Advanced n solution (advanceOf n (part residual n F) (pairAt n p q F) (part solution n F)) F G true
-  unfolding advanceOf
+  unfolding advanceOf moreOf
   advance-yes t g =
       let told = sym e ∙ t in
       let is = wrote-at g (omega arith) in
@@ -40,7 +40,7 @@ module _ {F : List Float} {n solution p q residual : ℕ} {d : Product} (ok : Ad
   -- One that is not: refused, and nothing moves.
   pub advance-no : d ≡ NotFinite
       → Advanced n solution (advanceOf n (part residual n F) (pairAt n p q F) (part solution n F)) F F false
-  unfolding advanceOf
+  unfolding advanceOf moreOf
   advance-no t =
       let told = sym e ∙ t in
       record { is = rw told; still = λ z. refl; off = λ a m c. refl; size = refl }

@@ -95,7 +95,7 @@ module _ (F : List Float) {n l x : ℕ} (ok : SolveOk (length F) n l x) where
 
   high-turn : (j : ℕ) → j < n → (v : List Float) → length v ≡ n
       → (length (highRow L n (n - 1 - j) v) ≡ n) × (highTurn n l x j (splice x v F) ≡ splice x (highRow L n (n - 1 - j) v) F)
-  unfolding highTurn highRow
+  unfolding highTurn highRow highTerm
   high-turn j h v q =
       let row : n - 1 - j < n = omega arith in (
         length-set v _ _ ∙ q,

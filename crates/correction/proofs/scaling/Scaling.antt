@@ -40,5 +40,5 @@ module _ (numerator denominator : Float) (a b : Bool) (first : a ≡ isFinite nu
 pub factor-done : (n : ℕ) (correction residual product : List Float) {p : Products} {r : Factor}
     → p ≡ productsOf n correction residual product → r ≡ factorOf (scaleOf (p .numerator) (p .denominator))
     → r ≡ factorOf (correctionFactorOf n correction residual product)
-unfolding correctionFactorOf
+unfolding correctionFactorOf scaleOf quotientOf
 factor-done n correction residual product e t = rw e at t

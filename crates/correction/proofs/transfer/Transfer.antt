@@ -79,7 +79,7 @@ pub restrict-done : {w : List ℕ} {F G H : List Float} {n count map residual ou
     → Wrote out count (filled count zero64) F G
     → Wrote out count (gatherOf n (part map n w) (part residual n G) (part out count G)) G H
     → Wrote out count (restrictOf count n (part map n w) (part residual n F)) F H
-unfolding restrictOf
+unfolding restrictOf gatherOf gatherTurn
 restrict-done {w} {F} {G} {H} {n} {count} {map} {residual} {out} ok z g =
     let a : part residual n G ≡ part residual n F = wrote-off z residual n (omega arith) in
     let b : part out count G ≡ filled count zero64 = wrote-at z (ok .outs) in

@@ -251,13 +251,13 @@ module _ {w : List ℕ} {F G : List Float} {s : SymmetricMatrix} {d : ℕ} (ok :
 
     -- A pivot was refused.
     pub dic-refused : {q : Refusal} → v ≡ Verdict.Refused q → Settled d (s .rows) (dicOf level (kernelAt s w F)) F H (Verdict.Refused q)
-    unfolding dicOf settled
+    unfolding dicOf settled reciprocalsOf
     dic-refused {q} t = record { held = p .held; wrote = wrote-again c (p .wrote); is = rw (told, t) }
 
     -- The pivots passed, and the reciprocals answer.
     pub dic-done : {I : List Float} {r : Verdict} → v ≡ Verdict.Passed → Settled d (s .rows) (reciprocalsOf level (s .rows) (part d (s .rows) H)) H I r
         → Settled d (s .rows) (dicOf level (kernelAt s w F)) F I r
-    unfolding dicOf settled kernelAt
+    unfolding dicOf settled kernelAt reciprocalsOf
     dic-done {I} {r} t q =
         let z : length G ≡ length F = c .size in
         let same : part d (s .rows) H ≡ p .held = wrote-at (p .wrote) (omega (arith, ok .fits)) in

@@ -48,7 +48,7 @@ pub sums-done : {w : List ℕ} {F G H : List Float} {m positions values total ou
     → Wrote out total (filled total zero64) F G
     → Wrote out total (for (addEntry (part positions m w) (part values m G)) 0 m (part out total G)) G H
     → Wrote out total (sumsOf total m (part positions m w) (part values m F)) F H
-unfolding sumsOf
+unfolding sumsOf addEntry
 sums-done {w} {F} {G} {H} {m} {positions} {values} {total} {out} ok z t =
     rw (wrote-at z (ok .room), wrote-off z values m (omega arith)) at (wrote-again z t)
 
@@ -85,7 +85,7 @@ given-on {w} given {F} {G} {m} {positions} {total} {out} {e} {i} ok g h is =
 pub given-done : {w : List ℕ} (given : List Float) {F G H : List Float} {m positions total out : ℕ} → GivenOk w (length F) (length given) m positions total out
     → Wrote out total (filled total zero64) F G → Wrote out total (for (addEntry (part positions m w) given) 0 m (part out total G)) G H
     → Wrote out total (sumsOf total m (part positions m w) given) F H
-unfolding sumsOf
+unfolding sumsOf addEntry
 given-done given ok z t = rw (wrote-at z (ok .room)) at (wrote-again z t)
 
 -- What the entries need, after the zeros.

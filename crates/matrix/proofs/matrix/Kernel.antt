@@ -57,7 +57,7 @@ module _ (k : Kernel) where
 
   -- There are as many row sums as diagonal elements.
   pub length-row-sums : length (rowSumsOf k) ≡ length (k .diagonal)
-  unfolding rowSumsOf
+  unfolding rowSumsOf sumRow
   length-row-sums =
       for-keeps (λ (u : List Float). length u ≡ length (k .diagonal)) _ 0 (k .rows) (λ row _ _ u q. length-sum-row row u ∙ q) (k .diagonal) refl
 
@@ -202,7 +202,7 @@ pub sums-done : {w : List ℕ} {F G H : List Float} {s : SymmetricMatrix} {sums 
     → Wrote sums (s .rows) (part (s .diagonal) (s .rows) F) F G
     → Summed w (s .rows) (s .offsets) (s .neighbors) (s .coefficients) sums G H
     → Wrote sums (s .rows) (rowSumsOf (kernelAt s w F)) F H
-unfolding rowSumsOf kernelAt
+unfolding rowSumsOf kernelAt sumRow
 sums-done {w} {F} {G} {H} {s} {sums} ok outs c b =
     wrote (b .is
     ∙ ap (for (sumRowTurn w (s .offsets) (s .neighbors) (s .coefficients) sums) 0 (s .rows)) (c .is) ∙ sums-law F sums ok outs _ (c .long))

@@ -145,7 +145,7 @@ joined-more p map a e b own is = fun-ext (λ d. rw (add-one e, eq-eqb (idx map (
 -- What is joined before some entry is joined.
 joined-sub : (p : Pattern) (map : List ℕ) (a e d : ℕ) → e ≤ length (p .columns) → joinsTo p map e a d ≡ true
     → joins p map a d ≡ true
-unfolding joins
+unfolding joins joinsBy
 joined-sub p map a e d h t = let v = some-which (joinsBy p map a d) e t in let l = v .1 in
     some-at (joinsBy p map a d) (length (p .columns)) (v .0) (omega arith) (v .2)
 
@@ -383,7 +383,7 @@ module _ {w : List ℕ} {c : Coarsening} {p : Pattern} {map : List ℕ} {a r : �
 -- At the end of a row all its columns have been met.
 row-whole : {w z : List ℕ} {c : Coarsening} {a r : ℕ} → Gathered w z c a (c .entries) r
     → Gathering z c (fineAt z c) (mapAt z c) a (joins (fineAt z c) (mapAt z c) a) r
-unfolding joins
+unfolding joins joinsBy
 row-whole {w} {z} {c} {a} {r} g = subst (λ (m : ℕ). Gathering z c (fineAt z c) (mapAt z c) a
     (joinsTo (fineAt z c) (mapAt z c) m a) r) (sym (g .state .standing .size)) (g .state)
 

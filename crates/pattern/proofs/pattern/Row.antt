@@ -85,13 +85,13 @@ module _ (p : Pattern) (map : List ℕ) where
 
   -- What an entry joins is joined.
   pub joins-at : (e : ℕ) → e < entries p → joins p map (idx map (rowOf p e)) (idx map (columnOf p e)) ≡ true
-  unfolding joins
+  unfolding joins joinsBy
   joins-at e h = some-at (joinsBy p map (idx map (rowOf p e)) (idx map (columnOf p e))) (entries p) e h (joins-by e)
 
   -- Of what is joined, an entry can be named.
   pub joins-which : (a b : ℕ) → joins p map a b ≡ true → (e : ℕ) × (e < entries p) × (idx map (rowOf p e) ≡ a) ×
       (idx map (columnOf p e) ≡ b)
-  unfolding joins
+  unfolding joins joinsBy
   joins-which a b t =
       let u = some-which (joinsBy p map a b) (entries p) t in
       let w = joins-only a b (u .0) (u .2) in
@@ -147,5 +147,5 @@ module _ (p : Pattern) (map : List ℕ) where
 
   -- There are no more joined pairs than entries.
   pub joins-few : (count : ℕ) → startOf count (joins p map) count ≤ entries p
-  unfolding startOf joins
+  unfolding startOf joins joinsBy
   joins-few count = up-to (entries p) count

@@ -29,12 +29,12 @@ module _ (F : List Float) (n row : ℕ) (sum : Float) (h : row < n) where
 -- The two norms of `value`.
 pub value-squares : (n : ℕ) (residual : List Float) (factor : Float) {norm : MultigridResidualNorm} {s r : Float}
     → norm ≡ MultigridResidualNorm.AbsoluteL2 → s ≡ squaresOf n residual → r ≡ sqrtOf s → r ≡ valueOf norm n residual factor
-unfolding valueOf
+unfolding valueOf squaresOf squareAt sizesOf sizeAt
 value-squares n residual factor told e t = rw (told, ← e) t
 
 pub value-sizes : (n : ℕ) (residual : List Float) (factor : Float) {norm : MultigridResidualNorm} {s : Float}
     → norm ≡ MultigridResidualNorm.NormalizedL1 → s ≡ sizesOf n residual → div64 s factor ≡ valueOf norm n residual factor
-unfolding valueOf
+unfolding valueOf squaresOf squareAt sizesOf sizeAt
 value-sizes n residual factor told e = rw (told, ← e)
 
 -- The two ways out of `measure`: v is the norm and t the answer to question 23.

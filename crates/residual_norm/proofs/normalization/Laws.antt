@@ -41,5 +41,5 @@ pub normal-done : (n : ℕ) (x rhs product rowsums : List Float) {norm : Multigr
     → norm ≡ MultigridResidualNorm.NormalizedL1 → m ≡ meanOf n x → s ≡ spreadsOf n rhs product rowsums m
     → r ≡ maxNum s (ofBits binary64 0x01a5_6e1f_c2f8_f359)
     → r ≡ normalizationOf norm n x rhs product rowsums
-unfolding normalizationOf
+unfolding normalizationOf spreadsOf spreadAt spreadOf
 normal-done n x rhs product rowsums told e d t = rw (told, ← e, ← d, ← floor-bits) t

@@ -37,7 +37,7 @@ pub record Sides (u v : List Float) (lo hi k l : ℕ) (first second : Float) : T
   pub two : Left (termOf u v) l (lo + 2048) second (blockOf u v (lo + 1024) (lo + 2048))
 
 pub sides-start : (u v : List Float) (lo : ℕ) → Sides u v lo (lo + 1024) lo (lo + 1024) negZero negZero
-unfolding blockOf
+unfolding blockOf termOf
 sides-start u v lo = record { until = refl; apart = refl; one = left-start; two = left-start }
 
 -- A product more for each.
@@ -89,7 +89,7 @@ pairs-end l h = left-end l (omega arith)
 -- What is left after the pairs is left of the whole.
 pub pairs-left : (n : ℕ) (u v : List Float) (pairs : ℕ) {sum : Float} → 2 * pairs ≤ (n + 1023) / 1024
     → sum ≡ for (blockTurn n u v) 0 (2 * pairs) negZero → Left (blockTurn n u v) (2 * pairs) ((n + 1023) / 1024) sum (dotOf n u v)
-unfolding dotOf
+unfolding dotOf blockTurn
 pairs-left n u v pairs h e =
     rw e
     (for-count (λ (k : ℕ) (s : Float). Left (blockTurn n u v) k ((n + 1023) / 1024) s (dotOf n u v)) (blockTurn n u v) 0 (2 * pairs) zero-le

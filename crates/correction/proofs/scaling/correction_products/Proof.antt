@@ -18,7 +18,7 @@ abbrev μ-loop : tie.MeasureT-loop
 μ-loop f n correction residual product numerator₀ denominator₀ row₀ numerator denominator row = n - row
 
 loop-holds : tie.Need-loop-holds Inv-loop μ-loop
-unfolding productsOf
+unfolding productsOf productsTurn
 loop-holds c = left-start
 
 loop-again : tie.Need-loop-again Inv-loop μ-loop

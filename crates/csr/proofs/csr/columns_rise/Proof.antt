@@ -38,7 +38,7 @@ returns c =
     (c .before .row-rises .ensures) (c .if1 .left)
 
 returns-2 : tie.Need-returns-2 Inv-loop μ-loop
-unfolding columnsOk
+unfolding columnsOk rowAt
 returns-2 c = search (passed-yes)
 
 pub columns-rise-spec : {M : Type 1} → statement M

@@ -24,7 +24,7 @@ returns : tie.Need-returns Inv-loop μ-loop
 returns c = search (step-no)
 
 returns-2 : tie.Need-returns-2 Inv-loop μ-loop
-unfolding neverFall
+unfolding neverFall stepOk
 returns-2 c = search (passed-yes)
 
 pub never-fall-spec : {M : Type 1} → statement M

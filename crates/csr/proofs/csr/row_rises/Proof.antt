@@ -26,7 +26,7 @@ unfolding rowOk entryFrom
 returns c = search (passed-no)
 
 returns-2 : tie.Need-returns-2 Inv-loop μ-loop
-unfolding rowOk
+unfolding rowOk entryFrom
 returns-2 c = search (passed-yes)
 
 pub row-rises-spec : {M : Type 1} → statement M

@@ -27,7 +27,7 @@ unfolding weightsOk weightOk
 returns c = search (passed-no)
 
 returns-2 : tie.Need-returns-2 Inv-loop μ-loop
-unfolding weightsOk
+unfolding weightsOk weightOk
 returns-2 c = search (passed-yes)
 
 pub weights-fit-spec : {M : Type 1} → statement M

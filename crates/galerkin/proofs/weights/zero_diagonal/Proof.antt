@@ -3,7 +3,7 @@
 use Prim.Native.Nat.{_-_}
 use native.Mathlib.Omega.{arith}
 use borrow.Author.Needs.{needs}
-use Rattle.galerkin.specs.Values.{zeroDiagonalOf}
+use Rattle.galerkin.specs.Values.{zeroDiagonalOf, zeroEntries}
 use Rattle.galerkin.proofs.galerkin.Region.{going-start, going-end}
 use Rattle.galerkin.proofs.galerkin.Turns.{Clearing, row-ok, row-on}
 use Rattle.galerkin.proofs.weights.zero_diagonal.Statement.{statement}
@@ -16,7 +16,7 @@ abbrev μ-loop : tie.MeasureT-loop
 μ-loop w f₀ count offsets columns total out row₀ f row = count - row
 
 loop-holds : tie.Need-loop-holds Inv-loop μ-loop
-unfolding zeroDiagonalOf
+unfolding zeroDiagonalOf zeroEntries
 loop-holds c = search (going-start, needs)
 
 zero-entries-requires : tie.Need-zero-entries-requires Inv-loop μ-loop

@@ -1,13 +1,13 @@
 -- `normalization::normalization` meets its contract; the floor of the code is the f64 nearest to 1e-300.
 -- Assumes nothing.
-use Rattle.residual_norm.specs.Normalization.{normalizationOf}
+use Rattle.residual_norm.specs.Normalization.{normalizationOf, spreadsOf, spreadAt, spreadOf}
 use Rattle.residual_norm.proofs.normalization.Laws.{normal-done}
 use borrow.Author.Needs.{needs}
 use Rattle.residual_norm.proofs.normalization.normalization.Statement.{statement}
 use Rattle.residual_norm.proofs.normalization.normalization.Tie as tie
 
 returns : tie.Need-returns
-unfolding normalizationOf
+unfolding normalizationOf spreadsOf spreadAt spreadOf
 returns c = rw (c .enum-told .given .1)
 
 returns-2 : tie.Need-returns-2

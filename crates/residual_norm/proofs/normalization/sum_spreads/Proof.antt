@@ -20,7 +20,7 @@ abbrev μ-loop : tie.MeasureT-loop
 μ-loop f n rhs product rowsums mean sum₀ row₀ sum row = n - row
 
 loop-holds : tie.Need-loop-holds Inv-loop μ-loop
-unfolding spreadsOf sumOf
+unfolding spreadsOf sumOf sumTurn
 loop-holds c = left-start
 
 loop-again : tie.Need-loop-again Inv-loop μ-loop

@@ -16,7 +16,7 @@ abbrev μ-loop : tie.MeasureT-loop
 μ-loop f a b n lo hi sum₀ k₀ sum k = hi - k
 
 loop-holds : tie.Need-loop-holds Inv-loop μ-loop
-unfolding blockOf
+unfolding blockOf termOf
 loop-holds c = left-start
 
 loop-again : tie.Need-loop-again Inv-loop μ-loop
