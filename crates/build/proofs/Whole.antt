@@ -26,7 +26,7 @@ use Rattle.faces.specs.Faces.{facesOf, uppersOf, lowersOf, mirroredOf}
 use Rattle.faces.proofs.faces.Laws.{mirrored-is}
 use Rattle.hierarchy.specs.Level.{Level, Hierarchy}
 use Rattle.hierarchy.specs.Refresh.{withSums}
-use Rattle.hierarchy.specs.Build.{Charge, fixedCharge, andLevel, Mesh, Input, patternIn, meshIn, symmetricOf, growOf, buildOf}
+use Rattle.hierarchy.specs.Build.{charge, Charge, fixedCharge, andLevel, Mesh, Input, patternIn, meshIn, symmetricOf, growOf, buildOf}
 use Rattle.hierarchy.proofs.Depth as depth
 use Rattle.layout.specs.Layout.{imageEnd, wordsFit, viewOf}
 use Rattle.layout.specs.Headers.{headsAt, headsOf}
@@ -37,7 +37,7 @@ use Rattle.build_level.specs.LayingContract.{frontierAt}
 use Rattle.build_level.specs.declared.coarsest.Growth.{Growth}
 use Rattle.build_level.specs.CoarsestContract.{Levels}
 use Rattle.solver.specs.declared.answers.Built.{Built}
-use Rattle.build_levels.specs.GrowingContract.{charge, growAt, Grown}
+use Rattle.build_levels.specs.GrowingContract.{growAt, Grown}
 use Rattle.build.specs.Contract.{lentOf, builtOf, BuildDone}
 use Rattle.build.specs.Asking.{lending, askedOf, Asked, Fitting, Spaced}
 use Rattle.build.proofs.questions.Chains.{passed-then, refused-then}

@@ -14,22 +14,14 @@ use Rattle.refusal.specs.Outcome.{Outcome, passed, ask, verdictOf, _>>=_, _>>_}
 use Rattle.pattern.specs.Pattern.{Valid, Rising}
 use Rattle.csr.specs.Questions.{matrixAsked, Sizes}
 use Rattle.csr.specs.Weights.{weightsAsked}
-use Rattle.hierarchy.specs.Build.{fixedCharge, holds, Lent, Input, patternIn}
+use Rattle.hierarchy.specs.Build.{charge, fixedCharge, holds, Lent, Input, patternIn}
 use Rattle.coarsening.specs.declared.coarsen.Workspace.{Workspace}
 use Rattle.coarsening.specs.CoarsenContract.{WorkOk}
-use Rattle.build_levels.specs.GrowingContract.{charge}
 
 -- the arguments of a build
 abbrev pub inputOf : ℕ → List ℕ → List ℕ → List Float → Bool → List Float → MultigridOptions → Input
-inputOf rows offsets columns values given weights o = record {
-  rows = rows;
-  offsets = offsets;
-  columns = columns;
-  values = values;
-  given = given;
-  weights = weights;
-  options = o;
-}
+inputOf rows offsets columns values given weights o =
+    record { rows = rows; offsets = offsets; columns = columns; values = values; given = given; weights = weights; options = o }
 
 -- ---- questions 1 to 9
 

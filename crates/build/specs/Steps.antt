@@ -13,13 +13,13 @@ use Rattle.refusal.specs.Refusal.{unequalMirrors}
 use Rattle.refusal.specs.Outcome.{Outcome, accepted, refused, ask, _>>=_, _>>_}
 use Rattle.hierarchy.specs.Level.{Level, Hierarchy}
 use Rattle.hierarchy.specs.Refresh.{withSums}
-use Rattle.hierarchy.specs.Build.{Charge, fixedCharge, andLevel, Input, patternIn, meshIn, symmetricOf, growOf, buildOf}
+use Rattle.hierarchy.specs.Build.{charge, Charge, fixedCharge, andLevel, Input, patternIn, meshIn, symmetricOf, growOf, buildOf}
 use Rattle.layout.specs.Layout.{viewOf, wordsFit}
 use Rattle.layout.specs.Headers.{headsAt, headsOf}
 use Rattle.coarsening.specs.declared.coarsen.Workspace.{Workspace}
 use Rattle.build_level.specs.LayingContract.{FrontierOk}
 use Rattle.solver.specs.declared.answers.Built.{Built}
-use Rattle.build_levels.specs.GrowingContract.{charge, growAt}
+use Rattle.build_levels.specs.GrowingContract.{growAt}
 use Rattle.build.specs.Contract.{builtOf, lentOf}
 use Rattle.build.specs.Asking.{ControlsFit}
 use Rattle.build.specs.Finest.{finestOf}

@@ -12,7 +12,7 @@ use Rattle.refusal.specs.Refusal.{storeTooSmall}
 use Rattle.refusal.specs.Outcome.{Outcome, accepted, _>>=_}
 use Rattle.coefficients.specs.Update.{Coefficients}
 use Rattle.hierarchy.specs.Level.{Level}
-use Rattle.hierarchy.specs.Build.{Charge, Mesh, holds, paired, endsAt, lastLevel, innerLevel, growOf}
+use Rattle.hierarchy.specs.Build.{charge, Charge, Mesh, holds, paired, endsAt, lastLevel, innerLevel, deeperOf}
 use Rattle.layout.specs.declared.Place.{Place}
 use Rattle.layout.specs.Layout.{levelAt, wordsEnd, floatsEnd}
 use Rattle.layout.specs.Headers.{headAt, headOf}
@@ -24,12 +24,7 @@ use Rattle.build_level.specs.LayingContract.{levelIn, ControlsOk, FrontierOk, C
 use Rattle.build_level.specs.declared.coarsest.Growth.{Growth}
 use Rattle.build_level.specs.CoarsestContract.{Levels}
 use Rattle.build_levels.specs.declared.growing.Onward.{Onward}
-use Rattle.build_levels.specs.GrowingContract.{charge, growAt}
-
--- the levels after one, so many of them at most
-abbrev pub deeperOf : MultigridOptions → Bool → Charge → ℕ → ℕ → ℕ → Charge → Mesh → Outcome (List Level)
-deeperOf o given stores zero level = λ _ _ _. accepted []
-deeperOf o given stores (suc more) level = growOf o given stores more (level + 1)
+use Rattle.build_levels.specs.GrowingContract.{growAt}
 
 -- the end of `levelStep`: a level with its coefficients is the last, or it is paired, and the last if that joins nothing
 abbrev pub pairedLevel : MultigridOptions → Bool → Charge → ℕ → ℕ → ℕ → Charge → Mesh → Coefficients → Outcome (List Level)

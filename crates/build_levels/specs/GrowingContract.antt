@@ -7,15 +7,12 @@ use lib.Ieee.{Float}
 use Rattle.options.specs.declared.options.MultigridOptions.{MultigridOptions}
 use Rattle.refusal.specs.Outcome.{Outcome}
 use Rattle.hierarchy.specs.Level.{Level}
-use Rattle.hierarchy.specs.Build.{Charge, growOf}
+use Rattle.hierarchy.specs.Build.{charge, growOf}
 use Rattle.coarsening.specs.declared.coarsen.Workspace.{Workspace}
 use Rattle.build_level.specs.declared.laying.Frontier.{Frontier}
 use Rattle.build_level.specs.LayingContract.{frontierAt}
 use Rattle.build_level.specs.declared.coarsest.Growth.{Growth}
 use Rattle.build_level.specs.CoarsestContract.{Levels}
-
-abbrev pub charge : ℕ → ℕ → Charge
-charge words floats = record { words = words; floats = floats }
 
 -- the levels from the frontier on
 abbrev pub growAt : MultigridOptions → Bool → List ℕ → List Float → Workspace → Frontier → Outcome (List Level)

@@ -3,7 +3,6 @@
 ghost use mathlib.Core.Path.{_≡_};
 ghost use lib.ListN.{length};
 ghost use Rattle.dic.specs.Dic.{Settled};
-ghost use Rattle.hierarchy.specs.Refresh.{needsDic};
 ghost use Rattle.build_level.specs.LayingContract.{levelIn};
 ghost use Rattle.build_levels.specs.DescentContract.{DescendOk, Descended};
 ghost use Rattle.build_levels.specs.Steps.{SmootherOk, smootherAt, StepsDone};
@@ -13,7 +12,6 @@ use coarsening::Merging;
 use coarsening::Workspace;
 use layout::Place;
 use options::MultigridOptions;
-use options::MultigridSmoother;
 use refusal::Refusal;
 use refusal::Verdict;
 
@@ -41,24 +39,13 @@ fn level_in(t: Workspace, p: Place) -> Held
     }
 }
 
-// Whether the smoother needs DIC data.
-fn needs_dic(kind: MultigridSmoother) -> bool
-    ensures { λ r. ⌜ r ≡ needsDic kind ⌝ }
-{
-    match kind {
-        MultigridSmoother::GaussSeidel => false,
-        MultigridSmoother::SymmetricGaussSeidel => false,
-        MultigridSmoother::DicGaussSeidel => true,
-    }
-}
-
 // The DIC data of the level, with questions 16 and 17; zeros where the smoother needs none.
 fn smoother_data(w: &[u32], f: &mut [f64], o: MultigridOptions, p: Place, level: u64) -> Verdict
     requires { ⌜ SmootherOk (now w) (length (now f)) p ⌝ }
     ensures { λ r. ⌜ Settled (p .dic) (p .rows) (smootherAt o level (now (w .entry)) (now (f .entry)) p) (now (f .entry)) (now (f .exit)) r ⌝ }
 {
     let kind = o.smoother;
-    if needs_dic(kind) {
+    if options::needs_dic(kind) {
         let kernel = layout::kernel_in(p);
         dic::update_dic_diagonal(w, f, kernel, p.dic, level)
     } else {

@@ -32,11 +32,11 @@ use Rattle.faces.proofs.faces.Entries.{has-at, has-which, offset-few}
 use Rattle.faces.proofs.faces.Laws.{diagonal-entry}
 use Rattle.galerkin_theorem.specs.Theorem.{WholeValues, fineMatrix}
 use Rattle.galerkin_theorem.proofs.Mirror.{entry-once, fine-symmetric}
-use Rattle.hierarchy.specs.Level.{Shape, Level}
+use Rattle.hierarchy.specs.Level.{Shape, Level, kernelIn}
 use Rattle.hierarchy.specs.Build.{shapeOf}
 use Rattle.hierarchy.specs.Proper.{Proper}
 use Rattle.hierarchy.proofs.First.{length-uppers}
-use Rattle.galerkin_levels.specs.Levels.{kernelIn, aboveAt, entryAt, MatrixIs}
+use Rattle.galerkin_levels.specs.Levels.{aboveAt, entryAt, MatrixIs}
 use Rattle.galerkin_levels.proofs.Dense.{dense-at, dense-none}
 
 -- ---- a search among indices

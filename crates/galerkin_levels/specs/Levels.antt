@@ -16,14 +16,10 @@ use Rattle.pattern.specs.Pattern.{Pattern}
 use Rattle.galerkin.specs.Whole.{Whole}
 use Rattle.galerkin.specs.Product.{galerkinProduct}
 use Rattle.galerkin_theorem.specs.Theorem.{fineMatrix, coarseMatrix, Exactly}
-use Rattle.hierarchy.specs.Level.{Level, kernelOf}
+use Rattle.hierarchy.specs.Level.{Level, kernelIn}
 use Rattle.hierarchy.specs.Build.{Merged}
 
 -- ---- the matrix of a level
-
--- the kernel of a level: all that a solve reads of its matrix
-abbrev pub kernelIn : Level → Kernel
-kernelIn l = kernelOf (l .shape) (l .numbers .diagonal) (l .numbers .inverse) (l .numbers .coefficients)
 
 -- the value above the diagonal in row i and column j: that of the face of row i to j, or zero where there is none
 unfoldable pub aboveAt : Kernel → ℕ → ℕ → Float
@@ -44,15 +40,12 @@ pub record MatrixIs (l : Level) (A : Matrix) : Type 0 where
 
 -- ---- level by level
 
--- Pᵀ A P, with the transfer P of a level's aggregates
-abbrev pub productOf : Level → Matrix → Matrix
-productOf l A = galerkinProduct (l .shape .pattern .rows) (idx (l .shape .links)) A
-
 -- The matrix of the first level is exactly A, and each other level's exactly Pᵀ A P of the level above, with the aggregates of that; where
 -- merged steps made the level, these are the aggregates of all of them together.
 pub data Galerkin : Matrix → List Level → Type 0 where
   last : {A : Matrix} {l : Level} → MatrixIs l A → Galerkin A (l ∷ [])
-  inner : {A : Matrix} {l next : Level} {rest : List Level} → MatrixIs l A → Galerkin (productOf l A) (next ∷ rest) → Galerkin A (l ∷ next ∷ rest)
+  inner : {A : Matrix} {l next : Level} {rest : List Level} → MatrixIs l A
+      → Galerkin (galerkinProduct (l .shape .pattern .rows) (idx (l .shape .links)) A) (next ∷ rest) → Galerkin A (l ∷ next ∷ rest)
 
 -- What merged steps have made of a level with the pattern p and the whole values z is exactly Pᵀ A P of the level's matrix A, with the
 -- transfer P of the map so far.
@@ -74,3 +67,9 @@ pub record ExactLevels (p : Pattern) (z : ℕ → ℤ) (levels : List Level) : T
   -- and level k that of the finest: exactly Pᵀ A P, with the transfer P of the composed map
   pub finest : (k : ℕ) (l : Level) (rest : List Level) → drop k levels ≡ l ∷ rest
       → MatrixIs l (galerkinProduct (p .rows) (composed k levels) (fineMatrix p z))
+
+-- ---- by a name that proofs have for it
+
+-- Pᵀ A P, with the transfer P of a level's aggregates
+abbrev pub productOf : Level → Matrix → Matrix
+productOf l A = galerkinProduct (l .shape .pattern .rows) (idx (l .shape .links)) A

@@ -1,13 +1,14 @@
 -- What an accepted build went through: its questions, the steps of a level that is the last, those of a level with aggregates, and
 -- merged steps; and what such steps keep, the build keeps.
 -- Assumes nothing.
-use mathlib.Core.Path.{_≡_, refl, subst}
+use mathlib.Core.Path.{_≡_, refl, sym, _∙_, subst}
 use mathlib.Core.Bool.{Bool, true, false, cond, _&&_, _||_}
 use mathlib.Core.List.{List, [], _∷_}
 use Prim.Native.Nat.{ℕ, zero, suc, _+_, _-_}
 use native.Mathlib.Omega.{arith}
 use lib.Dec.{eqb, leb}
 use lib.ListN.{length}
+use borrow.Author.Tests.{ne-eqb}
 use Rattle.options.specs.declared.options.MultigridOptions.{MultigridOptions}
 use Rattle.refusal.specs.declared.Refusal.{Refusal}
 use Rattle.refusal.specs.Refusal.{invalidControls, notCholesky, noRows, storeTooSmall, unequalMirrors, tooManyCoupled, badCoarseValue}
@@ -24,7 +25,7 @@ use Rattle.csr.specs.Questions.{matrixAsked}
 use Rattle.csr.specs.Weights.{weightsAsked}
 use Rattle.hierarchy.specs.Level.{Numbers, Level, Hierarchy}
 use Rattle.hierarchy.specs.Refresh.{innerNumbers, lastNumbers, withSums}
-use Rattle.hierarchy.specs.Build.{Charge, fixedCharge, andLevel, holds, lastShape, innerShape, Mesh, Merged, merged, kernelAsked, paired, coarsened, coarsenedAsked, fewCoupled, endsAt, lastLevel, mergeOf, innerLevel, levelStep, growOf, Lent, Input, patternIn, meshIn, symmetricOf, buildOf}
+use Rattle.hierarchy.specs.Build.{Charge, fixedCharge, andLevel, holds, lastShape, innerShape, Mesh, Merged, merged, kernelAsked, paired, coarsened, coarsenedAsked, fewCoupled, endsAt, lastLevel, mergeOf, innerLevel, levelStep, deeperOf, growOf, Lent, Input, patternIn, meshIn, symmetricOf, buildOf}
 
 -- ---- chains of questions
 
@@ -157,6 +158,35 @@ ends-zero o p = go (fewCoupled o p) (eqb (facesOf p) 0)
     go false true = refl
     go false false = refl
 
+-- Computations that go on alike are the same.
+then-same : {A B : Type 0} (a : Outcome A) {f g : A → Outcome B} → ((x : A) → f x ≡ g x) → _>>=_ a f ≡ _>>=_ a g
+then-same (accepted x) h = h x
+then-same (refused q) h = refl
+
+-- A level from which none may follow, and one from which one may, a step at a time.
+module _ {A : Type 0} (l i : A) where
+  none-more : (a b : Bool) → l ≡ cond (a || b || true) l i
+  none-more true b = refl
+  none-more false true = refl
+  none-more false false = refl
+
+  some-more : (a b e z : Bool) → z ≡ false → cond (a || b || e) l i ≡ cond (a || b || z) l (cond e l i)
+  some-more true b e z n = refl
+  some-more false true e z n = refl
+  some-more false false e z n = rw n
+
+-- The levels of a build a step at a time.
+pub grow-is : (o : MultigridOptions) (given : Bool) (stores : Charge) (more level stage : ℕ) (used : Charge) (m : Mesh)
+    → growOf o given stores more level stage used m ≡ levelStep o given (deeperOf o given stores more level) stores more level stage used m
+unfolding growOf
+grow-is o given stores zero level stage used m =
+    then-same (diagonalsAsked level (m .pattern)) (λ _. then-same (kernelAsked level m) (λ c.
+    none-more (lastLevel o level m c) _ (fewCoupled o (m .pattern)) (eqb (facesOf (m .pattern)) 0)))
+grow-is o given stores (suc more) level stage used m =
+    then-same (diagonalsAsked level (m .pattern)) (λ _. then-same (kernelAsked level m) (λ c.
+    some-more (lastLevel o level m c) _ (fewCoupled o (m .pattern)) (eqb (facesOf (m .pattern)) 0)
+    (eqb (paired given stage m .count) (m .pattern .rows)) (eqb (suc more) 0) (ne-eqb (suc more) 0 (λ e. omega arith))))
+
 module _ (o : MultigridOptions) (given : Bool) (stage : ℕ) (m : Mesh) where
   -- Why a level is the last: by its pattern, or as its pairing joins nothing.
   pub data Halts (more : ℕ) : Type 0 where
@@ -175,8 +205,8 @@ module _ (o : MultigridOptions) (given : Bool) (stores : Charge) (P : (more leve
       → P (suc more) level stage used m levels)
       → (more level stage : ℕ) (used : Charge) (m : Mesh) {levels : List Level} → growOf o given stores more level stage used m ≡ accepted levels
       → P more level stage used m levels
-  unfolding growOf
-  grow-charged halts goes zero level stage used m {levels} e = go (step-grown o given (λ _ _ _. accepted []) stores 0 level stage used m e)
+  grow-charged halts goes zero level stage used m {levels} e =
+      go (step-grown o given (λ _ _ _. accepted []) stores 0 level stage used m (sym (grow-is o given stores 0 level stage used m) ∙ e))
     where
       go : Grown o given (λ _ _ _. accepted []) stores 0 level stage used m levels → P 0 level stage used m levels
       go (ends p l) = halts 0 level stage used m levels (by-pattern p) l
@@ -184,7 +214,8 @@ module _ (o : MultigridOptions) (given : Bool) (stores : Charge) (P : (more leve
       go (leads p q i) = absurd (not-both (ends-zero o (m .pattern)) p)
   grow-charged halts goes (suc more) level stage used m {levels} e =
       go (λ stage used m levels e. grow-charged halts goes more (level + 1) stage used m e)
-      (step-grown o given (growOf o given stores more (level + 1)) stores (suc more) level stage used m e)
+      (step-grown o given (growOf o given stores more (level + 1)) stores (suc more) level stage used m
+      (sym (grow-is o given stores (suc more) level stage used m) ∙ e))
     where
       go : ((stage : ℕ) (used : Charge) (m : Mesh) (levels : List Level) → growOf o given stores more (level + 1) stage used m ≡ accepted levels
           → P more (level + 1) stage used m levels)

@@ -22,7 +22,7 @@ use Rattle.hierarchy.specs.Level.{Level, Hierarchy}
 use Rattle.hierarchy.specs.Refresh.{innerNumbers, withSums}
 use Rattle.hierarchy.specs.Build.{Charge, andLevel, holds, innerShape, Mesh, merged, kernelAsked, paired, coarsenedAsked, endsAt, lastLevel, mergeOf, levelStep, growOf, Lent, Input, patternIn, meshIn, symmetricOf, buildOf}
 use Rattle.hierarchy.specs.Depth.{Ending, last, inner, Deep, Larger, LargerLent}
-use Rattle.hierarchy.proofs.Accepted.{ask-split, then-split, Last, onward, grow-keeps, fixedIn, chargeIn, build-built}
+use Rattle.hierarchy.proofs.Accepted.{ask-split, then-split, Last, onward, grow-is, grow-keeps, fixedIn, chargeIn, build-built}
 use Rattle.hierarchy.proofs.First.{grow-headed}
 
 -- ---- how many levels
@@ -149,12 +149,15 @@ module _ (o : MultigridOptions) (given : Bool) {stores bigger : Charge} (big : L
   -- An accepted build of a matrix is the same with larger stores.
   pub grow-larger : (more level stage : ℕ) (used : Charge) (m : Mesh) {levels : List Level}
       → growOf o given stores more level stage used m ≡ accepted levels → growOf o given bigger more level stage used m ≡ accepted levels
-  unfolding growOf
   grow-larger zero level stage used m e =
-      step-larger (λ _ _ _. accepted []) (λ _ _ _. accepted []) (λ stage used m levels e. e) 0 level stage used m e
+      grow-is o given bigger 0 level stage used m
+      ∙ step-larger (λ _ _ _. accepted []) (λ _ _ _. accepted []) (λ stage used m levels e. e) 0 level stage used m
+      (sym (grow-is o given stores 0 level stage used m) ∙ e)
   grow-larger (suc more) level stage used m e =
-      step-larger (growOf o given stores more (level + 1)) (growOf o given bigger more (level + 1))
-      (λ stage used m levels e. grow-larger more (level + 1) stage used m e) (suc more) level stage used m e
+      grow-is o given bigger (suc more) level stage used m
+      ∙ step-larger (growOf o given stores more (level + 1)) (growOf o given bigger more (level + 1))
+      (λ stage used m levels e. grow-larger more (level + 1) stage used m e) (suc more) level stage used m
+      (sym (grow-is o given stores (suc more) level stage used m) ∙ e)
 
 -- An accepted build is the same with more lent.
 pub build-larger : {l bigger : Lent} → LargerLent l bigger → (x : Input) {h : Hierarchy} → buildOf l x ≡ accepted h

@@ -12,9 +12,9 @@ use Rattle.refusal.specs.Outcome.{Outcome, accepted, passed, ask, _>>=_, _>>_}
 use Rattle.vector.specs.Finite.{allFinite}
 use Rattle.coefficients.specs.Update.{Coefficients, updateOf}
 use Rattle.coefficients.specs.Mirrors.{mirrorsEqual}
-use Rattle.aggregation.specs.Pairs.{Pairing, weighted, strengthsOf, pairsOf}
+use Rattle.aggregation.specs.Pairs.{Pairing, strengthsOf, pairsOf}
 use Rattle.pattern.specs.Pattern.{Pattern, entries, coarse, coarsePositions, composeOf}
-use Rattle.galerkin.specs.Values.{galerkinOf, restrictWeightsOf}
+use Rattle.galerkin.specs.Values.{sumsOf, symmetrizeOf, zeroDiagonalOf}
 use Rattle.faces.specs.Faces.{facesOf, faceOffsetsOf, neighborsOf, uppersOf, lowersOf, mirroredOf, diagonalsOf, diagonalsAsked, coupledCountOf, coupledRowsOf}
 use Rattle.csr.specs.Questions.{matrixAsked}
 use Rattle.csr.specs.Weights.{weightsAsked}
@@ -28,19 +28,18 @@ pub record Charge : Type 0 where
   pub words : ℕ
   pub floats : ℕ
 
+-- such a charge
+abbrev pub charge : ℕ → ℕ → Charge
+charge words floats = record { words = words; floats = floats }
+
 -- the fixed charge, of the finest matrix
 abbrev pub fixedCharge : MultigridOptions → ℕ → ℕ → Charge
-fixedCharge o rows entries = record {
-  words = 16 * rows + 12 * entries + 64;
-  floats = (12 + 2 * o .«krylov_dimension») * rows + 8 * entries + o .«coarsest_cells» * o .«coarsest_cells»;
-}
+fixedCharge o rows entries = charge (16 * rows + 12 * entries + 64)
+    ((12 + 2 * o .«krylov_dimension») * rows + 8 * entries + o .«coarsest_cells» * o .«coarsest_cells»)
 
 -- the charge so far and that of a level more
 abbrev pub andLevel : Pattern → Charge → Charge
-andLevel p c = record {
-  words = c .words + (5 * p .rows + 4 * entries p + 8);
-  floats = c .floats + (20 * p .rows + 4 * entries p);
-}
+andLevel p c = charge (c .words + (5 * p .rows + 4 * entries p + 8)) (c .floats + (20 * p .rows + 4 * entries p))
 
 -- whether stores of those sizes hold a charge
 abbrev pub holds : Charge → Charge → Bool
@@ -84,12 +83,9 @@ pub record Merged : Type 0 where
   pub map : List ℕ
   pub stage : ℕ
 
+-- such a matrix
 abbrev pub merged : Mesh → List ℕ → ℕ → Merged
 merged m map stage = record { mesh = m; map = map; stage = stage }
-
--- whether n is even
-abbrev pub even : ℕ → Bool
-even n = eqb (n % 2) 0
 
 -- questions 12 and 13 of a matrix
 abbrev pub kernelAsked : ℕ → Mesh → Outcome Coefficients
@@ -100,18 +96,19 @@ module _ (given : Bool) where
   abbrev pub paired : ℕ → Mesh → Pairing
   paired stage m =
       let p = m .pattern in
-      pairsOf (weighted (p .rows) (p .offsets) (p .columns) (strengthsOf (not given) (cond given (m .weights) (m .values)))) (even stage)
+      pairsOf (record { rows = p .rows; offsets = p .offsets; columns = p .columns; weights = strengthsOf (not given) (cond given (m .weights) (m .values)) })
+      (eqb (stage % 2) 0)
 
   -- `galerkin` and `restrict_weights`: the matrix of the aggregates
   abbrev pub coarsened : Mesh → List ℕ → ℕ → Mesh
   coarsened m map count =
       let p = m .pattern in
       let q = coarse p map count in
-      let at = coarsePositions p map count in
+      let sums = sumsOf (entries q) (entries p) (coarsePositions p map count) in
       record {
         pattern = q;
-        values = galerkinOf (entries q) (entries p) at (m .values) (facesOf q) (uppersOf q) (lowersOf q);
-        weights = cond given (restrictWeightsOf (entries q) (entries p) at (m .weights) count (q .offsets) (q .columns)) [];
+        values = symmetrizeOf (facesOf q) (uppersOf q) (lowersOf q) (sums (m .values));
+        weights = cond given (zeroDiagonalOf count (q .offsets) (q .columns) (sums (m .weights))) [];
       }
 
   -- the same with question 18
@@ -125,10 +122,6 @@ module _ (o : MultigridOptions) where
   abbrev pub fewCoupled : Pattern → Bool
   fewCoupled p = leb (coupledCountOf p) (o .«coarsest_cells»)
 
-  -- whether a level is the last by its pattern alone, with so many more allowed
-  abbrev pub endsAt : ℕ → Pattern → Bool
-  endsAt more p = fewCoupled p || eqb (facesOf p) 0 || eqb more 0
-
   -- the last level: question 14, then 15
   abbrev pub lastLevel : ℕ → Mesh → Coefficients → Outcome (List Level)
   lastLevel level m c = do
@@ -139,52 +132,44 @@ module _ (o : MultigridOptions) where
 module _ (o : MultigridOptions) (given : Bool) where
   -- ---- merged steps
 
-  -- a pairing g of the matrix made last: where it joins nothing the steps end, else they go on with the coarser matrix (18)
-  abbrev pub joinedStep : (Merged → Outcome Merged) → Merged → Pairing → Outcome Merged
-  joinedStep further s g =
-      cond (eqb (g .count) (s .mesh .pattern .rows)) (accepted (merged (s .mesh) (s .map) (s .stage + 1)))
-      (do
-        next ← coarsenedAsked given (s .mesh) (g .map) (g .count)
-        further (merged next (composeOf (length (s .map)) (s .map) (g .map)) (s .stage + 1)))
-
-  -- one merged step, at the level being formed: the matrix's kernel (12 and 13), and a pairing unless few rows are coupled
-  abbrev pub mergeStep : (Merged → Outcome Merged) → ℕ → Merged → Outcome Merged
-  mergeStep further level s = do
-    _ ← kernelAsked level (s .mesh)
-    cond (fewCoupled o (s .mesh .pattern)) (accepted s) (joinedStep further s (paired given (s .stage) (s .mesh)))
-
-  -- so many merged steps at most
+  -- so many merged steps at most, at the level being formed: the kernel of the matrix made last (12 and 13); then, unless few rows are coupled, a
+  -- pairing g of it. Where g joins nothing the steps end, else they go on with the coarser matrix (18).
   unfoldable pub mergeOf : ℕ → ℕ → Merged → Outcome Merged
   mergeOf zero level s = accepted s
-  mergeOf (suc steps) level s = mergeStep (mergeOf steps level) level s
+  mergeOf (suc steps) level s = do
+    _ ← kernelAsked level (s .mesh)
+    let g = paired given (s .stage) (s .mesh)
+    cond (fewCoupled o (s .mesh .pattern)) (accepted s)
+        (cond (eqb (g .count) (s .mesh .pattern .rows)) (accepted (merged (s .mesh) (s .map) (s .stage + 1)))
+        (do
+          next ← coarsenedAsked given (s .mesh) (g .map) (g .count)
+          mergeOf steps level (merged next (composeOf (length (s .map)) (s .map) (g .map)) (s .stage + 1))))
 
   -- ---- levels
 
-  -- a level with aggregates: 16 and 17, 18 of the first coarse matrix, the merged steps, and 18 of the matrix that is summed afresh
-  -- from the level by the composed map; then 9 of the next level, and the levels from there
-  abbrev pub innerLevel : (ℕ → Charge → Mesh → Outcome (List Level)) → Charge → ℕ → ℕ → Charge → Mesh → Coefficients → Pairing → Outcome (List Level)
-  innerLevel deeper stores level stage used m c g = do
-    n ← innerNumbers o level (innerShape (m .pattern) (g .map) (g .count)) c
-    first ← coarsenedAsked given m (g .map) (g .count)
-    s ← mergeOf (o .«merge_levels» - 1) (level + 1) (merged first (g .map) (stage + 1))
-    next ← coarsenedAsked given m (s .map) (s .mesh .pattern .rows)
-    ask (holds stores (andLevel (next .pattern) used)) storeTooSmall
-    levels ← deeper (s .stage) (andLevel (next .pattern) used) (record { pattern = next .pattern; values = next .values; weights = s .mesh .weights })
-    accepted (record { shape = innerShape (m .pattern) (s .map) (s .mesh .pattern .rows); numbers = n } ∷ levels)
-
-  -- a level whose charge is paid: 11, 12 and 13; then it is the last, or it is paired, and the last if that joins nothing
-  abbrev pub levelStep : (ℕ → Charge → Mesh → Outcome (List Level)) → Charge → ℕ → ℕ → ℕ → Charge → Mesh → Outcome (List Level)
-  levelStep deeper stores more level stage used m = do
+  -- the levels from `level` on, so many more than one at most, the charge of the first being paid: 11, 12 and 13; then it is the last where no
+  -- more are allowed, few rows are coupled, there is no face, or its pairing g joins nothing. Else come 16 and 17, 18 of the first coarse matrix,
+  -- the merged steps, and 18 of the matrix that is summed afresh from the level by the composed map; then 9 of the next level, and the levels
+  -- from there.
+  unfoldable pub growOf : Charge → ℕ → ℕ → ℕ → Charge → Mesh → Outcome (List Level)
+  growOf stores zero level stage used m = do
     _ ← diagonalsAsked level (m .pattern)
     c ← kernelAsked level m
-    cond (endsAt o more (m .pattern)) (lastLevel o level m c)
-        (let g = paired given stage m in
-        cond (eqb (g .count) (m .pattern .rows)) (lastLevel o level m c) (innerLevel deeper stores level stage used m c g))
-
-  -- the levels from `level` on, so many more than one at most
-  unfoldable pub growOf : Charge → ℕ → ℕ → ℕ → Charge → Mesh → Outcome (List Level)
-  growOf stores zero level stage used m = levelStep (λ _ _ _. accepted []) stores 0 level stage used m
-  growOf stores (suc more) level stage used m = levelStep (growOf stores more (level + 1)) stores (suc more) level stage used m
+    lastLevel o level m c
+  growOf stores (suc more) level stage used m = do
+    _ ← diagonalsAsked level (m .pattern)
+    c ← kernelAsked level m
+    let g = paired given stage m
+    cond (fewCoupled o (m .pattern) || eqb (facesOf (m .pattern)) 0 || eqb (g .count) (m .pattern .rows)) (lastLevel o level m c)
+        (do
+          n ← innerNumbers o level (innerShape (m .pattern) (g .map) (g .count)) c
+          first ← coarsenedAsked given m (g .map) (g .count)
+          s ← mergeOf (o .«merge_levels» - 1) (level + 1) (merged first (g .map) (stage + 1))
+          next ← coarsenedAsked given m (s .map) (s .mesh .pattern .rows)
+          let paid = andLevel (next .pattern) used
+          ask (holds stores paid) storeTooSmall
+          levels ← growOf stores more (level + 1) (s .stage) paid (record { pattern = next .pattern; values = next .values; weights = s .mesh .weights })
+          accepted (record { shape = innerShape (m .pattern) (s .map) (s .mesh .pattern .rows); numbers = n } ∷ levels))
 
 -- ---- the build
 
@@ -203,6 +188,7 @@ pub record Input : Type 0 where
   pub weights : List Float
   pub options : MultigridOptions
 
+-- its pattern
 abbrev pub patternIn : Input → Pattern
 patternIn x = record { rows = x .rows; offsets = x .offsets; columns = x .columns }
 
@@ -229,3 +215,55 @@ buildOf l x = do
   ask (symmetricOf p (x .values)) unequalMirrors
   levels ← growOf o (x .given) (l .stores) (o .«max_levels» - 1) 0 0 (andLevel p fixed) (meshIn x)
   accepted (withSums o levels)
+
+-- ---- merged steps and levels a step at a time, as proofs take them apart: what comes after is an argument
+
+-- whether n is even
+abbrev pub even : ℕ → Bool
+even n = eqb (n % 2) 0
+
+module _ (o : MultigridOptions) where
+  -- whether a level is the last by its pattern alone, with so many more allowed
+  abbrev pub endsAt : ℕ → Pattern → Bool
+  endsAt more p = fewCoupled o p || eqb (facesOf p) 0 || eqb more 0
+
+module _ (o : MultigridOptions) (given : Bool) where
+  -- a pairing g of the matrix made last: where it joins nothing the steps end, else they go on with the coarser matrix (18)
+  abbrev pub joinedStep : (Merged → Outcome Merged) → Merged → Pairing → Outcome Merged
+  joinedStep further s g =
+      cond (eqb (g .count) (s .mesh .pattern .rows)) (accepted (merged (s .mesh) (s .map) (s .stage + 1)))
+      (do
+        next ← coarsenedAsked given (s .mesh) (g .map) (g .count)
+        further (merged next (composeOf (length (s .map)) (s .map) (g .map)) (s .stage + 1)))
+
+  -- one merged step, at the level being formed: the matrix's kernel (12 and 13), and a pairing unless few rows are coupled
+  abbrev pub mergeStep : (Merged → Outcome Merged) → ℕ → Merged → Outcome Merged
+  mergeStep further level s = do
+    _ ← kernelAsked level (s .mesh)
+    cond (fewCoupled o (s .mesh .pattern)) (accepted s) (joinedStep further s (paired given (s .stage) (s .mesh)))
+
+  -- a level with aggregates: 16 and 17, 18 of the first coarse matrix, the merged steps, and 18 of the matrix that is summed afresh
+  -- from the level by the composed map; then 9 of the next level, and the levels from there
+  abbrev pub innerLevel : (ℕ → Charge → Mesh → Outcome (List Level)) → Charge → ℕ → ℕ → Charge → Mesh → Coefficients → Pairing → Outcome (List Level)
+  innerLevel deeper stores level stage used m c g = do
+    n ← innerNumbers o level (innerShape (m .pattern) (g .map) (g .count)) c
+    first ← coarsenedAsked given m (g .map) (g .count)
+    s ← mergeOf o given (o .«merge_levels» - 1) (level + 1) (merged first (g .map) (stage + 1))
+    next ← coarsenedAsked given m (s .map) (s .mesh .pattern .rows)
+    ask (holds stores (andLevel (next .pattern) used)) storeTooSmall
+    levels ← deeper (s .stage) (andLevel (next .pattern) used) (record { pattern = next .pattern; values = next .values; weights = s .mesh .weights })
+    accepted (record { shape = innerShape (m .pattern) (s .map) (s .mesh .pattern .rows); numbers = n } ∷ levels)
+
+  -- a level whose charge is paid: 11, 12 and 13; then it is the last, or it is paired, and the last if that joins nothing
+  abbrev pub levelStep : (ℕ → Charge → Mesh → Outcome (List Level)) → Charge → ℕ → ℕ → ℕ → Charge → Mesh → Outcome (List Level)
+  levelStep deeper stores more level stage used m = do
+    _ ← diagonalsAsked level (m .pattern)
+    c ← kernelAsked level m
+    cond (endsAt o more (m .pattern)) (lastLevel o level m c)
+        (let g = paired given stage m in
+        cond (eqb (g .count) (m .pattern .rows)) (lastLevel o level m c) (innerLevel deeper stores level stage used m c g))
+
+  -- the levels after one, so many of them at most
+  abbrev pub deeperOf : Charge → ℕ → ℕ → ℕ → Charge → Mesh → Outcome (List Level)
+  deeperOf stores zero level = λ _ _ _. accepted []
+  deeperOf stores (suc more) level = growOf o given stores more (level + 1)

@@ -49,14 +49,12 @@ pub record Hierarchy : Type 0 where
 
 -- the kernel of a level, from its shape and its coefficients
 abbrev pub kernelOf : Shape → List Float → List Float → List Float → Kernel
-kernelOf s diagonal inverse coefficients = record {
-  rows = s .pattern .rows;
-  diagonal = diagonal;
-  inverse = inverse;
-  offsets = s .starts;
-  neighbors = s .neighbors;
-  coefficients = coefficients;
-}
+kernelOf s diagonal inverse coefficients =
+    record { rows = s .pattern .rows; diagonal = diagonal; inverse = inverse; offsets = s .starts; neighbors = s .neighbors; coefficients = coefficients }
+
+-- the kernel of a level: all that a solve reads of its matrix
+abbrev pub kernelIn : Level → Kernel
+kernelIn l = kernelOf (l .shape) (l .numbers .diagonal) (l .numbers .inverse) (l .numbers .coefficients)
 
 -- the matrix of a level by its rows
 abbrev pub csrOf : Shape → List Float → Csr

@@ -43,22 +43,22 @@ tolerable t = isFinite t && not (lt t (ofBits binary64 0))
 -- `validate` of options.rs
 unfoldable pub validOf : MultigridOptions → Bool
 validOf o =
-    within 1 (o .«max_sweeps») 64
-    && leb (o .«pre_sweeps») (o .«max_sweeps»)
-    && leb (o .«post_sweeps») (o .«max_sweeps»)
+    within 1 (o .«max_sweeps») 64 && leb (o .«pre_sweeps») (o .«max_sweeps») && leb (o .«post_sweeps») (o .«max_sweeps»)
     && within 1 (o .«finest_sweeps») 64
-    && within 1 (o .«coarsest_cells») 256
-    && within 1 (o .«max_levels») 128
-    && within 1 (o .«merge_levels») 4
+    && within 1 (o .«coarsest_cells») 256 && within 1 (o .«max_levels») 128 && within 1 (o .«merge_levels») 4
     && leb (o .«krylov_dimension») 16
-    && tolerable (o .«coarse_absolute_tolerance»)
-    && tolerable (o .«coarse_relative_tolerance»)
-    && leb 1 (o .«coarse_max_iterations»)
+    && tolerable (o .«coarse_absolute_tolerance») && tolerable (o .«coarse_relative_tolerance») && leb 1 (o .«coarse_max_iterations»)
 
 -- the coarse solver that question 7 asks for
 abbrev pub isCholesky : MultigridCoarseSolver → Bool
 isCholesky MultigridCoarseSolver.PcgDic = false
 isCholesky MultigridCoarseSolver.Cholesky = true
+
+-- whether a smoother makes DIC sweeps first, and so needs DIC data
+abbrev pub needsDic : MultigridSmoother → Bool
+needsDic MultigridSmoother.GaussSeidel = false
+needsDic MultigridSmoother.SymmetricGaussSeidel = false
+needsDic MultigridSmoother.DicGaussSeidel = true
 
 -- questions 6 and 7 of document 01
 abbrev pub controlsAsked : MultigridOptions → Outcome Unit

@@ -1,6 +1,6 @@
 // Controls of the multigrid solver, and the handle that a build answers with.
 ghost use mathlib.Core.Path.{_≡_};
-ghost use Rattle.options.specs.Options.{defaultOptions, validOf, controlsAsked};
+ghost use Rattle.options.specs.Options.{defaultOptions, validOf, needsDic, controlsAsked};
 ghost use Rattle.refusal.specs.Outcome.{verdictOf};
 use refusal::Verdict;
 
@@ -94,6 +94,17 @@ impl MultigridOptions {
             & (float::is_finite(self.coarse_relative_tolerance)
                 & !(self.coarse_relative_tolerance < 0.0))
             & (1 <= self.coarse_max_iterations)
+    }
+}
+
+// Whether the smoother makes DIC sweeps first, and so needs DIC data.
+pub fn needs_dic(kind: MultigridSmoother) -> bool
+    ensures { λ r. ⌜ r ≡ needsDic kind ⌝ }
+{
+    match kind {
+        MultigridSmoother::GaussSeidel => false,
+        MultigridSmoother::SymmetricGaussSeidel => false,
+        MultigridSmoother::DicGaussSeidel => true,
     }
 }
 

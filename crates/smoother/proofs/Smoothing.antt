@@ -20,7 +20,8 @@ use Rattle.matrix.specs.declared.matrix.SymmetricMatrix.{SymmetricMatrix}
 use Rattle.matrix.specs.Kernel.{Kernel, kernelAt}
 use Rattle.gauss_seidel.specs.Sweep.{Swept, gaussSeidelOf, dicSweepOf}
 use Rattle.gauss_seidel.specs.Contract.{GaussSeidelOk, SmoothOk, Both}
-use Rattle.smoother.specs.Smooth.{isDic, isSymmetric, dicSweepsOf, gaussSeidelsOf, sweptOf, smoothOf, Smoothed, SmoothDone}
+use Rattle.options.specs.Options.{needsDic}
+use Rattle.smoother.specs.Smooth.{isSymmetric, dicSweepsOf, gaussSeidelsOf, sweptOf, smoothOf, Smoothed, SmoothDone}
 
 -- The layout holds in a store of the same size.
 pub smooth-resize : {w : List ℕ} {size size' dic rhs x work correction : ℕ} {s : SymmetricMatrix} → SmoothOk w size s dic rhs x work correction → size' ≡ size
@@ -141,15 +142,15 @@ module _ {w : List ℕ} {s : SymmetricMatrix} {rhs x work correction sweeps : �
 -- ---- the ways out
 
 module _ {w : List ℕ} {F G : List Float} {s : SymmetricMatrix} {dic rhs x work correction : ℕ} (sweeps : ℕ) (kind : MultigridSmoother) (d symmetric : Bool)
-    (ok : SmoothOk w (length F) s dic rhs x work correction) (sy : symmetric ≡ isSymmetric kind) (e : d ≡ isDic kind) where
+    (ok : SmoothOk w (length F) s dic rhs x work correction) (sy : symmetric ≡ isSymmetric kind) (e : d ≡ needsDic kind) where
   -- DIC sweeps, then Gauss-Seidel.
   pub swept-dic : {H : List Float} → d ≡ true
       → Smoothed (s .rows) x work correction (dicSweepsOf (kernelAt s w F) (part dic (s .rows) F) (part rhs (s .rows) F) sweeps (part x (s .rows) F)) F G
       → Smoothed (s .rows) x work correction (gaussSeidelsOf (kernelAt s w G) (part rhs (s .rows) G) symmetric sweeps (part x (s .rows) G)) G H
       → Smoothed (s .rows) x work correction (sweptOf (kernelAt s w F) (part dic (s .rows) F) (part rhs (s .rows) F) kind sweeps (part x (s .rows) F)) F H
-  unfolding sweptOf
+  unfolding sweptOf gaussSeidelsOf dicSweepsOf
   swept-dic {H} t p q =
-      let dic? : isDic kind ≡ true = sym e ∙ t in
+      let dic? : needsDic kind ≡ true = sym e ∙ t in
       record {
         is = q .is ∙ rw (same-kernel ok p, below ok p rhs (s .rows) (ok .given), p .is, sy, dic?);
         kept = λ a m u r v. q .kept a m u r v ∙ p .kept a m u r v;
@@ -160,16 +161,16 @@ module _ {w : List ℕ} {F G : List Float} {s : SymmetricMatrix} {dic rhs x work
   pub swept-plain : d ≡ false
       → Smoothed (s .rows) x work correction (gaussSeidelsOf (kernelAt s w F) (part rhs (s .rows) F) symmetric sweeps (part x (s .rows) F)) F G
       → Smoothed (s .rows) x work correction (sweptOf (kernelAt s w F) (part dic (s .rows) F) (part rhs (s .rows) F) kind sweeps (part x (s .rows) F)) F G
-  unfolding sweptOf
+  unfolding sweptOf gaussSeidelsOf dicSweepsOf
   swept-plain t p =
-      let dic? : isDic kind ≡ false = sym e ∙ t in
+      let dic? : needsDic kind ≡ false = sym e ∙ t in
       record { is = p .is ∙ rw (sy, dic?); kept = p .kept; size = p .size }
 
 -- No sweep leaves x.
 swept-none : (k : Kernel) (dic rhs : List Float) (kind : MultigridSmoother) (v : List Float) → sweptOf k dic rhs kind 0 v ≡ v
 unfolding sweptOf gaussSeidelsOf dicSweepsOf
 swept-none k dic rhs kind v =
-    for-done _ 0 0 _ (omega arith) ∙ go (isDic kind)
+    for-done _ 0 0 _ (omega arith) ∙ go (needsDic kind)
   where
     go : (b : Bool) → cond b (for (λ _ y. dicSweepOf k dic rhs y .x) 0 0 v) v ≡ v
     go true = for-done _ 0 0 v (omega arith)

@@ -9,18 +9,13 @@ use lib.ListN.{length}
 use Rattle.store.specs.Loop.{for}
 use Rattle.store.specs.Region.{Clear, part}
 use Rattle.options.specs.declared.options.MultigridSmoother.{MultigridSmoother}
+use Rattle.options.specs.Options.{needsDic}
 use Rattle.refusal.specs.Refusal.{badSmootherOutput}
 use Rattle.refusal.specs.declared.Verdict.{Verdict}
 use Rattle.refusal.specs.Outcome.{Outcome, accepted, ask, verdictOf}
 use Rattle.vector.specs.Finite.{allFinite}
 use Rattle.matrix.specs.Kernel.{Kernel}
 use Rattle.gauss_seidel.specs.Sweep.{gaussSeidelOf, dicSweepOf}
-
--- whether DIC sweeps come first
-abbrev pub isDic : MultigridSmoother → Bool
-isDic MultigridSmoother.GaussSeidel = false
-isDic MultigridSmoother.SymmetricGaussSeidel = false
-isDic MultigridSmoother.DicGaussSeidel = true
 
 -- whether a Gauss-Seidel sweep goes back
 abbrev pub isSymmetric : MultigridSmoother → Bool
@@ -39,7 +34,8 @@ module _ (k : Kernel) (dic rhs : List Float) where
 
   -- x after the sweeps: all DIC sweeps first, then as many of Gauss-Seidel
   unfoldable pub sweptOf : MultigridSmoother → ℕ → List Float → List Float
-  sweptOf kind sweeps x = gaussSeidelsOf k rhs (isSymmetric kind) sweeps (cond (isDic kind) (dicSweepsOf sweeps x) x)
+  sweptOf kind sweeps x =
+      for (λ _ y. gaussSeidelOf k (isSymmetric kind) rhs y .x) 0 sweeps (cond (needsDic kind) (for (λ _ y. dicSweepOf k dic rhs y .x) 0 sweeps x) x)
 
   -- `smooth`: question 25 is asked where there was a sweep
   unfoldable pub smoothOf : MultigridSmoother → ℕ → List Float → Outcome (List Float)

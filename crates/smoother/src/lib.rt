@@ -4,21 +4,10 @@ ghost use lib.ListN.{length};
 ghost use Rattle.store.specs.Region.{part};
 ghost use Rattle.matrix.specs.Kernel.{kernelAt};
 ghost use Rattle.gauss_seidel.specs.Contract.{SmoothOk};
-ghost use Rattle.smoother.specs.Smooth.{isDic, isSymmetric, dicSweepsOf, gaussSeidelsOf, sweptOf, smoothOf, Smoothed, SmoothDone};
+ghost use Rattle.smoother.specs.Smooth.{isSymmetric, dicSweepsOf, gaussSeidelsOf, sweptOf, smoothOf, Smoothed, SmoothDone};
 use matrix::SymmetricMatrix;
 use options::MultigridSmoother;
 use refusal::Verdict;
-
-// Whether DIC sweeps come first.
-fn is_dic(kind: MultigridSmoother) -> bool
-    ensures { λ r. ⌜ r ≡ isDic kind ⌝ }
-{
-    match kind {
-        MultigridSmoother::GaussSeidel => false,
-        MultigridSmoother::SymmetricGaussSeidel => false,
-        MultigridSmoother::DicGaussSeidel => true,
-    }
-}
 
 // Whether a Gauss-Seidel sweep goes back.
 fn is_symmetric(kind: MultigridSmoother) -> bool
@@ -93,7 +82,7 @@ fn sweep(
     ensures { λ _. ⌜ Smoothed (s .rows) x work correction (sweptOf (kernelAt s (now (w .entry)) (now (f .entry))) (part dic (s .rows) (now (f .entry))) (part rhs (s .rows) (now (f .entry))) kind sweeps (part x (s .rows) (now (f .entry)))) (now (f .entry)) (now (f .exit)) ⌝ }
 {
     let symmetric = is_symmetric(kind);
-    if is_dic(kind) {
+    if options::needs_dic(kind) {
         dic_sweeps(w, f, s, dic, rhs, x, work, correction, sweeps);
         gauss_seidels(w, f, s, dic, rhs, x, work, correction, symmetric, sweeps);
     } else {

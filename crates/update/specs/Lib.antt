@@ -1,4 +1,5 @@
 pub mod Arrays
 pub mod Shadow
+pub mod Updated
 pub mod Contract
 pub mod Steps

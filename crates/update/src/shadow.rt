@@ -1,7 +1,6 @@
 // The new image of `update_values` of mod.rs: the levels, computed in a shadow behind the old image, and the row sums of the finest.
 ghost use mathlib.Core.Path.{_≡_};
 ghost use lib.ListN.{length};
-ghost use Rattle.hierarchy.specs.Refresh.{needsDic};
 ghost use Rattle.layout.specs.Layout.{locate};
 ghost use Rattle.update_levels.specs.Level.{FacesReady};
 ghost use Rattle.update_levels.specs.Steps.{Renewed};
@@ -9,17 +8,6 @@ ghost use Rattle.update.specs.Shadow.{SumOk, Summed, Smoothed, ShadowOk}
 use options::MultigridResidualNorm;
 use options::MultigridSmoother;
 use refusal::Verdict;
-
-// Whether the smoother needs DIC data.
-fn needs_dic(kind: MultigridSmoother) -> bool
-    ensures { λ r. ⌜ r ≡ needsDic kind ⌝ }
-{
-    match kind {
-        MultigridSmoother::GaussSeidel => false,
-        MultigridSmoother::SymmetricGaussSeidel => false,
-        MultigridSmoother::DicGaussSeidel => true,
-    }
-}
 
 // The levels of the new image in the shadow, which starts where the old image ends and already has the coefficients of the finest.
 pub fn shadow(
@@ -34,7 +22,7 @@ pub fn shadow(
     requires { ⌜ FacesReady (now w) (now values) (now f) (locate (now w) 0 image) ⌝ }
     ensures { λ r. ⌜ Smoothed kind (λ o. Renewed o levels 0 (now (w .entry)) (now (values .entry)) (now (f .entry)) (now (f .exit)) 0 image r) ⌝ }
 {
-    update_levels::renew(w, values, f, needs_dic(kind), levels, image)
+    update_levels::renew(w, values, f, options::needs_dic(kind), levels, image)
 }
 
 // The row sums of the finest level, where the norm needs them; else zeros. They end the image.

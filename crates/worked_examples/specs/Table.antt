@@ -9,7 +9,7 @@ use lib.Ieee.{Float, binary64, ofBits, ofInt, toBits}
 use Rattle.float.specs.Float.{zero64, one64}
 use Rattle.float.specs.Sqrt.{sqrtOf}
 use Rattle.store.specs.Vector.{filled}
-use Rattle.aggregation.specs.Pairs.{Weighted, weighted, strengthsOf, pairsOf}
+use Rattle.aggregation.specs.Pairs.{Weighted, strengthsOf, pairsOf}
 use Rattle.pattern.specs.Pattern.{Pattern, entries}
 use Rattle.matrix.specs.Kernel.{Kernel}
 use Rattle.dic.specs.Dic.{dicOf}
@@ -18,8 +18,10 @@ use Rattle.cholesky.specs.Factor.{choleskyOf}
 use Rattle.hierarchy.specs.Level.{kernelOf, csrOf}
 use Rattle.hierarchy.specs.Build.{Mesh, kernelAsked, coarsened, lastShape}
 use Rattle.refusal.specs.Outcome.{Outcome, accepted, refused, _>>=_}
-use Rattle.options.specs.Options.{defaultOptions}
 use Rattle.options.specs.Counts.{preSweepsOf, postSweepsOf}
+use Rattle.options.specs.declared.options.MultigridSmoother.{MultigridSmoother}
+use Rattle.options.specs.declared.options.MultigridResidualNorm.{MultigridResidualNorm}
+use Rattle.options.specs.declared.options.MultigridCoarseSolver.{MultigridCoarseSolver}
 use Rattle.options.specs.declared.options.MultigridOptions.{MultigridOptions}
 
 -- the bits of the root of the f64 with these bits
@@ -27,29 +29,26 @@ unfoldable pub rootBits : ℕ → ℕ
 unfolding ofBits toBits sqrtOf
 rootBits b = toBits binary64 (sqrtOf (ofBits binary64 b))
 
--- the default controls but for the sweep counts, the multiplier and the maximum
+-- controls with these sweep counts, this multiplier and this maximum; of the others none tells how often a level below the finest is smoothed
 unfoldable pub sweeps : ℕ → ℕ → ℕ → ℕ → MultigridOptions
-unfolding defaultOptions
-sweeps pre post multiplier maximum =
-    let d = defaultOptions in
-    record {
-      smoother = d .smoother;
-      «residual_norm» = d .«residual_norm»;
-      «pre_sweeps» = pre;
-      «post_sweeps» = post;
-      «finest_sweeps» = d .«finest_sweeps»;
-      «sweep_level_multiplier» = multiplier;
-      «max_sweeps» = maximum;
-      «coarsest_cells» = d .«coarsest_cells»;
-      «max_levels» = d .«max_levels»;
-      «merge_levels» = d .«merge_levels»;
-      «krylov_dimension» = d .«krylov_dimension»;
-      «coarse_solver» = d .«coarse_solver»;
-      «coarse_absolute_tolerance» = d .«coarse_absolute_tolerance»;
-      «coarse_relative_tolerance» = d .«coarse_relative_tolerance»;
-      «coarse_max_iterations» = d .«coarse_max_iterations»;
-      «scale_correction» = d .«scale_correction»;
-    }
+sweeps pre post multiplier maximum = record {
+  smoother = MultigridSmoother.DicGaussSeidel;
+  «residual_norm» = MultigridResidualNorm.NormalizedL1;
+  «pre_sweeps» = pre;
+  «post_sweeps» = post;
+  «finest_sweeps» = 1;
+  «sweep_level_multiplier» = multiplier;
+  «max_sweeps» = maximum;
+  «coarsest_cells» = 10;
+  «max_levels» = 64;
+  «merge_levels» = 2;
+  «krylov_dimension» = 4;
+  «coarse_solver» = MultigridCoarseSolver.PcgDic;
+  «coarse_absolute_tolerance» = zero64;
+  «coarse_relative_tolerance» = zero64;
+  «coarse_max_iterations» = 500;
+  «scale_correction» = true;
+}
 
 -- whether two lists are the same
 unfoldable pub same : List ℕ → List ℕ → Bool
@@ -126,7 +125,7 @@ kernelMade m = do
 
 -- the pattern p with these weights
 abbrev pub weigh : Pattern → List Float → Weighted
-weigh p v = weighted (p .rows) (p .offsets) (p .columns) v
+weigh p v = record { rows = p .rows; offsets = p .offsets; columns = p .columns; weights = v }
 
 -- all weights of p equal to x
 abbrev pub alike : Pattern → Float → Weighted

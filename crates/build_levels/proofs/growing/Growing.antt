@@ -27,8 +27,8 @@ use Rattle.faces.proofs.faces.Laws.{faces-half}
 use Rattle.hierarchy.specs.Level.{Numbers, Level}
 use Rattle.hierarchy.specs.Refresh.{innerNumbers}
 use Rattle.hierarchy.specs.Proper.{Proper}
-use Rattle.hierarchy.specs.Build.{Charge, fixedCharge, andLevel, holds, innerShape, Mesh, Merged, merged, kernelAsked, paired, coarsenedAsked, endsAt, lastLevel, mergeOf, innerLevel, growOf}
-use Rattle.hierarchy.proofs.Accepted.{then-split, ends-zero}
+use Rattle.hierarchy.specs.Build.{charge, Charge, fixedCharge, andLevel, holds, innerShape, Mesh, Merged, merged, kernelAsked, paired, coarsenedAsked, endsAt, lastLevel, mergeOf, innerLevel, growOf, deeperOf}
+use Rattle.hierarchy.proofs.Accepted.{grow-is, then-split, ends-zero}
 use Rattle.hierarchy.proofs.Proper.{valid-range, first-joined}
 use Rattle.layout.specs.declared.Place.{Place}
 use Rattle.layout.specs.Layout.{placeOf, levelAt, wordsEnd, floatsEnd, levelsAt, imageEnd, wordsFit}
@@ -48,8 +48,8 @@ use Rattle.build_levels.specs.declared.descent.Descending.{Descending}
 use Rattle.build_levels.specs.DescentContract.{Descent, nextOf, descentOf, descendingOf, DescendOk, descentAt, Arrived, Descended}
 use Rattle.build_levels.proofs.descent.Regions.{Same, same-kept, pattern-same, shapes-same}
 use Rattle.build_levels.specs.declared.growing.Onward.{Onward}
-use Rattle.build_levels.specs.GrowingContract.{charge, growAt, Grown}
-use Rattle.build_levels.specs.Ahead.{deeperOf, pairedLevel, pairedAt, before, Ahead, Advanced, LeadOk, nextAfter, pickOnward, chargedOf, ChargeOk}
+use Rattle.build_levels.specs.GrowingContract.{growAt, Grown}
+use Rattle.build_levels.specs.Ahead.{pairedLevel, pairedAt, before, Ahead, Advanced, LeadOk, nextAfter, pickOnward, chargedOf, ChargeOk}
 
 -- ---- the definition opened
 
@@ -57,11 +57,9 @@ module _ (o : MultigridOptions) (given : Bool) (stores : Charge) where
   -- The levels from one on: the questions of its matrix, and then it is the last or paired.
   grow-opens : (more level stage : ℕ) (used : Charge) (m : Mesh)
       → growOf o given stores more level stage used m ≡ _>>=_ (laidOf level m) (pairedLevel o given stores more level stage used m)
-  unfolding growOf
-  grow-opens zero level stage used m =
-      sym (then-then (diagonalsAsked level (m .pattern)) (λ _. kernelAsked level m) (pairedLevel o given stores 0 level stage used m))
-  grow-opens (suc more) level stage used m =
-      sym (then-then (diagonalsAsked level (m .pattern)) (λ _. kernelAsked level m) (pairedLevel o given stores (suc more) level stage used m))
+  grow-opens more level stage used m =
+      grow-is o given stores more level stage used m
+      ∙ sym (then-then (diagonalsAsked level (m .pattern)) (λ _. kernelAsked level m) (pairedLevel o given stores more level stage used m))
 
   -- Where a level may follow, the deeper levels are a build of one level less.
   deeper-is : (more n level : ℕ) → more ≡ n + 1 → deeperOf o given stores more level ≡ growOf o given stores n (level + 1)

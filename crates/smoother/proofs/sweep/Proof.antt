@@ -17,7 +17,7 @@ returns c =
     let at-dic = at-seidel .before .before .before .before in
     let at-kind = at-dic .before .before .before in
     let start = at-kind .before .before .before .before in
-    swept-dic _ _ _ _ (start .pre) (at-kind .before .is-symmetric .ensures) (at-kind .is-dic .ensures) (at-dic .before .before .if1 .taken)
+    swept-dic _ _ _ _ (start .pre) (at-kind .before .is-symmetric .ensures) (at-kind .needs-dic .ensures) (at-dic .before .before .if1 .taken)
     (at-dic .dic-sweeps .ensures) (at-seidel .gauss-seidels .ensures)
 
 returns-2 : tie.Need-returns-2
@@ -25,7 +25,7 @@ returns-2 c =
     let at-seidel = c .before .before in
     let at-kind = at-seidel .before .before .before in
     let start = at-kind .before .before .before .before in
-    swept-plain _ _ _ _ (start .pre) (at-kind .before .is-symmetric .ensures) (at-kind .is-dic .ensures) (at-seidel .before .before .if1 .left)
+    swept-plain _ _ _ _ (start .pre) (at-kind .before .is-symmetric .ensures) (at-kind .needs-dic .ensures) (at-seidel .before .before .if1 .left)
     (at-seidel .gauss-seidels2 .ensures)
 
 pub sweep-spec : {M : Type 1} → statement M
