@@ -25,6 +25,7 @@ use Rattle.build.specs.Contract.{handleOf}
 use Rattle.index_check.specs.declared.sound.Walk.{Walk}
 use Rattle.index_check.specs.Sound.{headSound, shapeIn, arraysSound, rowPlaced, targetsOf, sumsOf, walkOf, isSound, scratchEnd, cycleStart, handleSound, soundOf}
 use Rattle.index_check.proofs.sound.Walks.{endsOf, head-fits, level-walked, walk-closed, walk-none}
+use Rattle.index_check.proofs.sound.Accepts.{walk-accepts}
 use Rattle.build_sound.specs.Laid.{Small, Laid, last, inner, chargesOf}
 use Rattle.build_sound.proofs.Growth.{grow-diagonal, grow-laid, held, grow-paid}
 use Rattle.build_sound.proofs.Reading.{last-arrays, inner-arrays, rows-told, last-told, entries-told, head-told, rows-placed, coupled-told, coupled-none, view-first, shape-told, fit-split}
@@ -159,7 +160,7 @@ built-sound l x {h} e w F view fits words floats =
     both (both (both (both (both
     (both (both (both (both (b .controls) (b .solver)) (b .rows)) (le-leb 1 k (d .some))) (le-leb k (o .«max_levels») few))
     (le-leb k (l .records) (omega arith)))
-    (ap isSound (walked .walk)))
+    (sym (walk-accepts k w 0 0) ∙ ap isSound (walked .walk)))
     (eq-eqb (rowsAt w 0) (x .rows) tall))
     (eq-eqb (entriesAt w 0) (length (x .columns)) (walked .long)))
     (le-leb (scratchEnd k w 0 (cycleStart krylov k w)) (length F) size)

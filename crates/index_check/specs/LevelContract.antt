@@ -73,10 +73,6 @@ riseAt w from k = leb (idx w (from + k)) (idx w (from + k + 1))
 abbrev pub rowsPlaced : Shape → Bool
 rowsPlaced s = each (rowPlaced s) (s .pattern .rows)
 
--- a level all at once: its tables, and where its rows stand
-abbrev pub levelSound : ℕ → ℕ → Shape → Bool
-levelSound targets sums s = arraysSound targets sums s && rowsPlaced s
-
 -- ---- one row
 
 -- A row of such a level.

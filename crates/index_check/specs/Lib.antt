@@ -1,3 +1,4 @@
+pub mod Question
 pub mod Sound
 pub mod SoundContract
 pub mod LevelContract

@@ -1,55 +1,18 @@
--- Question 19: what the index check asks of a handle and of stores that anybody may have written. Definitions only.
+-- The walk of the index check, which tells the level and row of the first entry that fails: heads first, then level by level and row by row.
+-- It goes through exactly where the levels pass (`walk-accepts` of proofs/sound/Accepts.antt). Definitions only.
 use mathlib.Core.Bool.{Bool, true, false, not, _&&_}
 use mathlib.Core.List.{List}
-use Prim.Native.Nat.{ℕ, zero, suc, _+_, _*_, _-_}
-use lib.Dec.{eqb, leb, ltb}
+use Prim.Native.Nat.{ℕ, zero, suc, _+_, _-_}
+use lib.Dec.{leb}
 use lib.ListN.{length}
 use Rattle.store.specs.Region.{idx, part}
-use Rattle.store.specs.Vector.{each}
-use Rattle.options.specs.declared.options.Handle.{Handle}
-use Rattle.options.specs.Options.{validOf, isCholesky}
 use Rattle.pattern.specs.Pattern.{entries}
 use Rattle.hierarchy.specs.Level.{Shape}
-use Rattle.layout.specs.Layout.{rowsAt, lastAt, coupledAt, entriesAt, facesAt, locate, shapeAt, wordsEnd, imageEnd}
+use Rattle.layout.specs.Layout.{rowsAt, lastAt, entriesAt, wordsEnd}
 use Rattle.index_check.specs.declared.sound.Walk.{Walk}
-
--- ---- one level
-
--- whether each number of a list is below the bound
-unfoldable pub allBelow : ℕ → List ℕ → Bool
-allBelow bound v = each (λ k. ltb (idx v k) bound) (length v)
-
--- the level whose words start at a: its sizes are those of a matrix that question 1 passes, and its words end in the store
-unfoldable pub headSound : List ℕ → ℕ → Bool
-headSound w a =
-    leb (wordsEnd w a) (length w)
-    && leb (rowsAt w a) 65536
-    && leb (entriesAt w a) 1048576
-    && leb (facesAt w a) (entriesAt w a)
-    && leb (coupledAt w a) (rowsAt w a)
-
--- its shape
-abbrev pub shapeIn : List ℕ → ℕ → Shape
-shapeIn w a = shapeAt w (locate w a 0) (lastAt w a) (coupledAt w a)
-
--- the tables of a shape whose links lead to so many rows, and its positions to so many entries
-unfoldable pub arraysSound : ℕ → ℕ → Shape → Bool
-arraysSound targets sums s =
-    allBelow (s .pattern .rows) (s .pattern .columns)
-    && allBelow (s .pattern .rows) (s .neighbors)
-    && allBelow (entries (s .pattern)) (s .uppers)
-    && allBelow (entries (s .pattern)) (s .lowers)
-    && allBelow targets (s .links)
-    && allBelow sums (s .positions)
+unfoldable pub use Rattle.index_check.specs.Question.{allBelow, headSound, shapeIn, arraysSound, rowPlaced, levelSound, levelsSound, scratchStart, scratchEnd, cycleStart, handleSound, soundOf}
 
 -- ---- one row
-
--- where a row stands: neither its entries nor its faces end before they start, and its diagonal entry is an entry
-unfoldable pub rowPlaced : Shape → ℕ → Bool
-rowPlaced s row =
-    leb (idx (s .pattern .offsets) row) (idx (s .pattern .offsets) (row + 1))
-    && leb (idx (s .starts) row) (idx (s .starts) (row + 1))
-    && ltb (idx (s .diagonals) row) (entries (s .pattern))
 
 -- the entries from one to before another: there are so many, their columns are rows, and their positions, which the last level has none of,
 -- are entries of the next level
@@ -81,6 +44,21 @@ rowSound targets sums s row =
 
 -- ---- the walk over levels and rows
 
+-- the head of a level after which so many come: the last level alone is terminal
+abbrev pub headFits : ℕ → List ℕ → ℕ → Bool
+headFits zero w a = headSound w a && lastAt w a
+headFits (suc more) w a = headSound w a && not (lastAt w a)
+
+-- what the links of a level, after which so many come, are below: those of the last lead to rows of its own, those of another to the next
+abbrev pub targetsOf : ℕ → List ℕ → ℕ → ℕ
+targetsOf zero w a = rowsAt w a
+targetsOf (suc more) w a = rowsAt w (wordsEnd w a)
+
+-- what its positions are below
+abbrev pub sumsOf : ℕ → List ℕ → ℕ → ℕ
+sumsOf zero w a = 0
+sumsOf (suc more) w a = entriesAt w (wordsEnd w a)
+
 -- where a test ends it, else the rest
 abbrev pub goOn : Bool → Walk → Walk → Walk
 goOn true stop rest = rest
@@ -90,11 +68,6 @@ goOn false stop rest = stop
 abbrev pub andThen : Walk → Walk → Walk
 andThen Walk.Sound rest = rest
 andThen (Walk.Stopped level row) rest = Walk.Stopped level row
-
--- the head of a level after which so many come: the last level alone is terminal
-abbrev pub headFits : ℕ → List ℕ → ℕ → Bool
-headFits zero w a = headSound w a && lastAt w a
-headFits (suc more) w a = headSound w a && not (lastAt w a)
 
 -- the heads of so many levels, the first of which is `level` and starts at a: a head is told with row 0
 unfoldable pub headsWalked : ℕ → List ℕ → ℕ → ℕ → Walk
@@ -113,16 +86,6 @@ abbrev pub levelWalked : ℕ → ℕ → Shape → ℕ → Walk
 levelWalked targets sums s level =
     andThen (rowsWalked targets sums s level (s .pattern .rows) 0) (goOn (arraysSound targets sums s) (Walk.Stopped level 0) Walk.Sound)
 
--- what the links of a level, after which so many come, are below: those of the last lead to rows of its own, those of another to the next
-abbrev pub targetsOf : ℕ → List ℕ → ℕ → ℕ
-targetsOf zero w a = rowsAt w a
-targetsOf (suc more) w a = rowsAt w (wordsEnd w a)
-
--- what its positions are below
-abbrev pub sumsOf : ℕ → List ℕ → ℕ → ℕ
-sumsOf zero w a = 0
-sumsOf (suc more) w a = entriesAt w (wordsEnd w a)
-
 -- so many levels, the first of which is `level` and starts at a, row by row
 unfoldable pub levelsWalked : ℕ → List ℕ → ℕ → ℕ → Walk
 levelsWalked zero w level a = Walk.Sound
@@ -137,39 +100,3 @@ walkOf levels w level a = andThen (headsWalked levels w level a) (levelsWalked l
 abbrev pub isSound : Walk → Bool
 isSound Walk.Sound = true
 isSound (Walk.Stopped level row) = false
-
--- ---- sizes
-
--- where the scratch of a solve starts: after the image, which the row sums of the finest level end, and its shadow
-abbrev pub scratchStart : ℕ → List ℕ → ℕ
-scratchStart levels w = 2 * (imageEnd levels w 0 0 + rowsAt w 0)
-
--- where the scratch of so many levels ends that starts at s: five vectors to a level
-unfoldable pub scratchEnd : ℕ → List ℕ → ℕ → ℕ → ℕ
-scratchEnd zero w a s = s
-scratchEnd (suc more) w a s = scratchEnd more w (wordsEnd w a) (s + 5 * rowsAt w a)
-
--- where the cycle's scratch starts: after right-hand side, solution and the directions and images of GCR
-abbrev pub cycleStart : ℕ → ℕ → List ℕ → ℕ
-cycleStart krylov levels w = scratchStart levels w + (2 + 2 * krylov) * rowsAt w 0
-
--- ---- the question
-
--- the handle: its controls pass 6 and 7, it has a row, a level, and no more levels than its controls allow
-unfoldable pub handleSound : Handle → Bool
-handleSound h =
-    validOf (h .options)
-    && isCholesky (h .options .«coarse_solver»)
-    && leb 1 (h .rows)
-    && leb 1 (h .levels)
-    && leb (h .levels) (h .options .«max_levels»)
-
--- question 19, of a handle, the words, the size of the floats and the records of statistics
-unfoldable pub soundOf : Handle → List ℕ → ℕ → ℕ → Bool
-soundOf h w size records =
-    handleSound h
-    && leb (h .levels) records
-    && isSound (walkOf (h .levels) w 0 0)
-    && eqb (rowsAt w 0) (h .rows)
-    && eqb (entriesAt w 0) (h .entries)
-    && leb (scratchEnd (h .levels) w 0 (cycleStart (h .options .«krylov_dimension») (h .levels) w)) size

@@ -5,8 +5,8 @@ ghost use Prim.Native.Nat.{_+_, _≤_};
 ghost use lib.ListN.{length};
 ghost use Rattle.store.specs.Region.{part};
 ghost use Rattle.store.specs.Vector.{each};
-ghost use Rattle.index_check.specs.Sound.{allBelow, arraysSound};
-ghost use Rattle.index_check.specs.LevelContract.{TargetsOk, targetsAt, LevelOk, BelowOk, facesBelow, riseAt, rowsPlaced, levelSound, shapeTo};
+ghost use Rattle.index_check.specs.Sound.{allBelow, arraysSound, levelSound};
+ghost use Rattle.index_check.specs.LevelContract.{TargetsOk, targetsAt, LevelOk, BelowOk, facesBelow, riseAt, rowsPlaced, shapeTo};
 use crate::sound;
 use layout::Place;
 

@@ -1,7 +1,7 @@
 -- Of the words nobody reads past the last level: where words are kept so far, question 19 has the same answer, and the stores hold the same
 -- levels. This needs no level to lie in the store: what lies past its end reads as zero in both.
 -- Assumes nothing.
-use mathlib.Core.Path.{_≡_, refl, ap, _∙_}
+use mathlib.Core.Path.{_≡_, refl, sym, ap, _∙_}
 use mathlib.Core.Bool.{Bool, true, false}
 use mathlib.Core.List.{List}
 use mathlib.Core.Logic.{_⊎_, inl, inr}
@@ -15,8 +15,9 @@ use Rattle.options.specs.declared.options.Handle.{Handle}
 use Rattle.hierarchy.specs.Level.{Hierarchy}
 use Rattle.layout.specs.Layout.{rowsAt, entriesAt, levelAt, wordsEnd, floatsEnd, levelsAt, wordsTo, imageEnd, viewOf}
 use Rattle.layout.proofs.Views.{SameWords, words-told, words-to}
-use Rattle.index_check.specs.Sound.{headSound, shapeIn, headFits, headsWalked, targetsOf, sumsOf, levelsWalked, walkOf, scratchEnd, cycleStart, handleSound, soundOf}
+use Rattle.index_check.specs.Sound.{headSound, shapeIn, headFits, headsWalked, targetsOf, sumsOf, levelsWalked, walkOf, isSound, scratchEnd, cycleStart, handleSound, soundOf}
 use Rattle.index_check.proofs.sound.Question.{handle-few}
+use Rattle.index_check.proofs.sound.Accepts.{walk-accepts}
 use Rattle.update.specs.Shadow.{imageOf}
 
 module _ {w z : List ℕ} {e : ℕ} (kept : Kept e w z) where
@@ -138,7 +139,7 @@ sound-told h {w} {z} size records kept = go (bool? (handleSound h))
         let s = finest-told (h .levels) (handle-few h holds .0) kept in
         let h0 = s .rows in
         let h1 = s .entries in
-        let h2 = walk-told kept (h .levels) 0 0 (omega arith) in
+        let h2 = sym (walk-accepts (h .levels) z 0 0) ∙ ap isSound (walk-told kept (h .levels) 0 0 (omega arith)) ∙ walk-accepts (h .levels) w 0 0 in
         let h3 = image-told kept (h .levels) 0 0 (omega arith) in
         let start = cycleStart (h .options .«krylov_dimension») (h .levels) w in
         let h4 = scratch-told kept (h .levels) 0 start (omega arith) in

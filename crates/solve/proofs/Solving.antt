@@ -33,9 +33,9 @@ use Rattle.residual_norm.specs.Measure.{measureOf}
 use Rattle.residual_norm.specs.Normalization.{normalizationOf, NormalizationOk}
 use Rattle.solver.specs.Solver.{thresholdOf, reportOf}
 use Rattle.layout.specs.Layout.{rowsAt, entriesAt}
-use Rattle.index_check.specs.declared.sound.Walk.{Walk}
-use Rattle.index_check.specs.Sound.{walkOf, isSound, handleSound, scratchStart, scratchEnd, cycleStart, soundOf}
+use Rattle.index_check.specs.Sound.{levelsSound, handleSound, scratchStart, scratchEnd, cycleStart, soundOf}
 use Rattle.index_check.proofs.sound.Question.{handle-few}
+use Rattle.index_check.proofs.sound.Accepts.{walk-passes}
 use Rattle.solve.specs.Copies.{EnterOk, Entered}
 use Rattle.iterations.specs.declared.stepping.Regions.{Regions}
 use Rattle.iterations.specs.Iteration.{System, measured, residualOf}
@@ -305,25 +305,20 @@ all-six a b c d e f t =
     let t2 = both-l (a && b) c t3 in
     (both-l a b t2, both-r a b t2, both-r (a && b) c t3, both-r (a && b && c) d t4, both-r (a && b && c && d) e t5, both-r (a && b && c && d && e) f t)
 
--- A walk that went through.
-walked : (v : Walk) → isSound v ≡ true → v ≡ Walk.Sound
-walked Walk.Sound e = refl
-walked (Walk.Stopped level row) e = absurd (let none : _≡_ {A = ℕ} 0 1 = cc in omega arith)
-
 -- What question 19 tells.
 pub opened-of : (h : Handle) (w : List ℕ) (size records : ℕ) → soundOf h w size records ≡ true → Opened h w size × (h .levels ≤ records)
 unfolding soundOf
 opened-of h w size records e =
     let o = h .options in
     let end = scratchEnd (h .levels) w 0 (cycleStart (o .«krylov_dimension») (h .levels) w) in
-    let t = all-six (handleSound h) (leb (h .levels) records) (isSound (walkOf (h .levels) w 0 0)) (eqb (rowsAt w 0) (h .rows))
+    let t = all-six (handleSound h) (leb (h .levels) records) (levelsSound (h .levels) w 0) (eqb (rowsAt w 0) (h .rows))
     (eqb (entriesAt w 0) (h .entries)) (leb end size) e in
     let few = handle-few h (t .0) in (
       record {
         some = few .0;
         deep = few .1;
         krylov = few .2;
-        sound = walked (walkOf (h .levels) w 0 0) (t .2);
+        sound = walk-passes (h .levels) w 0 0 (t .2);
         rows = eqb-true (rowsAt w 0) (h .rows) (t .3);
         entries = eqb-true (entriesAt w 0) (h .entries) (t .4);
         room = leb-true end size (t .5);

@@ -1,6 +1,6 @@
 -- Question 19: the handle, the sizes, and what each way out of the check gives.
 -- Assumes nothing.
-use mathlib.Core.Path.{_≡_, refl, sym, _∙_}
+use mathlib.Core.Path.{_≡_, refl, sym, ap, _∙_}
 use mathlib.Core.Bool.{Bool, true, false, _&&_}
 use mathlib.Core.List.{List}
 use Prim.Native.Nat.{ℕ, _≤_, _<_}
@@ -18,9 +18,10 @@ use Rattle.options.specs.Options.{validOf, isCholesky, controlsAsked}
 use Rattle.layout.specs.declared.Place.{Place}
 use Rattle.layout.specs.Layout.{rowsAt, entriesAt, locate}
 use Rattle.index_check.specs.declared.sound.Walk.{Walk}
-use Rattle.index_check.specs.Sound.{headsWalked, levelsWalked, walkOf, isSound, handleSound, cycleStart, scratchEnd, soundOf}
+use Rattle.index_check.specs.Sound.{headsWalked, levelsWalked, walkOf, isSound, levelsSound, handleSound, cycleStart, scratchEnd, soundOf}
 use Rattle.index_check.specs.SoundContract.{LevelsOk, MemoryOk, ScratchOk}
 use Rattle.index_check.proofs.sound.Sizes.{cycle-bound}
+use Rattle.index_check.proofs.sound.Accepts.{walk-accepts}
 use Rattle.index_check.proofs.sound.Question.{handle-few}
 use Rattle.index_check.specs.CheckContract.{HeadsOk, SizesOk, sizesAsked}
 
@@ -129,7 +130,7 @@ module _ (h : Handle) (w : List ℕ) (size records : ℕ) {t : Bool} (et : t ≡
       unfolding soundOf
       check-stopped level row n =
           let yes = sym et ∙ y in
-          let no = sym ev ∙ n in
+          let no : levelsSound (h .levels) w 0 ≡ false = sym (walk-accepts (h .levels) w 0 0) ∙ ap isSound (sym ev ∙ n) in
           rw (yes, le-leb (h .levels) records r, no)
 
       -- It went through, and the sizes are asked.
@@ -140,7 +141,7 @@ module _ (h : Handle) (w : List ℕ) (size records : ℕ) {t : Bool} (et : t ≡
       unfolding soundOf
       check-told g e =
           let yes = sym et ∙ y in
-          let through = sym ev ∙ g in
-          e ∙ regroup (handleSound h) (leb (h .levels) records) (isSound (walkOf (h .levels) w 0 0)) (eqb (rowsAt w 0) (h .rows))
+          let through : levelsSound (h .levels) w 0 ≡ true = sym (walk-accepts (h .levels) w 0 0) ∙ ap isSound (sym ev ∙ g) in
+          e ∙ regroup (handleSound h) (leb (h .levels) records) (levelsSound (h .levels) w 0) (eqb (rowsAt w 0) (h .rows))
           (eqb (entriesAt w 0) (h .entries))
-          (leb (scratchEnd (h .levels) w 0 (cycleStart (h .options .«krylov_dimension») (h .levels) w)) size) yes (le-leb (h .levels) records r) (rw through)
+          (leb (scratchEnd (h .levels) w 0 (cycleStart (h .options .«krylov_dimension») (h .levels) w)) size) yes (le-leb (h .levels) records r) through

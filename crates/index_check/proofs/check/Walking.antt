@@ -15,8 +15,8 @@ use Rattle.layout.specs.declared.Place.{Place}
 use Rattle.layout.specs.Layout.{rowsAt, locate, wordsEnd}
 use Rattle.index_check.specs.declared.sound.Walk.{Walk}
 use Rattle.index_check.specs.declared.tables.Targets.{Targets}
-use Rattle.index_check.specs.Sound.{headSound, shapeIn, arraysSound, rowSound, goOn, andThen, headFits, headsWalked, rowsWalked, levelWalked, targetsOf, sumsOf, levelsWalked}
-use Rattle.index_check.specs.LevelContract.{TargetsOk, targetsAt, shapeTo, LevelOk, RowOk, rowsPlaced, levelSound}
+use Rattle.index_check.specs.Sound.{headSound, shapeIn, arraysSound, rowSound, goOn, andThen, headFits, headsWalked, rowsWalked, levelWalked, targetsOf, sumsOf, levelsWalked, levelSound}
+use Rattle.index_check.specs.LevelContract.{TargetsOk, targetsAt, shapeTo, LevelOk, RowOk, rowsPlaced}
 use Rattle.index_check.specs.CheckContract.{HeadsOk}
 use Rattle.index_check.proofs.sound.Laws.{Head, head-told}
 use Rattle.index_check.proofs.sound.Walks.{each-all, row-placed, go-on, fits-head, level-walked}

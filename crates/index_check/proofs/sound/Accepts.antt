@@ -9,15 +9,9 @@ use native.Mathlib.Omega.{arith}
 use Rattle.store.proofs.store.Each.{both-l, both-r, each-at}
 use Rattle.layout.specs.Layout.{rowsAt, wordsEnd}
 use Rattle.index_check.specs.declared.sound.Walk.{Walk}
-use Rattle.index_check.specs.Sound.{shapeIn, arraysSound, rowPlaced, goOn, headFits, rowsWalked, targetsOf, sumsOf, walkOf, isSound}
-use Rattle.index_check.specs.LevelContract.{rowsPlaced, levelSound}
+use Rattle.index_check.specs.Sound.{shapeIn, arraysSound, rowPlaced, goOn, headFits, rowsWalked, targetsOf, sumsOf, walkOf, isSound, levelSound, levelsSound}
+use Rattle.index_check.specs.LevelContract.{rowsPlaced}
 use Rattle.index_check.proofs.sound.Walks.{each-all, row-placed, go-on, and-then, row-at, fits-head, level-walked, Opened, opened, walk-closed, walk-none}
-
--- so many levels from a on: heads, tables, and where the rows stand
-unfoldable pub acceptedOf : ℕ → List ℕ → ℕ → Bool
-acceptedOf zero w a = true
-acceptedOf (suc more) w a =
-    headFits more w a && levelSound (targetsOf more w a) (sumsOf more w a) (shapeIn w a) && acceptedOf more w (wordsEnd w a)
 
 -- Two tests that follow from each other are one.
 same-test : (a b : Bool) → (a ≡ true → b ≡ true) → (b ≡ true → a ≡ true) → a ≡ b
@@ -43,17 +37,35 @@ level-told more w level a o =
     let placed : rowsPlaced s ≡ true = each-all (rowPlaced s) (rowsAt w a) at in
     rw (arrays, placed)
 
+-- one level and those after it, by the walk's own tests
+abbrev stepOf : ℕ → List ℕ → ℕ → Bool → Bool
+stepOf more w a rest = headFits more w a && levelSound (targetsOf more w a) (sumsOf more w a) (shapeIn w a) && rest
+
+-- No level passes,
+levels-none : (w : List ℕ) (a : ℕ) → true ≡ levelsSound 0 w a
+unfolding levelsSound
+levels-none w a = refl
+
+-- and one with those after it.
+levels-open : (more : ℕ) (w : List ℕ) (a : ℕ) → levelsSound (suc more) w a ≡ stepOf more w a (levelsSound more w (wordsEnd w a))
+unfolding levelsSound
+levels-open zero w a = sym (and-true (headFits 0 w a && levelSound (rowsAt w a) 0 (shapeIn w a)))
+  where
+    and-true : (b : Bool) → b && true ≡ b
+    and-true true = refl
+    and-true false = refl
+levels-open (suc more) w a = refl
+
 -- The walk accepts exactly those levels.
-pub walk-accepts : (levels : ℕ) (w : List ℕ) (level a : ℕ) → isSound (walkOf levels w level a) ≡ acceptedOf levels w a
-unfolding acceptedOf
-walk-accepts zero w level a = ap isSound (walk-none w level a)
+pub walk-accepts : (levels : ℕ) (w : List ℕ) (level a : ℕ) → isSound (walkOf levels w level a) ≡ levelsSound levels w a
+walk-accepts zero w level a = ap isSound (walk-none w level a) ∙ levels-none w a
 walk-accepts (suc more) w level a =
     let s = shapeIn w a in
     let targets = targetsOf more w a in
     let sums = sumsOf more w a in
     let head = headFits more w a in
     let here = levelSound targets sums s in
-    let rest = acceptedOf more w (wordsEnd w a) in
+    let rest = levelsSound more w (wordsEnd w a) in
     same-test (isSound (walkOf (suc more) w level a)) (head && here && rest)
     (λ e.
     let o = opened more w level a (is-through (walkOf (suc more) w level a) e) in
@@ -70,4 +82,8 @@ walk-accepts (suc more) w level a =
       head = fits;
       here = level-walked w a targets sums level (fits-head w a more fits) arrays (λ k h. each-at (rowPlaced s) (rowsAt w a) placed k h);
       rest = through;
-    })))
+    }))) ∙ sym (levels-open more w a)
+
+-- Where the levels pass it goes through.
+pub walk-passes : (levels : ℕ) (w : List ℕ) (level a : ℕ) → levelsSound levels w a ≡ true → walkOf levels w level a ≡ Walk.Sound
+walk-passes levels w level a e = is-through (walkOf levels w level a) (walk-accepts levels w level a ∙ e)

@@ -69,7 +69,7 @@ scratch-most (suc k) w level a s e =
     omega (arith, scratch-most k w (level + 1) (wordsEnd w a) (s + 5 * rowsAt w a) (n .rest))
 
 -- which ends no earlier than it starts.
-scratch-to : (k : ℕ) (w : List ℕ) (a s : ℕ) → s ≤ scratchEnd k w a s
+pub scratch-to : (k : ℕ) (w : List ℕ) (a s : ℕ) → s ≤ scratchEnd k w a s
 unfolding scratchEnd
 scratch-to zero w a s = omega arith
 scratch-to (suc k) w a s = omega (arith, scratch-to k w (wordsEnd w a) (s + 5 * rowsAt w a))

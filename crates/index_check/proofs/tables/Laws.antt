@@ -15,8 +15,8 @@ use Rattle.layout.specs.declared.Place.{Place}
 use Rattle.layout.specs.Layout.{rowsAt, lastAt, coupledAt, entriesAt, locate, wordsEnd}
 use Rattle.layout.proofs.Places.{ends-above}
 use Rattle.index_check.specs.declared.tables.Targets.{Targets}
-use Rattle.index_check.specs.Sound.{allBelow, headSound, headFits, shapeIn, arraysSound, rowPlaced, targetsOf, sumsOf}
-use Rattle.index_check.specs.LevelContract.{TargetsOk, targetsAt, shapeTo, LevelOk, facesBelow, riseAt, rowsPlaced, levelSound}
+use Rattle.index_check.specs.Sound.{allBelow, headSound, headFits, shapeIn, arraysSound, rowPlaced, targetsOf, sumsOf, levelSound}
+use Rattle.index_check.specs.LevelContract.{TargetsOk, targetsAt, shapeTo, LevelOk, facesBelow, riseAt, rowsPlaced}
 use Rattle.index_check.proofs.sound.Laws.{head-told}
 use Rattle.index_check.proofs.sound.Walks.{fits-head, fits-last}
 
