@@ -3,11 +3,10 @@ ghost use mathlib.Core.Path.{_≡_};
 ghost use lib.ListN.{length};
 ghost use Rattle.faces.specs.Faces.{coupledCountOf};
 ghost use Rattle.faces.specs.Contract.{patternAt, CoupledOk};
-ghost use Rattle.layout.specs.Parts.{facesIn, terminalIn};
-ghost use Rattle.build_level.specs.Steps.{MarkOk, Marked, ListOk, Listed, FactorOk, FactorDone};
+ghost use Rattle.layout.specs.Parts.{facesIn};
+ghost use Rattle.build_level.specs.Steps.{MarkOk, Marked, ListOk, Listed};
 ghost use Rattle.build_level.specs.CoarsestContract.{LastOk, Ended};
 use crate::laying::Frontier;
-use cholesky::Terminal;
 use coarsening::Workspace;
 use layout::Place;
 use options::MultigridOptions;
@@ -18,22 +17,6 @@ use refusal::Verdict;
 pub enum Growth {
     Made { levels: u64, end: usize },
     Refused(Refusal),
-}
-
-// The terminal solve of so many coupled rows.
-fn terminal_in(p: Place, coupled: usize) -> Terminal
-    ensures { λ r. ⌜ r ≡ terminalIn p coupled ⌝ }
-{
-    Terminal {
-        rows: p.rows,
-        entries: p.entries,
-        offsets: p.offsets,
-        columns: p.columns,
-        values: p.values,
-        size: coupled,
-        coupled: p.links,
-        factor: p.factor,
-    }
 }
 
 // The number of coupled rows of the level at p.
@@ -65,18 +48,6 @@ fn list_coupled(w: &mut [u32], a: usize, p: Place, coupled: usize)
     faces::coupled_rows(w, level, links);
 }
 
-// Its floats: no DIC data, and the factor of the coupled rows: question 15.
-fn factor(w: &[u32], f: &mut [f64], p: Place, coupled: usize, level: u64) -> Verdict
-    requires { ⌜ FactorOk (now w) (length (now f)) p coupled ⌝ }
-    ensures { λ v. ⌜ FactorDone (now (w .entry)) (now (f .entry)) (now (f .exit)) p coupled level v ⌝ }
-{
-    let terminal = terminal_in(p, coupled);
-    let dic = p.dic;
-    let rows = p.rows;
-    store::fill(f, dic, rows, 0.0);
-    cholesky::cholesky(w, f, terminal, level)
-}
-
 // The last level, which stands at p with its coefficients: question 14, its coupled rows, and question 15.
 pub fn last(
     w: &mut [u32],
@@ -95,7 +66,7 @@ pub fn last(
         return Growth::Refused(refusal::TOO_MANY_COUPLED);
     }
     list_coupled(w, s.a, p, coupled);
-    let verdict = factor(w, f, p, coupled, s.level);
+    let verdict = layout::factor(w, f, p, coupled, s.level);
     match verdict {
         Verdict::Passed => {
             let size = cholesky::triangle(coupled);

@@ -17,18 +17,9 @@ use Rattle.layout.specs.declared.Place.{Place}
 -- a level of so many rows, entries and faces whose words start at a and whose floats start at b
 abbrev pub placeOf : ℕ → ℕ → ℕ → ℕ → ℕ → Place
 placeOf a b rows entries faces =
-    let offsets = a + 3 in
-    let columns = offsets + rows + 1 in
-    let starts = columns + entries in
-    let diagonals = starts + rows + 1 in
-    let neighbors = diagonals + rows in
-    let uppers = neighbors + faces in
-    let lowers = uppers + faces in
-    let links = lowers + faces in
-    let coefficients = b + entries in
-    let diagonal = coefficients + faces in
-    let inverse = diagonal + rows in
-    let dic = inverse + rows in
+    let offsets = a + 3 in let columns = offsets + rows + 1 in let starts = columns + entries in let diagonals = starts + rows + 1 in
+    let neighbors = diagonals + rows in let uppers = neighbors + faces in let lowers = uppers + faces in let links = lowers + faces in
+    let coefficients = b + entries in let diagonal = coefficients + faces in let inverse = diagonal + rows in let dic = inverse + rows in
     record {
       rows = rows;
       entries = entries;
@@ -50,19 +41,23 @@ placeOf a b rows entries faces =
       factor = dic + rows;
     }
 
--- what the words at a tell: rows, entries, faces, whether it is the last level, and the coupled rows of the last level
+-- what the words at a tell: the rows of the level,
 abbrev pub rowsAt : List ℕ → ℕ → ℕ
 rowsAt w a = idx w a
 
+-- whether it is the last,
 abbrev pub lastAt : List ℕ → ℕ → Bool
 lastAt w a = eqb (idx w (a + 1)) 1
 
+-- the coupled rows of the last,
 abbrev pub coupledAt : List ℕ → ℕ → ℕ
 coupledAt w a = cond (lastAt w a) (idx w (a + 2)) 0
 
+-- its entries,
 abbrev pub entriesAt : List ℕ → ℕ → ℕ
 entriesAt w a = idx w (a + 3 + rowsAt w a)
 
+-- and its faces
 abbrev pub facesAt : List ℕ → ℕ → ℕ
 facesAt w a = idx w (a + 3 + rowsAt w a + 1 + entriesAt w a + rowsAt w a)
 

@@ -2,3 +2,4 @@ pub mod Layout
 pub mod Headers
 pub mod Parts
 pub mod Placed
+pub mod TerminalContract

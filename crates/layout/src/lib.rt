@@ -8,6 +8,11 @@ use coefficients::Entries;
 use faces::Faces;
 use matrix::SymmetricMatrix;
 
+pub mod terminal;
+
+pub use terminal::factor;
+pub use terminal::terminal_in;
+
 // A level's sizes, its regions in the words, and its regions in the floats.
 pub struct Place {
     pub rows: usize,

@@ -16,15 +16,14 @@ use Rattle.matrix.specs.Kernel.{Kernel, kernelAt}
 use Rattle.coefficients.specs.Update.{Coefficients, updateWith, FacesTaken, UpdateOk}
 use Rattle.dic.specs.Dic.{dicOf, DicOk}
 use Rattle.cholesky.specs.Triangle.{tri}
-use Rattle.cholesky.specs.Factor.{choleskyOf}
-use Rattle.cholesky.specs.Contract.{csrAt, coupledAt, factorAt, TerminalOk}
 use Rattle.galerkin.specs.Values.{galerkinOf, SumsOk, FacesOk}
 use Rattle.galerkin.specs.Values as galerkin
 use Rattle.hierarchy.specs.Level.{Shape, Numbers}
 use Rattle.hierarchy.specs.Refresh.{needsDic, numbersOf}
 use Rattle.layout.specs.declared.Place.{Place}
 use Rattle.layout.specs.Layout.{shapeAt, numbersAt}
-use Rattle.layout.specs.Parts.{kernelIn, entriesIn, terminalIn}
+use Rattle.layout.specs.Parts.{kernelIn, entriesIn}
+pub use Rattle.layout.specs.TerminalContract.{factorOf, FactorOk, FactorDone}
 use Rattle.update_levels.specs.Standing.{diagonalsStand, RowsOk, bareAt}
 
 -- What holds under all options whose smoother needs DIC data, or none: of the options a renewal reads no more.
@@ -88,23 +87,6 @@ smootherAt dic level w F p = smootherUnder dic level (kernelAt (kernelIn p) w F)
 -- What they require.
 abbrev pub SmootherOk : List ℕ → ℕ → Place → Type 0
 SmootherOk w size p = DicOk w size (kernelIn p) (p .dic)
-
--- The values of the last level end below its DIC data, and these below the factor, for which there is room.
-pub record FactorOk (w : List ℕ) (size : ℕ) (p : Place) (coupled : ℕ) : Type 0 where
-  pub terminal : TerminalOk w size (terminalIn p coupled)
-  pub values : p .values + p .entries ≤ p .dic
-  pub dic : p .dic + p .rows ≤ p .factor
-
--- the factor of the coupled rows
-abbrev pub factorOf : List ℕ → List Float → Place → ℕ → ℕ → Outcome (List Float)
-factorOf w F p coupled level = choleskyOf level (csrAt (terminalIn p coupled) w F) coupled (coupledAt (terminalIn p coupled) w)
-
--- Question 15's answer; where it passes, the factor; zeros for the DIC data. Below these nothing changed.
-pub record FactorDone (w : List ℕ) (F G : List Float) (p : Place) (coupled level : ℕ) (v : Verdict) : Type 0 where
-  pub answer : v ≡ verdictOf (factorOf w F p coupled level)
-  pub factor : v ≡ Verdict.Passed → factorOf w F p coupled level ≡ accepted (factorAt (terminalIn p coupled) G)
-  pub dic : part (p .dic) (p .rows) G ≡ filled (p .rows) zero64
-  pub kept : Kept (p .dic) F G
 
 -- the numbers of a level of shape s: 11, 12 and 13, then 15, or 16 and 17
 abbrev pub levelOf : MultigridOptions → ℕ → Shape → List Float → Outcome Numbers

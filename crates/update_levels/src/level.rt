@@ -6,11 +6,10 @@ ghost use lib.ListN.{length};
 ghost use Rattle.store.specs.Region.{part};
 ghost use Rattle.coefficients.specs.Update.{Updated};
 ghost use Rattle.dic.specs.Dic.{Settled};
-ghost use Rattle.layout.specs.Parts.{kernelIn, terminalIn};
+ghost use Rattle.layout.specs.Parts.{kernelIn};
 ghost use Rattle.update_levels.specs.Level.{Under, CoefficientsOk, FacesReady, coefficientsAsked, SmootherOk, smootherAt};
-ghost use Rattle.update_levels.specs.Level.{FactorOk, FactorDone, LevelOk, LevelReady, LevelDone, CoarseOk, FirstOk, CoarseDone};
+ghost use Rattle.update_levels.specs.Level.{LevelOk, LevelReady, LevelDone, CoarseOk, FirstOk, CoarseDone};
 use crate::diagonals;
-use cholesky::Terminal;
 use layout::Place;
 use refusal::Verdict;
 
@@ -37,34 +36,6 @@ fn smoother_data(w: &[u32], f: &mut [f64], dic: bool, p: Place, level: u64) -> V
     Verdict::Passed
 }
 
-// The terminal solve of so many coupled rows.
-fn terminal_in(p: Place, coupled: usize) -> Terminal
-    ensures { λ r. ⌜ r ≡ terminalIn p coupled ⌝ }
-{
-    Terminal {
-        rows: p.rows,
-        entries: p.entries,
-        offsets: p.offsets,
-        columns: p.columns,
-        values: p.values,
-        size: coupled,
-        coupled: p.links,
-        factor: p.factor,
-    }
-}
-
-// The last level: no DIC data, and the factor of the coupled rows (`update` of coarse.rs): question 15.
-fn factor(w: &[u32], f: &mut [f64], p: Place, coupled: usize, level: u64) -> Verdict
-    requires { ⌜ FactorOk (now w) (length (now f)) p coupled ⌝ }
-    ensures { λ v. ⌜ FactorDone (now (w .entry)) (now (f .entry)) (now (f .exit)) p coupled level v ⌝ }
-{
-    let terminal = terminal_in(p, coupled);
-    let dic = p.dic;
-    let rows = p.rows;
-    store::fill(f, dic, rows, 0.0);
-    cholesky::cholesky(w, f, terminal, level)
-}
-
 // The numbers of the level at p, from its values: 11, 12 and 13, then 15 of the last level, or 16 and 17 of another.
 pub fn renew_level(
     w: &[u32],
@@ -83,7 +54,7 @@ pub fn renew_level(
         return own;
     }
     if last {
-        return factor(w, f, p, coupled, level);
+        return layout::factor(w, f, p, coupled, level);
     }
     smoother_data(w, f, dic, p, level)
 }

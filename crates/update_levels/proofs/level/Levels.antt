@@ -10,7 +10,7 @@ use lib.Ieee.{Float}
 use Rattle.float.specs.Float.{zero64}
 use Rattle.store.specs.Region.{part, Wrote}
 use Rattle.store.specs.Vector.{filled, each}
-use Rattle.store.proofs.store.Region.{wrote-at, wrote-off, kept-wrote, kept-on}
+use Rattle.store.proofs.store.Region.{wrote-at, kept-wrote, kept-on}
 use Rattle.refusal.specs.declared.Verdict.{Verdict}
 use Rattle.refusal.specs.Outcome.{Outcome, accepted, refused, verdictOf}
 use Rattle.refusal.proofs.Outcome.{then-accepted, then-refused, never}
@@ -20,14 +20,11 @@ use Rattle.matrix.specs.Kernel.{kernelAt, KernelOk}
 use Rattle.coefficients.specs.declared.values.entries.Entries.{Entries}
 use Rattle.coefficients.specs.Update.{Coefficients, updateWith, updateAt, FacesTaken, UpdateOk, Updated}
 use Rattle.dic.specs.Dic.{dicOf, settled, Settled, DicOk}
-use Rattle.cholesky.specs.declared.Terminal.{Terminal}
-use Rattle.cholesky.specs.Factor.{choleskyOf}
-use Rattle.cholesky.specs.Contract.{csrAt, coupledAt, TerminalOk, Factored}
 use Rattle.galerkin.specs.Values.{sumsOf, symmetrizeOf, FacesOk}
 use Rattle.layout.specs.declared.Place.{Place}
-use Rattle.layout.specs.Parts.{kernelIn, entriesIn, terminalIn}
+use Rattle.layout.specs.Parts.{kernelIn, entriesIn}
 use Rattle.update_levels.specs.Standing.{diagonalStands, diagonalsStand, bareAt}
-use Rattle.update_levels.specs.Level.{LevelOk, CoefficientsOk, FacesReady, coefficientsAsked, smootherAt, SmootherOk, factorOf, FactorOk, FactorDone, coarseAt, CoarseDone}
+use Rattle.update_levels.specs.Level.{LevelOk, CoefficientsOk, FacesReady, coefficientsAsked, smootherAt, SmootherOk, FactorOk, coarseAt, CoarseDone}
 use Rattle.update_levels.proofs.diagonals.Standing.{stand-all, stand-not}
 
 -- ---- what the calls require
@@ -183,42 +180,6 @@ smoother-none p w {F} {G} needed level told h =
       wrote = h;
       is = ap (λ (b : Bool). cond b (dicOf level own) (accepted (filled (own .rows) zero64))) told;
     }
-
--- ---- the factor
-
-module _ {w : List ℕ} {F H : List Float} {p : Place} {coupled : ℕ} (ok : FactorOk w (length F) p coupled)
-    (zeros : Wrote (p .dic) (p .rows) (filled (p .rows) zero64) F H) where
-  -- What the factor requires once the zeros are there.
-  pub factor-ready : {terminal : Terminal} → terminal ≡ terminalIn p coupled → TerminalOk w (length H) terminal
-  factor-ready is = subst (λ (x : Terminal). TerminalOk w (length H) x) (sym is) (rw (zeros .size) (ok .terminal))
-
-  -- The zeros leave the values.
-  factor-same : (level : ℕ) → factorOf w H p coupled level ≡ factorOf w F p coupled level
-  factor-same level =
-      let values : part (p .values) (p .entries) H ≡ part (p .values) (p .entries) F =
-      wrote-off zeros (p .values) (p .entries) (omega (arith, ok .values)) in
-      rw values refl
-
-  -- So it is with the terminal solve at p.
-  made-done : {G : List Float} {level : ℕ} {v : Verdict} → Factored (terminalIn p coupled) (factorOf w H p coupled level) H G v
-      → FactorDone w F G p coupled level v
-  made-done {G} {level} {v} done =
-      let dic = ok .dic in
-      let fits = ok .terminal .factor in
-      let made : Factored (terminalIn p coupled) (factorOf w F p coupled level) H G v =
-      subst (λ (x : Outcome (List Float)). Factored (terminalIn p coupled) x H G v) (factor-same level) done in
-      record {
-        answer = made .answer;
-        factor = made .factor;
-        dic = wrote-off (done .frame) (p .dic) (p .rows) (omega arith) ∙ wrote-at zeros (omega arith);
-        kept = kept-on (kept-wrote zeros (omega arith)) (kept-wrote (done .frame) (omega arith));
-      }
-
-  -- The zeros and the factor are there.
-  pub factor-done : {terminal : Terminal} {G : List Float} {level : ℕ} {v : Verdict} → terminal ≡ terminalIn p coupled
-      → Factored terminal (choleskyOf level (csrAt terminal w H) (terminal .size) (coupledAt terminal w)) H G v → FactorDone w F G p coupled level v
-  factor-done {terminal} {G} {level} {v} is done = made-done
-      (subst (λ (x : Terminal). Factored x (choleskyOf level (csrAt x w H) (x .size) (coupledAt x w)) H G v) is done)
 
 -- ---- the values of the next level
 

@@ -15,9 +15,9 @@ use Rattle.refusal.specs.Outcome.{Outcome}
 use Rattle.cholesky.specs.declared.Terminal.{Terminal}
 use Rattle.cholesky.specs.Factor.{choleskyOf}
 use Rattle.cholesky.specs.Contract.{csrAt, coupledAt, TerminalOk, Factored}
 use Rattle.layout.specs.declared.Place.{Place}
 use Rattle.layout.specs.Parts.{terminalIn}
-use Rattle.build_level.specs.Steps.{factorOf, FactorOk, FactorDone}
+use Rattle.layout.specs.TerminalContract.{factorOf, FactorOk, FactorDone}
 
 module _ {w : List ℕ} {F H : List Float} {p : Place} {coupled : ℕ} (ok : FactorOk w (length F) p coupled)
     (zeros : Wrote (p .dic) (p .rows) (filled (p .rows) zero64) F H) where

@@ -1,9 +1,9 @@
--- `coarsest::factor` meets its contract.
+-- `terminal::factor` meets its contract.
 -- Assumes nothing.
-use Rattle.build_level.proofs.coarsest.Floats.{factor-ready, factor-done}
+use Rattle.layout.proofs.terminal.Floats.{factor-ready, factor-done}
 use borrow.Author.Needs.{needs}
-use Rattle.build_level.proofs.coarsest.factor.Statement.{statement}
-use Rattle.build_level.proofs.coarsest.factor.Tie as tie
+use Rattle.layout.proofs.terminal.factor.Statement.{statement}
+use Rattle.layout.proofs.terminal.factor.Tie as tie
 
 cholesky-requires : tie.Need-cholesky-requires
 cholesky-requires c κs =
