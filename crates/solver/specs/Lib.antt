@@ -1,2 +1,3 @@
 pub mod Solver
 pub mod Statistics
+pub mod Updates

@@ -1,7 +1,8 @@
 // cycle.rs: the statistics of a level, one record of a lent slice, and its counters, each of which stops at 2^64 - 1.
 ghost use mathlib.Core.Path.{_≡_};
 ghost use Prim.Native.Nat.{_+_, _*_, _<_};
-ghost use Rattle.solver.specs.Statistics.{unvisited, addVisits, addSweeps, addCoarseIterations, countedAt};
+ghost use Rattle.solver.specs.Statistics.{unvisited, countedAt};
+ghost use Rattle.solver.specs.Updates.{addVisits, addSweeps, addCoarseIterations};
 
 // Rows of the level; how often a cycle came to it; the sweeps made on it; the iterations of its coarse solver.
 #[repr(C)]

@@ -9,7 +9,8 @@ use lib.ListN.{length, getD, set, length-set, List·getD-eq-default}
 use lib.Seq.{getD-set-same, getD-set-other}
 use borrow.Author.Tests.{eqb-true, eqb-false, ltb-true, ltb-false}
 use Rattle.store.specs.Region.{idx}
-use Rattle.solver.specs.Statistics.{unvisited, countedAt, Published, CountedUp}
+use Rattle.solver.specs.Statistics.{unvisited, countedAt}
+use Rattle.statistics.specs.Contract.{Published, CountedUp}
 use Rattle.statistics.specs.Steps.{FreshAt}
 use Rattle.solver.specs.declared.statistics.MultigridLevelStatistics.{MultigridLevelStatistics}
 

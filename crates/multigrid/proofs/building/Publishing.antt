@@ -19,7 +19,8 @@ use Rattle.solver.specs.declared.answers.BuildRun.{BuildRun}
 use Rattle.solver.specs.declared.answers.Built.{Built}
 use Rattle.statistics.specs.Contract.{PublishDone}
 use Rattle.solver.specs.declared.statistics.MultigridLevelStatistics.{MultigridLevelStatistics}
-use Rattle.solver.specs.Statistics.{unvisited, Published}
+use Rattle.solver.specs.Statistics.{unvisited}
+use Rattle.statistics.specs.Contract.{Published}
 use Rattle.build.specs.Contract.{lentOf}
 use Rattle.multigrid.specs.New.{freshOf, statisticsOf, NewDone}
 use Rattle.multigrid.specs.Contract.{cellsOf, tableOf, tableBuilt, BuildRan}

@@ -23,7 +23,8 @@ use Rattle.solver.specs.declared.answers.SolveRun.{SolveRun}
 use Rattle.solver.specs.declared.answers.Solved.{Solved}
 use Rattle.statistics.specs.Contract.{CountOk, CountDone}
 use Rattle.solver.specs.declared.statistics.MultigridLevelStatistics.{MultigridLevelStatistics}
-use Rattle.solver.specs.Statistics.{unvisited, countedAt, countedOn, CountedUp}
+use Rattle.solver.specs.Statistics.{unvisited, countedAt, countedOn}
+use Rattle.statistics.specs.Contract.{CountedUp}
 use Rattle.solve.specs.Contract.{solvedAt, levelsCounted}
 use Rattle.solve.proofs.Solving.{opened-of}
 use Rattle.multigrid.specs.SolvingCall.{solvedOf, recordsOf, SolveCall}

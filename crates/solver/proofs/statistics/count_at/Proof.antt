@@ -1,6 +1,7 @@
 use mathlib.Core.Path.{ap, _∙_}
 use borrow.Author.Needs.{needs}
-use Rattle.solver.specs.Statistics.{addSweeps, addCoarseIterations, countedAt}
+use Rattle.solver.specs.Statistics.{countedAt}
+use Rattle.solver.specs.Updates.{addSweeps, addCoarseIterations}
 use Rattle.solver.proofs.statistics.count_at.Statement.{statement}
 use Rattle.solver.proofs.statistics.count_at.Tie as tie
 use Rattle.solver.proofs.statistics.count_at.Reads as reads
