@@ -28,7 +28,7 @@ use Rattle.solver.specs.declared.answers.Built.{Built}
 use Rattle.solver.specs.declared.answers.Solved.{Solved}
 use Rattle.solver.specs.declared.answers.Updated.{Updated}
 use Rattle.solver.specs.declared.statistics.MultigridLevelStatistics.{MultigridLevelStatistics}
-use Rattle.solver.specs.Statistics.{unvisited}
+use Rattle.solver.specs.Statistics.{unvisited, countedOn}
 use Rattle.build.specs.Contract.{handleOf, lentOf}
 use Rattle.iterations.specs.Iteration.{systemOf}
 use Rattle.iterations.specs.Iterate.{Solution, answerOf}
@@ -38,7 +38,7 @@ use Rattle.update_levels.specs.Update.{updateOf}
 use Rattle.multigrid.specs.New.{NewDone, statisticsOf}
 use Rattle.multigrid.specs.UpdatingCall.{updatedOf, UpdateCall}
 use Rattle.multigrid.specs.SolvingCall.{solvedOf, recordsOf, SolveCall}
-use Rattle.multigrid.specs.Trace.{Trace, withValues, Agrees}
+use Rattle.multigrid.specs.Trace.{Trace, statisticsAfter, withValues, Agrees}
 use Rattle.multigrid.proofs.Trace.{new-sound, refreshed-is-fresh}
 use Rattle.multigrid.proofs.building.Publishing.{build-length}
 use Rattle.multigrid.proofs.solving.Counting.{solve-length}
@@ -134,7 +134,7 @@ module _ {e : Example} {before after : Hierarchy} (c : Computes e before after) 
   }
 
   -- Its statistics are as long as they were.
-  statistics-size : length (statisticsOf (length (statisticsLent e)) (accepted before)) ≡ length (statisticsLent e)
+  pub statistics-size : length (statisticsOf (length (statisticsLent e)) (accepted before)) ≡ length (statisticsLent e)
   statistics-size = build-length (length (statisticsLent e)) (accepted before)
 
   -- Stores of those sizes pass question 19.
@@ -156,7 +156,7 @@ module _ {e : Example} {before after : Hierarchy} (c : Computes e before after) 
         ∙ ap (λ (b : Hierarchy). solveOf (systemOf (e .input .options) b) (e .asked) (e .rhs) (e .start)) v
 
     -- A solve can be made.
-    solve-made : (a : Answer) → solveOf (systemOf (e .input .options) h) (e .asked) (e .rhs) (e .start) ≡ given e a
+    pub solve-made : (a : Answer) → solveOf (systemOf (e .input .options) h) (e .asked) (e .rhs) (e .start) ≡ given e a
         → SolveCall handle words (floats h) (floats h) t (recordsOf (handle .levels) t outcome) (e .rhs) (e .start) (a .solution) (e .asked) (Solved.Report (a .report))
     solve-made a k =
         record {
@@ -169,7 +169,7 @@ module _ {e : Example} {before after : Hierarchy} (c : Computes e before after) 
         }
 
     -- It keeps the length of the statistics.
-    solve-size : length (recordsOf (handle .levels) t outcome) ≡ length (statisticsLent e)
+    pub solve-size : length (recordsOf (handle .levels) t outcome) ≡ length (statisticsLent e)
     solve-size = solve-length (handle .levels) t outcome ∙ n
 
     -- An update is one of the hierarchy's shapes.
@@ -179,14 +179,14 @@ module _ {e : Example} {before after : Hierarchy} (c : Computes e before after) 
         ∙ ap (λ (b : Hierarchy). updateOf (e .input .options) (shapesIn (b .levels)) (e .input .offsets) (e .input .columns) values) v
 
   -- The update that is refused can be made,
-  refused-update : (t : List MultigridLevelStatistics) → length t ≡ length (statisticsLent e)
+  pub refused-update : (t : List MultigridLevelStatistics) → length t ≡ length (statisticsLent e)
       → UpdateCall handle words (floats before) (floats before) (length t) (e .input .offsets) (e .input .columns) (e .wrong) (Updated.Refused (e .refusal))
   refused-update t n =
       let is = update-is before (c .view) t n (e .wrong) ∙ c .refuses in
       record { done = record { answer = rw is refl; view = rw is refl; kept = λ q k. record { below = refl; size = refl }; size = refl }; unsound = λ _. refl }
 
   -- and so can the one that is accepted.
-  accepted-update : (t : List MultigridLevelStatistics) → length t ≡ length (statisticsLent e)
+  pub accepted-update : (t : List MultigridLevelStatistics) → length t ≡ length (statisticsLent e)
       → UpdateCall handle words (floats before) (floats after) (length t) (e .input .offsets) (e .input .columns) (e .right) Updated.Done
   accepted-update t n =
       let is = update-is before (c .view) t n (e .right) ∙ c .accepts in
@@ -204,7 +204,7 @@ module _ {e : Example} {before after : Hierarchy} (c : Computes e before after) 
       }
 
   -- ---- the calls, each with what the one before left
-  pub calls-made : Trace handle words (floats before) (statisticsOf (length (statisticsLent e)) (accepted before)) (calls e)
+  unfoldable pub calls-made : Trace handle words (floats before) (statisticsOf (length (statisticsLent e)) (accepted before)) (calls e)
   calls-made =
       let t = statisticsOf (length (statisticsLent e)) (accepted before) in
       let u = recordsOf (handle .levels) t (outcome before (c .view) t statistics-size) in
@@ -216,6 +216,30 @@ module _ {e : Example} {before after : Hierarchy} (c : Computes e before after) 
       (Trace.solve (solve-made before (c .view) u n (e .before) (c .solves))
       (Trace.update (accepted-update w m)
       (Trace.solve (solve-made after (c .viewed) w m (e .after) (c .solved)) Trace.nothing))))
+
+  -- what an answer tells to be counted, added to the records of the levels
+  abbrev pub counted : Answer → List MultigridLevelStatistics → List MultigridLevelStatistics
+  counted a t = countedOn (handle .levels) 0 (lay (a .counts) uncounted) t
+
+  -- A solve adds what its answer tells.
+  solve-counts : (h : Hierarchy) (v : viewOf (handle .levels) words (floats h) 0 ≡ h) (t : List MultigridLevelStatistics) (n : length t ≡ length (statisticsLent e))
+      (a : Answer) → solveOf (systemOf (e .input .options) h) (e .asked) (e .rhs) (e .start) ≡ given e a
+      → recordsOf (handle .levels) t (outcome h v t n) ≡ counted a t
+  solve-counts h v t n a k = ap (recordsOf (handle .levels) t) (outcome-is h v t n ∙ k)
+
+  -- The statistics after the calls: those of the build with what the three solves counted.
+  pub calls-counted : statisticsAfter calls-made
+      ≡ counted (e .after) (counted (e .before) (counted (e .before) (statisticsOf (length (statisticsLent e)) (accepted before))))
+  unfolding calls-made statisticsAfter
+  calls-counted =
+      let t = statisticsOf (length (statisticsLent e)) (accepted before) in
+      let u = recordsOf (handle .levels) t (outcome before (c .view) t statistics-size) in
+      let n = solve-size before (c .view) t statistics-size in
+      let w = recordsOf (handle .levels) u (outcome before (c .view) u n) in
+      let m = solve-size before (c .view) u n in
+      solve-counts after (c .viewed) w m (e .after) (c .solved)
+      ∙ ap (counted (e .after)) (solve-counts before (c .view) u n (e .before) (c .solves)
+      ∙ ap (counted (e .before)) (solve-counts before (c .view) t statistics-size (e .before) (c .solves)))
 
   -- Each solve agrees with a build that there is.
   pub calls-agree : Agrees (lent e) (e .input) (calls e)

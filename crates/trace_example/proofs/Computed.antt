@@ -43,6 +43,7 @@ use Rattle.correction.specs.Correction as correction
 use Rattle.residual_norm.specs.Measure as measure
 use Rattle.residual_norm.specs.Normalization as normalization
 use Rattle.solver.specs.Solver as solver
+use Rattle.solver.specs.Statistics.{unvisited, countedAt, countedOn}
 use Rattle.layout.specs.Layout as layout
 use Rattle.layout.specs.Headers as headers
 use Rattle.cycle.specs.Cycle as cycle
@@ -52,9 +53,10 @@ use Rattle.solve.specs.Input as input
 use Rattle.solve.specs.Solve as solve
 use Rattle.update_levels.specs.Standing as standing
 use Rattle.update_levels.specs.Update as update
-use Rattle.trace_example.proofs.Calls.{levelWords, levelFloats, allLevels, wordsFor, floatsFor, lent, Computes, calls-agree}
+use Rattle.trace_example.proofs.Calls.{levelWords, levelFloats, allLevels, wordsFor, floatsFor, lent, Computes, calls-made, calls-counted, calls-agree}
 use Rattle.hierarchy.specs.Build.{meshIn, paired}
-use Rattle.multigrid.specs.Trace.{Agrees}
+use Rattle.multigrid.specs.New.{freshOf, statisticsOf}
+use Rattle.multigrid.specs.Trace.{statisticsAfter, Agrees}
 use Rattle.trace_example.specs.Calls.{calls}
 use Rattle.trace_example.specs.Cell.{two, half, cell}
 use Rattle.trace_example.specs.Ring.{ring}
@@ -81,3 +83,23 @@ cell-agrees = calls-agree (computed .0)
 
 pub ring-agrees : Agrees (lent ring) (ring .input) (calls ring)
 ring-agrees = calls-agree (computed .1)
+
+-- What their calls leave in the statistics: three solves of the cell visit its level once each,
+pub cell-counted : statisticsAfter (calls-made (computed .0))
+    ≡ record { cells = 1; visits = 3; «smoothing_sweeps» = 0; «coarse_iterations» = 0 } ∷ []
+unfolding statisticsOf freshOf countedOn countedAt lay tab
+cell-counted = calls-counted (computed .0)
+
+-- and those of the ring make two, two and one iteration, each with a sweep on the finest level.
+pub ring-counted : statisticsAfter (calls-made (computed .1))
+    ≡ record { cells = 4; visits = 5; «smoothing_sweeps» = 5; «coarse_iterations» = 0 }
+    ∷ record { cells = 2; visits = 5; «smoothing_sweeps» = 0; «coarse_iterations» = 0 } ∷ []
+unfolding statisticsOf freshOf countedOn countedAt lay tab
+ring-counted = calls-counted (computed .1)
+
+-- A counter stops at 2^64 - 1, and a level behind those of the solve keeps its record.
+pub counters-stop : countedOn 1 0 (1 ∷ 2 ∷ 3 ∷ 4 ∷ []) (
+    record { cells = 7; visits = 18446744073709551615; «smoothing_sweeps» = 18446744073709551614; «coarse_iterations» = 5 } ∷ unvisited 9 ∷ [])
+    ≡ record { cells = 7; visits = 18446744073709551615; «smoothing_sweeps» = 18446744073709551615; «coarse_iterations» = 8 } ∷ unvisited 9 ∷ []
+unfolding countedOn countedAt
+counters-stop = refl
