@@ -26,8 +26,8 @@ finiteOf (Finite x) = accepted x
 finiteOf NotFinite = refused badDotProduct
 
 -- a stored pair out of the new one: `beta` times each
-unfoldable pub stepOf : ℕ → Pair → Pair → Outcome Pair
-stepOf n m s = do
+unfoldable pub orthogonalTo : ℕ → Pair → Pair → Outcome Pair
+orthogonalTo n m s = do
   beta ← finiteOf (productOf (dotOf n (s .image) (m .image)))
   accepted (record { direction = lessOf n beta (m .direction) (s .direction); image = lessOf n beta (m .image) (s .image) })
 
@@ -35,5 +35,5 @@ stepOf n m s = do
 unfoldable pub passOf : ℕ → List Pair → Pair → Outcome Pair
 passOf n [] s = accepted s
 passOf n (m ∷ memory) s = do
-  t ← stepOf n m s
+  t ← orthogonalTo n m s
   passOf n memory t

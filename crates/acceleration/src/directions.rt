@@ -1,7 +1,7 @@
 // The directions of acceleration.rs: a new pair made orthogonal to the stored ones.
 ghost use lib.ListN.{length};
 ghost use Rattle.store.specs.Region.{part, Wrote};
-ghost use Rattle.acceleration.specs.Directions.{lessOf, stepOf, passOf};
+ghost use Rattle.acceleration.specs.Directions.{lessOf, orthogonalTo, passOf};
 ghost use Rattle.acceleration.specs.DirectionsContract.{pairAt, memoryAt, AxpyOk, StepOk, Stepped, PassOk};
 use vector::Product;
 
@@ -25,7 +25,7 @@ fn step(f: &mut [f64], n: usize, p: usize, q: usize, direction: usize, image: us
     requires { ⌜ StepOk (length (now f)) n p q direction image ⌝ }
     ensures { λ r. ⌜
         Stepped n direction image
-        (stepOf n (pairAt n p q (now (f .entry))) (pairAt n direction image (now (f .entry)))) (now (f .entry))
+        (orthogonalTo n (pairAt n p q (now (f .entry))) (pairAt n direction image (now (f .entry)))) (now (f .entry))
         (now (f .exit)) r
         ⌝ }
 {

@@ -14,7 +14,7 @@ use Rattle.float.specs.Float.{zero64}
 use Rattle.store.specs.Region.{at, idx}
 use Rattle.store.proofs.store.Loop.{for-keeps}
 use Rattle.aggregation.specs.declared.Choice.{Choice}
-use Rattle.aggregation.specs.Pairs.{Weighted, choice, considerOf, entryOf, strongestOf, Pairing, pairing, placeOf, pairRowOf, rowOf, InRange}
+use Rattle.aggregation.specs.Pairs.{Weighted, choice, considerOf, entryOf, strongestOf, Pairing, pairing, assignOf, pairRowOf, rowOf, InRange}
 
 -- The row of a turn is a row.
 pub row-in : (forward : Bool) (n index : ℕ) → index < n → rowOf forward n index < n
@@ -79,10 +79,10 @@ pub data Placed (n row : ℕ) (s : Choice) (p : Pairing) : Pairing → Type 0 wh
 
 -- The definition is a case.
 pub placed : (a : Weighted) (row : ℕ) (p : Pairing) → Placed (a .rows) row (strongestOf a (p .map) row) p (pairRowOf a row p)
-unfolding pairRowOf placeOf
+unfolding pairRowOf assignOf
 placed a row p = go (strongestOf a (p .map) row)
   where
-    go : (s : Choice) → Placed (a .rows) row s p (cond (eqb (idx (p .map) row) (a .rows)) (placeOf (a .rows) row s p) p)
+    go : (s : Choice) → Placed (a .rows) row s p (cond (eqb (idx (p .map) row) (a .rows)) (assignOf (a .rows) row s p) p)
     go s = cases (eqb (idx (p .map) row) (a .rows)) (eqb (s .free) (a .rows)) (eqb (s .adjacent) (a .rows)) refl refl refl
       where
         cases : (x y z : Bool) → eqb (idx (p .map) row) (a .rows) ≡ x → eqb (s .free) (a .rows) ≡ y → eqb (s .adjacent) (a .rows) ≡ z
@@ -102,7 +102,7 @@ placed a row p = go (strongestOf a (p .map) row)
 -- A case is the definition.
 pub placed-is : (a : Weighted) {row : ℕ} {s : Choice} {p p' : Pairing} → s ≡ strongestOf a (p .map) row
     → Placed (a .rows) row s p p' → p' ≡ pairRowOf a row p
-unfolding pairRowOf placeOf
+unfolding pairRowOf assignOf
 placed-is a {row} {s} {p} e (assigned x) = rw (ne-eqb (idx (p .map) row) (a .rows) x)
 placed-is a {row} {s} {p} e (paired x y) =
     rw (eq-eqb (idx (p .map) row) (a .rows) x, ← e, ne-eqb (s .free) (a .rows) y)

@@ -56,15 +56,15 @@ abbrev pub pairing : List ℕ → ℕ → Pairing
 pairing m c = record { map = m; count = c }
 
 -- a free row makes an aggregate with its free neighbour, else joins that of its assigned one, else makes one alone
-unfoldable pub placeOf : ℕ → ℕ → Choice → Pairing → Pairing
-placeOf n row s p =
+unfoldable pub assignOf : ℕ → ℕ → Choice → Pairing → Pairing
+assignOf n row s p =
     cond (eqb (s .free) n)
     (cond (eqb (s .adjacent) n) (pairing (set (p .map) row (p .count)) (p .count + 1)) (pairing (set (p .map) row (s .adjacent)) (p .count)))
     (pairing (set (set (p .map) row (p .count)) (s .free) (p .count)) (p .count + 1))
 
 -- one row: passed over where it is assigned already
 unfoldable pub pairRowOf : Weighted → ℕ → Pairing → Pairing
-pairRowOf a row p = cond (eqb (idx (p .map) row) (a .rows)) (placeOf (a .rows) row (strongestOf a (p .map) row) p) p
+pairRowOf a row p = cond (eqb (idx (p .map) row) (a .rows)) (assignOf (a .rows) row (strongestOf a (p .map) row) p) p
 
 -- `pairs`: the rows upward, or downward, from none assigned
 unfoldable pub pairsOf : Weighted → Bool → Pairing

@@ -9,7 +9,7 @@ use lib.Ieee.{Float}
 use Rattle.store.specs.Region.{idx, part, CopyOk, Kept}
 use Rattle.refusal.specs.declared.Verdict.{Verdict}
 use Rattle.refusal.specs.Outcome.{Outcome, accepted, verdictOf}
-use Rattle.coefficients.specs.Update.{Coefficients, updateOf, UpdateOk, Holds, Within}
+use Rattle.coefficients.specs.Update.{Coefficients, kernelUpdateOf, UpdateOk, Holds, Within}
 use Rattle.aggregation.specs.declared.Graph.{Graph}
 use Rattle.pattern.specs.Pattern.{Pattern, Valid, Rising, Mirrored}
 use Rattle.faces.specs.Faces.{facesOf, faceOffsetsOf, neighborsOf, uppersOf, lowersOf, diagonalsOf, diagonalsAsked}
@@ -97,7 +97,7 @@ pub record ValuesOk (w : List ℕ) (size : ℕ) (p : Place) (from : ℕ) : Type 
 -- the coefficients of the values at `from`, or the refusal of question 12 or 13
 abbrev pub updateFrom : ℕ → List ℕ → List Float → Place → ℕ → Outcome Coefficients
 updateFrom level w F p from =
-    updateOf level (p .rows) (part (p .diagonals) (p .rows) w) (part (p .uppers) (idx w (p .starts + p .rows)) w) (part from (p .entries) F)
+    kernelUpdateOf level (p .rows) (part (p .diagonals) (p .rows) w) (part (p .uppers) (idx w (p .starts + p .rows)) w) (part from (p .entries) F)
 
 -- Their answer; the values are laid, and where they pass the coefficients. Outside of these nothing changed.
 pub record ValuesLaid (w : List ℕ) (F G : List Float) (p : Place) (from level : ℕ) (r : Verdict) : Type 0 where

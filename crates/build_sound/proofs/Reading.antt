@@ -13,7 +13,7 @@ use Rattle.store.specs.Region.{idx, part}
 use Rattle.store.proofs.store.Each.{both-l, both-r, each-all}
 use Rattle.store.proofs.store.Region.{length-part, getD-part}
 use Rattle.store.proofs.store.Vector.{length-tab}
-use Rattle.pattern.specs.Pattern.{Pattern, entries, columnOf, rowOf, coarse, joins, placeOf, coarsePositions, Maps}
+use Rattle.pattern.specs.Pattern.{Pattern, entries, columnOf, rowOf, coarse, joins, columnPlaceOf, coarsePositions, Maps}
 use Rattle.pattern.proofs.pattern.Number.{not-both}
 use Rattle.pattern.proofs.pattern.Place.{length-those}
 use Rattle.pattern.proofs.pattern.Coarse.{position-below}
@@ -93,7 +93,7 @@ module _ {p : Pattern} (f : Proper p) where
       → arraysSound count (entries (coarse p map count)) (innerShape p map count) ≡ true
   unfolding coarsePositions
   inner-arrays {map} {count} m =
-      let size = length-tab (λ e. placeOf count (joins p map) (idx map (rowOf p e)) (idx map (columnOf p e))) (entries p) in
+      let size = length-tab (λ e. columnPlaceOf count (joins p map) (idx map (rowOf p e)) (idx map (columnOf p e))) (entries p) in
       arrays-shape count (entries (coarse p map count)) false map (coarsePositions p map count) (all-below map (m .size) (m .below))
       (all-below (coarsePositions p map count) size (position-below p map count (f .valid) m))
 

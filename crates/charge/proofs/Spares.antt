@@ -20,10 +20,10 @@ use Rattle.pattern.specs.Pattern.{Pattern, entries}
 use Rattle.csr.specs.Questions.{sizeOk, offsetsOk, columnsOk, matrixAsked}
 use Rattle.csr.specs.Weights.{weightsCounted, weightsOk, weightsAsked}
 use Rattle.faces.specs.Faces.{uppersOf, hasEntry, diagonalsAsked, diagonalsOf}
-use Rattle.coefficients.specs.Update.{Coefficients, isPositive, diagonalAsked, entryOf, updateOf}
+use Rattle.coefficients.specs.Update.{Coefficients, isPositive, diagonalAsked, entryOf, kernelUpdateOf}
 use Rattle.matrix.specs.Kernel.{Kernel}
 use Rattle.dic.specs.Dic.{isPivot, pivotRow, pivotsOf, reciprocalAsked, reciprocalsOf, dicOf}
-use Rattle.cholesky.specs.Factor.{Csr, compactOf, restOf, columnsOf, goodPivot, rowOf, rowsOf, choleskyOf}
+use Rattle.cholesky.specs.Factor.{Csr, compactOf, restOf, columnsOf, goodPivot, factorRowOf, rowsOf, choleskyOf}
 use Rattle.cholesky.specs.Triangle.{tri}
 use Rattle.vector.specs.Finite.{allFinite}
 use Rattle.hierarchy.specs.Level.{Shape, kernelOf, csrOf}
@@ -106,8 +106,8 @@ diagonal-spares level row d =
     ask-spares (isPositive d) (badDiagonal level row) refl (ask-spares (isFinite (div64 one64 d)) (badReciprocal level row) refl done)
 
 -- 12 and 13,
-update-spares : (level rows : ℕ) (diagonals faces : List ℕ) (values : List Float) → Spared 9 (updateOf level rows diagonals faces values)
-unfolding updateOf
+update-spares : (level rows : ℕ) (diagonals faces : List ℕ) (values : List Float) → Spared 9 (kernelUpdateOf level rows diagonals faces values)
+unfolding kernelUpdateOf
 update-spares level rows diagonals faces values =
     each-spares rows (λ row. diagonalAsked level row (entryOf diagonals values row))
     (λ row. diagonal-spares level row (entryOf diagonals values row)) done
@@ -137,8 +137,8 @@ unfolding dicOf
 dic-spares level k = then-spares (pivotsOf level k) (pivots-spare level k) (λ d _. reciprocals-spare level (k .rows) d)
 
 -- 15.
-row-spares : (level : ℕ) (coupled : List ℕ) (entry : ℕ → ℕ → Float) (row : ℕ) (l : List Float) → Spared 9 (rowOf level coupled entry row l)
-unfolding rowOf
+row-spares : (level : ℕ) (coupled : List ℕ) (entry : ℕ → ℕ → Float) (row : ℕ) (l : List Float) → Spared 9 (factorRowOf level coupled entry row l)
+unfolding factorRowOf
 row-spares level coupled entry row l =
     ask-spares (goodPivot (restOf entry row row (columnsOf entry row l))) (badPivot level (idx coupled row)) refl done
 
@@ -147,7 +147,7 @@ factor-spares : (level : ℕ) (coupled : List ℕ) (entry : ℕ → ℕ → Floa
 unfolding rowsOf
 factor-spares level coupled entry zero row l = done
 factor-spares level coupled entry (suc rows) row l =
-    then-spares (rowOf level coupled entry row l) (row-spares level coupled entry row l)
+    then-spares (factorRowOf level coupled entry row l) (row-spares level coupled entry row l)
     (λ next _. factor-spares level coupled entry rows (row + 1) next)
 
 cholesky-spares : (level : ℕ) (a : Csr) (size : ℕ) (coupled : List ℕ) → Spared 9 (choleskyOf level a size coupled)

@@ -20,7 +20,7 @@ use Rattle.store.proofs.store.Loop.{for-map, for-same, Left, left-end}
 use Rattle.store.proofs.store.Region.{length-part, getD-part, getD-splice-in, part-splice-below, set-splice, splice-part, wrote, wrote-at, wrote-off, wrote-again}
 use Rattle.cholesky.specs.Triangle.{tri, RowAt, lessOf, LessOk, Less}
 use Rattle.cholesky.specs.declared.Terminal.{Terminal}
-use Rattle.cholesky.specs.Factor.{restOf, columnOf, columnsOf, goodPivot, rowOf, rowsOf, choleskyOf}
+use Rattle.cholesky.specs.Factor.{restOf, columnOf, columnsOf, goodPivot, factorRowOf, rowsOf, choleskyOf}
 use Rattle.cholesky.specs.Contract.{csrAt, coupledAt, factorAt, entryAt, TerminalOk, PivotOk, RowDone, Factored}
 use Rattle.cholesky.proofs.packed.Triangles.{tri-zero, tri-on, tri-row, tri-at}
 
@@ -153,8 +153,8 @@ module _ {F G : List Float} {t : Terminal} {w : List ℕ} {row start : ℕ} {val
 
   -- A good pivot: its root ends the row.
   pub row-good : {root : Float} → b ≡ true → root ≡ sqrtOf value
-      → RowDone t (badPivot level (idx (coupledAt t w) row)) (rowOf level (coupledAt t w) (entryAt t w F) row (factorAt t F)) F (set G (t .factor + start + row) root) true
-  unfolding rowOf
+      → RowDone t (badPivot level (idx (coupledAt t w) row)) (factorRowOf level (coupledAt t w) (entryAt t w F) row (factorAt t F)) F (set G (t .factor + start + row) root) true
+  unfolding factorRowOf
   row-good {root} y s =
       let good = sym p ∙ y in
       let c = columnsOf (entryAt t w F) row (factorAt t F) in
@@ -167,8 +167,8 @@ module _ {F G : List Float} {t : Terminal} {w : List ℕ} {row start : ℕ} {val
 
   -- A bad one: the row is refused.
   pub row-bad : b ≡ false
-      → RowDone t (badPivot level (idx (coupledAt t w) row)) (rowOf level (coupledAt t w) (entryAt t w F) row (factorAt t F)) F G false
-  unfolding rowOf
+      → RowDone t (badPivot level (idx (coupledAt t w) row)) (factorRowOf level (coupledAt t w) (entryAt t w F) row (factorAt t F)) F G false
+  unfolding factorRowOf
   row-bad y = let bad = sym p ∙ y in record { is = rw (← value-is, bad); frame = rw factor-is g }
 
 -- ---- all rows
@@ -200,18 +200,18 @@ module _ {t : Terminal} {w : List ℕ} {level row : ℕ} {F G : List Float} (ok 
   factoring-ok = rw (s .frame .size) ok
 
   module _ {H : List Float} {r : Bool} (h : row < t .size) (d : RowDone t (badPivot level (idx (coupledAt t w) row))
-      (rowOf level (coupledAt t w) (entryAt t w G) row (factorAt t G)) G H r) where
+      (factorRowOf level (coupledAt t w) (entryAt t w G) row (factorAt t G)) G H r) where
     next : t .size - row ≡ suc (t .size - (row + 1))
     next = omega arith
 
-    done : ask r (badPivot level (idx (coupledAt t w) row)) (accepted (factorAt t H)) ≡ rowOf level (coupledAt t w) (entryAt t w F) row (factorAt t G)
+    done : ask r (badPivot level (idx (coupledAt t w) row)) (accepted (factorAt t H)) ≡ factorRowOf level (coupledAt t w) (entryAt t w F) row (factorAt t G)
     done = rw (wrote-off (s .frame) (t .values) (t .entries) (omega (arith, ok .values))) at (d .is)
 
     -- A row that passes.
     pub factoring-on : r ≡ true → Factoring t w level (row + 1) F H
     unfolding rowsOf
     factoring-on y =
-        let e : accepted (factorAt t H) ≡ rowOf level (coupledAt t w) (entryAt t w F) row (factorAt t G) = rw y at done in
+        let e : accepted (factorAt t H) ≡ factorRowOf level (coupledAt t w) (entryAt t w F) row (factorAt t G) = rw y at done in
         record { left = rw (next, ← e) at (s .left); frame = wrote-again (s .frame) (d .frame) }
 
     -- A row that is refused ends the factor.
@@ -219,7 +219,7 @@ module _ {t : Terminal} {w : List ℕ} {level row : ℕ} {F G : List Float} (ok 
         → Factored t (rowsOf level (coupledAt t w) (entryAt t w F) (t .size) 0 (factorAt t F)) F H v
     unfolding rowsOf
     factoring-no y x =
-        let e : refused (badPivot level (idx (coupledAt t w) row)) ≡ rowOf level (coupledAt t w) (entryAt t w F) row (factorAt t G) = rw y at done in
+        let e : refused (badPivot level (idx (coupledAt t w) row)) ≡ factorRowOf level (coupledAt t w) (entryAt t w F) row (factorAt t G) = rw y at done in
         let o : refused (badPivot level (idx (coupledAt t w) row)) ≡ rowsOf level (coupledAt t w) (entryAt t w F) (t .size) 0 (factorAt t F) = rw (next, ← e) at (s .left) in
         record {
           answer = rw (← o) x;

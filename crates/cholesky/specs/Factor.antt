@@ -44,8 +44,8 @@ goodPivot value = isFinite value && lt zero64 value
 
 module _ (level : ℕ) (coupled : List ℕ) (entry : ℕ → ℕ → Float) where
   -- one row: its elements below the diagonal, question 15 at the level's row, and the root of the pivot
-  unfoldable pub rowOf : ℕ → List Float → Outcome (List Float)
-  rowOf row l =
+  unfoldable pub factorRowOf : ℕ → List Float → Outcome (List Float)
+  factorRowOf row l =
       let lower = columnsOf entry row l in
       let value = restOf entry row row lower in
       ask (goodPivot value) (badPivot level (idx coupled row)) (accepted (set lower (tri row + row) (sqrtOf value)))
@@ -54,7 +54,7 @@ module _ (level : ℕ) (coupled : List ℕ) (entry : ℕ → ℕ → Float) wher
   unfoldable pub rowsOf : ℕ → ℕ → List Float → Outcome (List Float)
   rowsOf zero row l = accepted l
   rowsOf (suc rows) row l = do
-    next ← rowOf row l
+    next ← factorRowOf row l
     rowsOf rows (row + 1) next
 
 -- `cholesky` of the compact matrix of coarse.rs, that of so many coupled rows

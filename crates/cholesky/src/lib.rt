@@ -5,7 +5,7 @@ ghost use Prim.Native.Nat.{_-_, _<_, _≤_};
 ghost use lib.ListN.{length};
 ghost use Rattle.store.specs.Region.{idx, Wrote};
 ghost use Rattle.cholesky.specs.Triangle.{tri, RowAt};
-ghost use Rattle.cholesky.specs.Factor.{seekOf, columnsOf, restOf, goodPivot, rowOf, rowsOf, choleskyOf};
+ghost use Rattle.cholesky.specs.Factor.{seekOf, columnsOf, restOf, goodPivot, factorRowOf, rowsOf, choleskyOf};
 ghost use Rattle.cholesky.specs.Contract.{csrAt, coupledAt, factorAt, entryAt, TerminalOk, SeekOk, PivotOk, RowDone, Factored};
 ghost use Rattle.refusal.specs.declared.Refusal.{Refusal};
 ghost use Rattle.refusal.specs.Refusal.{badPivot};
@@ -111,7 +111,7 @@ fn one_row(w: &[u32], f: &mut [f64], t: Terminal, level: u64, row: usize, start:
     requires { ⌜ RowAt (t .size) row start ⌝ }
     ensures { λ r. ⌜
         RowDone t (badPivot level (idx (coupledAt t (now (w .entry))) row))
-        (rowOf level (coupledAt t (now (w .entry))) (entryAt t (now (w .entry)) (now (f .entry))) row
+        (factorRowOf level (coupledAt t (now (w .entry))) (entryAt t (now (w .entry)) (now (f .entry))) row
         (factorAt t (now (f .entry))))
         (now (f .entry)) (now (f .exit)) r
         ⌝ }

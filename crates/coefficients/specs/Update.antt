@@ -40,8 +40,8 @@ pub record Coefficients : Type 0 where
   pub coefficients : List Float
 
 -- `update`: the diagonal and its reciprocals row by row, then the faces' values
-unfoldable pub updateOf : ℕ → ℕ → List ℕ → List ℕ → List Float → Outcome Coefficients
-updateOf level rows diagonals faces values = do
+unfoldable pub kernelUpdateOf : ℕ → ℕ → List ℕ → List ℕ → List Float → Outcome Coefficients
+kernelUpdateOf level rows diagonals faces values = do
   askEach rows (λ row. diagonalAsked level row (entryOf diagonals values row))
   accepted (record {
     diagonal = tab (entryOf diagonals values) rows;
@@ -53,7 +53,7 @@ updateOf level rows diagonals faces values = do
 abbrev pub updateWith : ℕ → SymmetricMatrix → Entries → List ℕ → List Float → Outcome Coefficients
 updateWith level s e w values =
     let faces = idx w (s .offsets + s .rows) in
-    updateOf level (s .rows) (part (e .diagonals) (s .rows) w) (part (e .faces) faces w) values
+    kernelUpdateOf level (s .rows) (part (e .diagonals) (s .rows) w) (part (e .faces) faces w) values
 
 -- the same of the image at the places of e
 abbrev pub updateAt : ℕ → SymmetricMatrix → Entries → List ℕ → List Float → Outcome Coefficients

@@ -19,7 +19,7 @@ use Rattle.correction.specs.Transfer.{restrictOf, prolongOf}
 use Rattle.correction.specs.Correction.{subtractOf, addPlainOf}
 use Rattle.correction.specs.Scaled.{addScaledOf}
 use Rattle.correction.specs.Scaling.{correctionFactorOf}
-use Rattle.hierarchy.specs.Level.{Level, kernelOf}
+use Rattle.hierarchy.specs.Level.{Level, kernelIn}
 
 -- ---- counters: three numbers to a level, its visits, smoothing sweeps and coarse iterations
 
@@ -41,11 +41,7 @@ iterated depth iterations t = countOf (3 * depth + 2) iterations t
 
 -- ---- one level
 
--- the kernel of a level
-abbrev pub kernelIn : Level → Kernel
-kernelIn l = kernelOf (l .shape) (l .numbers .diagonal) (l .numbers .inverse) (l .numbers .coefficients)
-
--- its rows
+-- the rows of a level
 abbrev pub rowsIn : Level → ℕ
 rowsIn l = l .shape .pattern .rows
 
@@ -85,6 +81,7 @@ pub record Cycled : Type 0 where
   pub x : List Float
   pub counts : List ℕ
 
+-- such a pair
 abbrev pub cycled : List Float → List ℕ → Cycled
 cycled x counts = record { x = x; counts = counts }
 

@@ -15,7 +15,7 @@ use Rattle.refusal.specs.Outcome.{Outcome, accepted, ask, _>>=_, askRows}
 use Rattle.refusal.proofs.Outcome.{accepted-one}
 use Rattle.vector.specs.Finite.{allFinite}
 use Rattle.cholesky.specs.Factor.{choleskyOf}
-use Rattle.coefficients.specs.Update.{entryOf, Coefficients, diagonalAsked, updateOf}
+use Rattle.coefficients.specs.Update.{entryOf, Coefficients, diagonalAsked, kernelUpdateOf}
 use Rattle.galerkin.specs.Product.{galerkinProduct}
 use Rattle.pattern.specs.Pattern.{Pattern, entries, coarse, Maps}
 use Rattle.faces.specs.Faces.{uppersOf, diagonalsOf}
@@ -48,7 +48,7 @@ record Taken (s : Shape) (values : List Float) (diagonal coefficients : List Flo
 module _ (o : MultigridOptions) (level : ℕ) (s : Shape) (values : List Float) where
   -- So it is with its coefficients,
   coefficients-taken : {c : Coefficients} → coefficientsOf o level s values ≡ accepted c → Taken s values (c .diagonal) (c .coefficients)
-  unfolding updateOf
+  unfolding kernelUpdateOf
   coefficients-taken e =
       let same = accepted-one (asked-rest (λ row. diagonalAsked level row (entryOf (s .diagonals) values row)) _ _ 0 e) in
       record { owns = sym (ap (λ (c : Coefficients). c .diagonal) same); faces = sym (ap (λ (c : Coefficients). c .coefficients) same) }

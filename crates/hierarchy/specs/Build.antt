@@ -10,7 +10,7 @@ use Rattle.refusal.specs.Refusal.{noRows, storeTooSmall, unequalMirrors, tooMan
 use Rattle.options.specs.Options.{controlsAsked}
 use Rattle.refusal.specs.Outcome.{Outcome, accepted, passed, ask, _>>=_, _>>_}
 use Rattle.vector.specs.Finite.{allFinite}
-use Rattle.coefficients.specs.Update.{Coefficients, updateOf}
+use Rattle.coefficients.specs.Update.{Coefficients, kernelUpdateOf}
 use Rattle.coefficients.specs.Mirrors.{mirrorsEqual}
 use Rattle.aggregation.specs.Pairs.{Pairing, strengthsOf, pairsOf}
 use Rattle.pattern.specs.Pattern.{Pattern, entries, coarse, coarsePositions, composeOf}
@@ -89,7 +89,7 @@ merged m map stage = record { mesh = m; map = map; stage = stage }
 
 -- questions 12 and 13 of a matrix
 abbrev pub kernelAsked : ℕ → Mesh → Outcome Coefficients
-kernelAsked level m = updateOf level (m .pattern .rows) (diagonalsOf (m .pattern)) (uppersOf (m .pattern)) (m .values)
+kernelAsked level m = kernelUpdateOf level (m .pattern .rows) (diagonalsOf (m .pattern)) (uppersOf (m .pattern)) (m .values)
 
 module _ (given : Bool) where
   -- `pairs` of a matrix by its weights, or by its values where none are given; upward at even stages

@@ -13,7 +13,7 @@ use Rattle.refusal.specs.Refusal.{badCoarseValue}
 use Rattle.refusal.specs.Outcome.{Outcome, accepted, ask, _>>=_, _>>_}
 use Rattle.vector.specs.Finite.{allFinite}
 use Rattle.matrix.specs.Kernel.{Kernel, rowSumsOf}
-use Rattle.coefficients.specs.Update.{Coefficients, updateOf}
+use Rattle.coefficients.specs.Update.{Coefficients, kernelUpdateOf}
 use Rattle.dic.specs.Dic.{dicOf}
 use Rattle.cholesky.specs.Factor.{choleskyOf}
 use Rattle.pattern.specs.Pattern.{entries}
@@ -47,7 +47,7 @@ module _ (o : MultigridOptions) where
   -- the numbers of a level: 12 and 13, then 15, or 16 and 17
   abbrev pub numbersOf : ℕ → Shape → List Float → Outcome Numbers
   numbersOf level s values = do
-    c ← updateOf level (s .pattern .rows) (s .diagonals) (s .uppers) values
+    c ← kernelUpdateOf level (s .pattern .rows) (s .diagonals) (s .uppers) values
     cond (s .terminal) (lastNumbers level s values c) (innerNumbers level s c)
 
   -- the values of the next level, of shape t: the sums by position, then half plus half
@@ -66,7 +66,7 @@ module _ (o : MultigridOptions) where
 module _ (o : MultigridOptions) where
   -- questions 12 and 13 of a level, and its coefficients
   abbrev pub coefficientsOf : ℕ → Shape → List Float → Outcome Coefficients
-  coefficientsOf level s values = updateOf level (s .pattern .rows) (s .diagonals) (s .uppers) values
+  coefficientsOf level s values = kernelUpdateOf level (s .pattern .rows) (s .diagonals) (s .uppers) values
 
   -- the DIC data of a level that is not the last: questions 16 and 17
   abbrev pub smootherOf : ℕ → Kernel → Outcome (List Float)

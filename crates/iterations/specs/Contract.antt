@@ -8,7 +8,8 @@ use Rattle.options.specs.declared.options.Handle.{Handle}
 use Rattle.solver.specs.declared.answers.Solved.{Solved}
 use Rattle.refusal.specs.Outcome.{Outcome, accepted}
 use Rattle.iterations.specs.declared.stepping.Regions.{Regions}
-use Rattle.iterations.specs.Steps.{systemAt, stateAt}
+use Rattle.iterations.specs.System.{systemAt}
+use Rattle.iterations.specs.Steps.{stateAt}
 use Rattle.iterations.specs.Iterate.{Solution, answerOf, iterateOf}
 
 -- The answer is that of `out`; accepted, its solution stands in G and its counters are u. Below the solution nothing changed.

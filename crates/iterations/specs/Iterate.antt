@@ -18,11 +18,8 @@ pub record Solution : Type 0 where
 
 -- a state with its report
 abbrev pub solution : LinearSolverStatus → ℕ → Float → State → Solution
-solution status iterations initial s = record {
-  report = reportOf status iterations initial (s .last);
-  x = s .x;
-  counts = s .counts;
-}
+solution status iterations initial s =
+    record { report = reportOf status iterations initial (s .last); x = s .x; counts = s .counts }
 
 module _ (y : System) (rhs : List Float) (factor initial threshold : Float) where
   -- so many iterations at most, after `done`

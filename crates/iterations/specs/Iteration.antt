@@ -16,8 +16,8 @@ use Rattle.correction.specs.Correction.{subtractOf, addPlainOf}
 use Rattle.acceleration.specs.Directions.{Pair}
 use Rattle.acceleration.specs.Gcr.{Corrections, correctOf}
 use Rattle.residual_norm.specs.Measure.{measureOf}
-use Rattle.hierarchy.specs.Level.{Level, Hierarchy}
-use Rattle.cycle.specs.Cycle.{kernelIn, cycleOf}
+use Rattle.hierarchy.specs.Level.{Level, Hierarchy, kernelIn}
+use Rattle.cycle.specs.Cycle.{cycleOf}
 
 -- `measure(..)?`: question 23
 abbrev pub measured : Product → Outcome Float
@@ -41,8 +41,8 @@ pub record System : Type 0 where
 
 module _ (y : System) (rhs : List Float) (factor : Float) where
   -- the residual of x
-  abbrev pub residualOf : List Float → List Float
-  residualOf x = subtractOf (y .kernel .rows) rhs (applyOf (y .kernel) x)
+  abbrev pub trueResidualOf : List Float → List Float
+  trueResidualOf x = subtractOf (y .kernel .rows) rhs (applyOf (y .kernel) x)
 
   -- its norm: question 23
   abbrev pub measuredOf : List Float → Outcome Float
@@ -62,10 +62,10 @@ module _ (y : System) (rhs : List Float) (factor : Float) where
     let n = y .kernel .rows
     c ← cycleOf (y .options) (y .levels) 0 (s .residual) (filled n zero64) (s .counts)
     m ← movedOf (s .memory) (c .x) (s .residual) (s .x)
-    last ← measuredOf (residualOf (m .solution))
+    last ← measuredOf (trueResidualOf (m .solution))
     accepted (record {
       x = m .solution;
-      residual = residualOf (m .solution);
+      residual = trueResidualOf (m .solution);
       memory = m .memory;
       counts = c .counts;
       last = last;

@@ -1,4 +1,5 @@
 pub mod Iteration
+pub mod System
 pub mod Steps
 pub mod Iterate
 pub mod Contract

@@ -23,11 +23,8 @@ use Rattle.index_check.specs.declared.sound.Walk.{Walk}
 use Rattle.index_check.specs.Sound.{walkOf, scratchStart, scratchEnd, cycleStart}
 use Rattle.iterations.specs.declared.stepping.Regions.{Regions}
 use Rattle.iterations.specs.declared.stepping.Step.{Step}
-use Rattle.iterations.specs.Iteration.{System, State, systemOf, residualOf, measuredOf, movedOf, stepOf}
-
--- the hierarchy in the stores, as a solve has it
-abbrev pub systemAt : Handle → List ℕ → List Float → System
-systemAt h w F = systemOf (h .options) (viewOf (h .levels) w F 0)
+use Rattle.iterations.specs.Iteration.{System, State, systemOf, trueResidualOf, measuredOf, movedOf, stepOf}
+use Rattle.iterations.specs.System.{systemAt}
 
 -- ---- places
 
@@ -140,10 +137,10 @@ stateAt g used F t last = record {
 unfoldable pub afterOf : System → List Float → Float → List Pair → List Float → List Float → List Float → List ℕ → Outcome State
 afterOf y rhs factor memory correction residual x counts = do
   m ← movedOf y rhs factor memory correction residual x
-  last ← measuredOf y rhs factor (residualOf y rhs factor (m .solution))
+  last ← measuredOf y rhs factor (trueResidualOf y rhs factor (m .solution))
   accepted (record {
     x = m .solution;
-    residual = residualOf y rhs factor (m .solution);
+    residual = trueResidualOf y rhs factor (m .solution);
     memory = m .memory;
     counts = counts;
     last = last;

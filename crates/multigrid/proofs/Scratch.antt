@@ -29,7 +29,7 @@ use Rattle.index_check.proofs.sound.Question.{handle-few}
 use Rattle.iterations.specs.Iteration.{systemOf}
 use Rattle.iterations.specs.Iterate.{Solution, answerOf}
 use Rattle.solve.specs.Solve.{solveOf}
-use Rattle.solve.specs.Contract.{solvedAt, solutionOf}
+use Rattle.solve.specs.Solved.{solvedAt, solutionOf}
 use Rattle.solver.specs.declared.answers.Solved.{Solved}
 use Rattle.solver.specs.declared.statistics.MultigridLevelStatistics.{MultigridLevelStatistics}
 use Rattle.solver.specs.declared.answers.Updated.{Updated}

@@ -30,7 +30,7 @@ use Rattle.solver.specs.declared.answers.Solved.{Solved}
 use Rattle.solver.specs.declared.statistics.MultigridLevelStatistics.{MultigridLevelStatistics}
 use Rattle.iterations.specs.Iterate.{Solution, answerOf}
 use Rattle.solve.specs.Solve.{solveOf}
-use Rattle.solve.specs.Contract.{solvedAt, solutionOf}
+use Rattle.solve.specs.Solved.{solvedAt, solutionOf}
 use Rattle.solver.specs.declared.answers.Updated.{Updated}
 use Rattle.update.specs.Contract.{updatedAt, hierarchyOf}
 use Rattle.update.specs.Contract as refreshing

@@ -15,13 +15,13 @@ use Rattle.solver.specs.Statistics.{unvisited}
 use Rattle.build.specs.Contract.{lentOf, BuildDone}
 
 -- the statistics of levels that nobody has visited, a record to a level
-unfoldable pub freshOf : List Level → List MultigridLevelStatistics
-freshOf [] = []
-freshOf (l ∷ levels) = unvisited (l .shape .pattern .rows) ∷ freshOf levels
+unfoldable pub unvisitedLevels : List Level → List MultigridLevelStatistics
+unvisitedLevels [] = []
+unvisitedLevels (l ∷ levels) = unvisited (l .shape .pattern .rows) ∷ unvisitedLevels levels
 
 -- the n records that a build leaves: each level's rows with zero counters, and zeros past the last level; zeros where it refuses
 unfoldable pub statisticsOf : ℕ → Outcome Hierarchy → List MultigridLevelStatistics
-statisticsOf n (accepted h) = lay (freshOf (h .levels)) (filled n (unvisited 0))
+statisticsOf n (accepted h) = lay (unvisitedLevels (h .levels)) (filled n (unvisited 0))
 statisticsOf n (refused q) = filled n (unvisited 0)
 
 -- What a build in lent stores w and F with the records of statistics s leaves: z, G and t, and its answer r.

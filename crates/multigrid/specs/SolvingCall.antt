@@ -16,7 +16,7 @@ use Rattle.solver.specs.declared.answers.Solved.{Solved}
 use Rattle.solver.specs.declared.statistics.MultigridLevelStatistics.{MultigridLevelStatistics}
 use Rattle.solver.specs.Statistics.{countedOn}
 use Rattle.iterations.specs.Iterate.{Solution, answerOf}
-use Rattle.solve.specs.Contract.{solvedAt, solutionOf}
+use Rattle.solve.specs.Solved.{solvedAt, solutionOf}
 
 -- a solve with so many records of statistics: question 19, and then that of the hierarchy in the stores
 abbrev pub solvedOf : Handle → List ℕ → List Float → ℕ → List Float → List Float → LinearSolverOptions → Outcome Solution

@@ -13,7 +13,7 @@ use Rattle.iterations.specs.Iteration.{systemOf}
 use Rattle.solver.specs.declared.answers.Solved.{Solved}
 use Rattle.solve.specs.Solve.{solveOf}
 use Rattle.iterations.specs.Iterate.{answerOf}
-use Rattle.solve.specs.Contract.{solutionOf}
+use Rattle.solve.specs.Solved.{solutionOf}
 use Rattle.solver.specs.declared.answers.Updated.{Updated}
 use Rattle.solver.specs.declared.statistics.MultigridLevelStatistics.{MultigridLevelStatistics}
 use Rattle.multigrid.specs.UpdatingCall.{UpdateCall}
@@ -55,15 +55,8 @@ statisticsAfter (Trace.solve c rest) = statisticsAfter rest
 
 -- the same with other values
 abbrev pub withValues : Input → List Float → Input
-withValues x values = record {
-  rows = x .rows;
-  offsets = x .offsets;
-  columns = x .columns;
-  values = values;
-  given = x .given;
-  weights = x .weights;
-  options = x .options;
-}
+withValues x values =
+    record { rows = x .rows; offsets = x .offsets; columns = x .columns; values = values; given = x .given; weights = x .weights; options = x .options }
 
 -- after an update with those values: accepted, it replaces the values; refused, it changes nothing
 abbrev pub booked : Input → List Float → Updated → Input

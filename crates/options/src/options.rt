@@ -4,12 +4,14 @@ ghost use Rattle.options.specs.Options.{defaultOptions, validOf, needsDi
 ghost use Rattle.refusal.specs.Outcome.{verdictOf};
 use refusal::Verdict;
 
+// What damps the rough part of an error on a level.
 pub enum MultigridSmoother {
     GaussSeidel,
     SymmetricGaussSeidel,
     DicGaussSeidel,
 }
 
+// How a solve measures its residual.
 pub enum MultigridResidualNorm {
     AbsoluteL2,
     NormalizedL1,

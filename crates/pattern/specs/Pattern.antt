@@ -85,8 +85,8 @@ unfoldable pub startOf : ℕ → (ℕ → ℕ → Bool) → ℕ → ℕ
 startOf count g a = sumTo (λ r. howMany (g r) count) a
 
 -- the place of column b in row a: the row's start, and then as many as the row has columns below b
-unfoldable pub placeOf : ℕ → (ℕ → ℕ → Bool) → ℕ → ℕ → ℕ
-placeOf count g a b = startOf count g a + howMany (g a) b
+unfoldable pub columnPlaceOf : ℕ → (ℕ → ℕ → Bool) → ℕ → ℕ → ℕ
+columnPlaceOf count g a b = startOf count g a + howMany (g a) b
 
 -- ---- the coarse pattern, of a fine pattern p and the aggregate map[i] of each fine row i
 
@@ -105,7 +105,7 @@ coarseColumns p map count = flat (λ a. those (joins p map a) count) count
 -- for each fine entry the place of the pair of aggregates that it joins
 unfoldable pub coarsePositions : Pattern → List ℕ → ℕ → List ℕ
 coarsePositions p map count =
-    tab (λ e. placeOf count (joins p map) (idx map (rowOf p e)) (idx map (columnOf p e))) (entries p)
+    tab (λ e. columnPlaceOf count (joins p map) (idx map (rowOf p e)) (idx map (columnOf p e))) (entries p)
 
 -- the coarse pattern
 abbrev pub coarse : Pattern → List ℕ → ℕ → Pattern

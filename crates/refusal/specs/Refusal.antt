@@ -2,13 +2,13 @@
 use Prim.Native.Nat.{ℕ}
 use Rattle.refusal.specs.declared.Refusal.{Refusal}
 
--- question n, at a level and a row of it
-abbrev pub at : ℕ → ℕ → ℕ → Refusal
-at n l r = record { number = n; level = l; row = r }
+-- question n, questionAt a level and a row of it
+abbrev pub questionAt : ℕ → ℕ → ℕ → Refusal
+questionAt n l r = record { number = n; level = l; row = r }
 
 -- question n where it names no place
 abbrev pub question : ℕ → Refusal
-question n = at n 0 0
+question n = questionAt n 0 0
 
 -- there are more than 65,536 rows or 1,048,576 entries
 abbrev pub tooLarge : Refusal
@@ -52,15 +52,15 @@ unequalMirrors = question 10
 
 -- a diagonal entry is missing
 abbrev pub missingDiagonal : ℕ → ℕ → Refusal
-missingDiagonal l r = at 11 l r
+missingDiagonal l r = questionAt 11 l r
 
 -- a diagonal is not finite or not above zero
 abbrev pub badDiagonal : ℕ → ℕ → Refusal
-badDiagonal l r = at 12 l r
+badDiagonal l r = questionAt 12 l r
 
 -- the reciprocal of a diagonal is not finite
 abbrev pub badReciprocal : ℕ → ℕ → Refusal
-badReciprocal l r = at 13 l r
+badReciprocal l r = questionAt 13 l r
 
 -- more rows are coupled on the last level than coarsest_cells allows
 abbrev pub tooManyCoupled : Refusal
@@ -68,15 +68,15 @@ tooManyCoupled = question 14
 
 -- a Cholesky pivot is not finite or not above zero
 abbrev pub badPivot : ℕ → ℕ → Refusal
-badPivot l r = at 15 l r
+badPivot l r = questionAt 15 l r
 
 -- a DIC pivot is not finite or not above zero
 abbrev pub badDicPivot : ℕ → ℕ → Refusal
-badDicPivot l r = at 16 l r
+badDicPivot l r = questionAt 16 l r
 
 -- the reciprocal of a DIC pivot is not finite
 abbrev pub badDicReciprocal : ℕ → ℕ → Refusal
-badDicReciprocal l r = at 17 l r
+badDicReciprocal l r = questionAt 17 l r
 
 -- a Galerkin value is not finite
 abbrev pub badCoarseValue : Refusal

@@ -38,8 +38,9 @@ use Rattle.index_check.proofs.sound.Question.{handle-few}
 use Rattle.index_check.proofs.sound.Accepts.{walk-passes}
 use Rattle.solve.specs.Copies.{EnterOk, Entered}
 use Rattle.iterations.specs.declared.stepping.Regions.{Regions}
-use Rattle.iterations.specs.Iteration.{System, measured, residualOf}
-use Rattle.iterations.specs.Steps.{systemAt, regionsAt, Opened, Ready, Renewed, productAt}
+use Rattle.iterations.specs.Iteration.{System, measured, trueResidualOf}
+use Rattle.iterations.specs.System.{systemAt}
+use Rattle.iterations.specs.Steps.{regionsAt, Opened, Ready, Renewed, productAt}
 use Rattle.iterations.proofs.stepping.Placing.{vectors, rows-is, system-kept, sums-is, kernel-is, kernel-rows}
 use Rattle.solver.specs.declared.answers.Solved.{Solved}
 use Rattle.solver.specs.declared.answers.SolveRun.{SolveRun}
@@ -49,7 +50,8 @@ use Rattle.iterations.specs.Iterate.{Solution, answerOf}
 use Rattle.iterations.specs.Contract.{Ran, iterateAt}
 use Rattle.iterations.proofs.iterating.Iterations.{ran-accepted, ran-refused}
 use Rattle.solve.specs.Solve.{uncounted, factorOf, runOf, solveOf}
-use Rattle.solve.specs.Contract.{solvedAt, solutionOf, levelsCounted, refusedRun, SolveDone}
+use Rattle.solve.specs.Solved.{solvedAt, solutionOf}
+use Rattle.solve.specs.Contract.{levelsCounted, refusedRun, SolveDone}
 use Rattle.solve.specs.Steps.{attemptOf, attemptAt, AttemptOk, begunAt, BeginOk}
 
 -- ---- from question 22 on
@@ -94,7 +96,7 @@ module _ {h : Handle} {w : List ℕ} (F : List Float) {g : Regions} (ready : Rea
   product-is = ap (λ (k : Kernel). applyOf k x) (sym (kernel-is ready F))
 
   -- The residual that stands in the store is that of the start.
-  residual-is : (factor : Float) → part (g .residual) (g .rows) G ≡ residualOf y rhs factor x
+  residual-is : (factor : Float) → part (g .residual) (g .rows) G ≡ trueResidualOf y rhs factor x
   residual-is factor =
       v .left ∙ ap (subtractOf (g .rows) rhs) product-is
       ∙ ap (λ (n : ℕ). subtractOf n rhs (applyOf (y .kernel) x)) (sym (kernel-rows ready F))

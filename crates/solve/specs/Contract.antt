@@ -9,20 +9,12 @@ use Rattle.solver.specs.declared.solver.LinearSolverOptions.{LinearSolverOption
 use Rattle.refusal.specs.declared.Refusal.{Refusal}
 use Rattle.refusal.specs.Outcome.{Outcome, accepted, refused}
 use Rattle.index_check.specs.Sound.{scratchStart}
-use Rattle.iterations.specs.Steps.{systemAt}
+use Rattle.iterations.specs.System.{systemAt}
 use Rattle.solver.specs.declared.answers.Solved.{Solved}
 use Rattle.solver.specs.declared.answers.SolveRun.{SolveRun}
 use Rattle.iterations.specs.Iterate.{Solution, answerOf}
 use Rattle.solve.specs.Solve.{uncounted, solveOf}
-
--- the solve in stores that pass question 19
-abbrev pub solvedAt : Handle → List ℕ → List Float → List Float → List Float → LinearSolverOptions → Outcome Solution
-solvedAt h w F rhs x s = solveOf (systemAt h w F) s rhs x
-
--- the solution: as it was where the solve is refused
-abbrev pub solutionOf : List Float → Outcome Solution → List Float
-solutionOf x (accepted v) = v .x
-solutionOf x (refused q) = x
+use Rattle.solve.specs.Solved.{solutionOf}
 
 -- on how many of so many levels a solve counted: on none where it is refused
 abbrev pub levelsCounted : ℕ → Outcome Solution → ℕ

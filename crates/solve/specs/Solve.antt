@@ -12,7 +12,7 @@ use Rattle.refusal.specs.Outcome.{Outcome, accepted, ask, _>>=_, _>>_}
 use Rattle.matrix.specs.Kernel.{applyOf}
 use Rattle.solver.specs.Solver.{thresholdOf}
 use Rattle.residual_norm.specs.Normalization.{normalizationOf}
-use Rattle.iterations.specs.Iteration.{State, System, residualOf, measuredOf}
+use Rattle.iterations.specs.Iteration.{State, System, trueResidualOf, measuredOf}
 use Rattle.solve.specs.Input.{lengthsOk, inputOk}
 use Rattle.iterations.specs.Iterate.{Solution, solution, iterateOf}
 
@@ -27,7 +27,7 @@ begun x residual initial = record { x = x; residual = residual; memory = []; cou
 -- a solve whose input has passed, with the normalization `factor`: the first residual (23), and the iterations unless it is small enough
 unfoldable pub runOf : System → LinearSolverOptions → List Float → List Float → Float → Outcome Solution
 runOf y s rhs x factor = do
-  let residual = residualOf y rhs factor x
+  let residual = trueResidualOf y rhs factor x
   initial ← measuredOf y rhs factor residual
   let threshold = thresholdOf (s .«absolute_tolerance») (s .«relative_tolerance») initial
   let start = begun x residual initial

@@ -11,7 +11,8 @@ use Rattle.refusal.specs.Refusal.{badNormalization}
 use Rattle.refusal.specs.Outcome.{Outcome, ask}
 use Rattle.iterations.specs.declared.stepping.Regions.{Regions}
 use Rattle.iterations.specs.Iteration.{System}
-use Rattle.iterations.specs.Steps.{systemAt, Opened, Ready}
+use Rattle.iterations.specs.System.{systemAt}
+use Rattle.iterations.specs.Steps.{Opened, Ready}
 use Rattle.iterations.specs.Iterate.{Solution}
 use Rattle.solve.specs.Solve.{uncounted, factorOf, runOf}
 

@@ -2,7 +2,8 @@
 ghost use mathlib.Core.Path.{_≡_};
 ghost use lib.ListN.{length};
 ghost use Rattle.iterations.specs.Steps.{Opened};
-ghost use Rattle.solve.specs.Contract.{solvedAt, refusedRun, SolveDone};
+ghost use Rattle.solve.specs.Solved.{solvedAt};
+ghost use Rattle.solve.specs.Contract.{refusedRun, SolveDone};
 ghost use Rattle.iterations.specs.Contract.{Ran};
 ghost use Rattle.solve.specs.Steps.{AttemptOk, BeginOk, begunAt, attemptAt};
 use iterations::Regions;

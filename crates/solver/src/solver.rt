@@ -2,6 +2,7 @@
 ghost use mathlib.Core.Path.{_≡_};
 ghost use Rattle.solver.specs.Solver.{defaultSolver, convergedOf, thresholdOf, relativeOf, reportOf};
 
+// When a solve stops.
 pub struct LinearSolverOptions {
     pub absolute_tolerance: f64,
     pub relative_tolerance: f64,
@@ -20,11 +21,13 @@ impl LinearSolverOptions {
     }
 }
 
+// Whether the residual became small enough, or the iterations were used up.
 pub enum LinearSolverStatus {
     Converged,
     MaxIterations,
 }
 
+// What an accepted solve reports.
 pub struct LinearSolveReport {
     pub status: LinearSolverStatus,
     pub iterations: u64,

@@ -33,7 +33,7 @@ use Rattle.build.specs.Contract.{handleOf, lentOf}
 use Rattle.iterations.specs.Iteration.{systemOf}
 use Rattle.iterations.specs.Iterate.{Solution, answerOf}
 use Rattle.solve.specs.Solve.{uncounted, solveOf}
-use Rattle.solve.specs.Contract.{solutionOf}
+use Rattle.solve.specs.Solved.{solutionOf}
 use Rattle.update_levels.specs.Update.{updateOf}
 use Rattle.multigrid.specs.New.{NewDone, statisticsOf}
 use Rattle.multigrid.specs.UpdatingCall.{updatedOf, UpdateCall}

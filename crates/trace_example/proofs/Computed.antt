@@ -27,7 +27,7 @@ use Rattle.acceleration.specs.Directions as directions
 use Rattle.acceleration.specs.Normal as normal
 use Rattle.acceleration.specs.Advance as advance
 use Rattle.coefficients.specs.Mirrors.{mirrorsAgree, mirrorsEqual}
-use Rattle.coefficients.specs.Update.{isPositive, diagonalAsked, updateOf}
+use Rattle.coefficients.specs.Update.{isPositive, diagonalAsked, kernelUpdateOf}
 use Rattle.cholesky.specs.Triangle.{tri, lessOf}
 use Rattle.cholesky.specs.Factor as cholesky
 use Rattle.cholesky.specs.TriangularFactor as factor
@@ -55,7 +55,7 @@ use Rattle.update_levels.specs.Standing as standing
 use Rattle.update_levels.specs.Update as update
 use Rattle.trace_example.proofs.Calls.{levelWords, levelFloats, allLevels, wordsFor, floatsFor, lent, Computes, calls-made, calls-counted, calls-agree}
 use Rattle.hierarchy.specs.Build.{meshIn, paired}
-use Rattle.multigrid.specs.New.{freshOf, statisticsOf}
+use Rattle.multigrid.specs.New.{unvisitedLevels, statisticsOf}
 use Rattle.multigrid.specs.Trace.{statisticsAfter, Agrees}
 use Rattle.trace_example.specs.Calls.{calls}
 use Rattle.trace_example.specs.Cell.{two, half, cell}
@@ -66,7 +66,7 @@ use Rattle.trace_example.proofs.Ring.{fine, before, after}
 -- Of the cell and of the ring: the build with the first values and with the accepted ones; both hold in the stores; one update is refused, the
 -- other accepted; and the solve has its two answers.
 pub computed : Computes cell (oneCell one64 one64) (oneCell two half) × Computes ring before after
-unfolding headers.headsAt headers.headsOf building.buildOf building.symmetricOf building.growOf refreshing.withSums csr.sizeOk csr.neverFall csr.offsetsOk csr.entryOk csr.rowOk csr.stepOk csr.rowAt csr.entryFrom csr.columnsOk weights.weightsOk weights.weightOk validOf isFinite lt le eq ofBits add sub mul div sqrtOf each tab for iter askRows mirrorsAgree mirrorsEqual pattern.some pattern.howMany pattern.those pattern.rowOf faces.above faces.facesOf faces.uppersOf faces.faceOffsetsOf faces.neighborsOf faces.hasEntry faces.standsAt faces.mirroredOf faces.lowersOf faces.diagonalsAsked faces.diagonalsOf faces.coupledOf faces.coupledCountOf faces.coupledRowsOf updateOf diagonalAsked isPositive tri cholesky.seekOf cholesky.getOf lessOf cholesky.restOf cholesky.columnOf cholesky.columnsOf cholesky.goodPivot cholesky.rowOf cholesky.rowsOf cholesky.choleskyOf layout.viewOf layout.levelsAt layout.levelAt layout.wordsEnd layout.floatsEnd layout.imageEnd layout.wordsFit part lay splice levelWords levelFloats allLevels wordsFor floatsFor update.updateOf update.renewOf update.sameList update.samePattern standing.diagonalStands standing.diagonalsStand solve.solveOf input.inputOk solve.runOf iterating.iterateOf iteration.stepOf iteration.movedOf cycle.cycleOf cycle.endOf cycle.countOf terminal.terminalOf terminal.solutionOf terminal.scatterOf terminal.gatherOf terminal.diagonalOf factor.solveFactorOf factor.lowRow factor.highRow factor.lowTerm factor.highTerm measure.measureOf measure.valueOf measure.squaresOf measure.squareAt measure.sumOf measure.sumTurn finite.allFinite dot.termOf dot.blockOf dot.blockTurn dot.dotOf dot.productOf dot.rootOf dot.normOf normalization.normalizationOf solver.relativeOf matrix.applyOf matrix.spreadOf matrix.spreadRow matrix.spreadFace correction.subtractOf correction.addPlainOf maxNum ne ofInt absOf pairs.strengthsOf pairs.considerOf pairs.entryOf pairs.strongestOf pairs.placeOf pairs.pairRowOf pairs.turnOf pairs.pairsOf pattern.sumTo pattern.flat pattern.startOf pattern.placeOf pattern.joinsBy pattern.joins pattern.coarseOffsets pattern.coarseColumns pattern.coarsePositions pattern.composeOf galerkin.addEntry galerkin.sumsOf galerkin.averageFace galerkin.symmetrizeOf galerkin.zeroEntry galerkin.zeroEntries galerkin.zeroDiagonalOf building.mergeOf dic.isPivot dic.pivotFace dic.pivotRow dic.pivotsOf dic.reciprocalsOf dic.dicOf matrix.sumFace matrix.sumRow matrix.rowSumsOf sweep.gatherFace sweep.castFace sweep.freshOf sweep.forwardRow sweep.backwardRow sweep.gaussSeidelOf sweep.lowerRow sweep.upperRow sweep.dicSweepOf matrix.residualOf smooth.gaussSeidelsOf smooth.dicSweepsOf smooth.sweptOf smooth.smoothOf scaling.productsTurn scaling.productsOf scaling.quotientOf scaling.scaleOf scaling.correctionFactorOf scaled.addScaledOf transfer.gatherTurn transfer.gatherOf transfer.restrictOf transfer.prolongOf counts.preSweepsOf counts.postSweepsOf cycle.residualAfter cycle.corrected cycle.upOf measure.sizeAt measure.sizesOf normalization.meanOf normalization.spreadOf normalization.spreadAt normalization.spreadsOf gcr.twiceOf gcr.keptOf gcr.correctOf directions.lessOf directions.stepOf directions.passOf normal.overOf normal.normalOf advance.moreOf advance.advanceOf
+unfolding headers.headsAt headers.headsOf building.buildOf building.symmetricOf building.growOf refreshing.withSums csr.sizeOk csr.neverFall csr.offsetsOk csr.entryOk csr.rowOk csr.stepOk csr.rowAt csr.entryFrom csr.columnsOk weights.weightsOk weights.weightOk validOf isFinite lt le eq ofBits add sub mul div sqrtOf each tab for iter askRows mirrorsAgree mirrorsEqual pattern.some pattern.howMany pattern.those pattern.rowOf faces.above faces.facesOf faces.uppersOf faces.faceOffsetsOf faces.neighborsOf faces.hasEntry faces.standsAt faces.mirroredOf faces.lowersOf faces.diagonalsAsked faces.diagonalsOf faces.coupledOf faces.coupledCountOf faces.coupledRowsOf kernelUpdateOf diagonalAsked isPositive tri cholesky.seekOf cholesky.getOf lessOf cholesky.restOf cholesky.columnOf cholesky.columnsOf cholesky.goodPivot cholesky.factorRowOf cholesky.rowsOf cholesky.choleskyOf layout.viewOf layout.levelsAt layout.levelAt layout.wordsEnd layout.floatsEnd layout.imageEnd layout.wordsFit part lay splice levelWords levelFloats allLevels wordsFor floatsFor update.updateOf update.renewOf update.sameList update.samePattern standing.diagonalStands standing.diagonalsStand solve.solveOf input.inputOk solve.runOf iterating.iterateOf iteration.stepOf iteration.movedOf cycle.cycleOf cycle.endOf cycle.countOf terminal.terminalOf terminal.solutionOf terminal.scatterOf terminal.gatherOf terminal.diagonalOf factor.solveFactorOf factor.lowRow factor.highRow factor.lowTerm factor.highTerm measure.measureOf measure.valueOf measure.squaresOf measure.squareAt measure.sumOf measure.sumTurn finite.allFinite dot.termOf dot.blockOf dot.blockTurn dot.dotOf dot.productOf dot.rootOf dot.normOf normalization.normalizationOf solver.relativeOf matrix.applyOf matrix.spreadOf matrix.spreadRow matrix.spreadFace correction.subtractOf correction.addPlainOf maxNum ne ofInt absOf pairs.strengthsOf pairs.considerOf pairs.entryOf pairs.strongestOf pairs.assignOf pairs.pairRowOf pairs.turnOf pairs.pairsOf pattern.sumTo pattern.flat pattern.startOf pattern.columnPlaceOf pattern.joinsBy pattern.joins pattern.coarseOffsets pattern.coarseColumns pattern.coarsePositions pattern.composeOf galerkin.addEntry galerkin.sumsOf galerkin.averageFace galerkin.symmetrizeOf galerkin.zeroEntry galerkin.zeroEntries galerkin.zeroDiagonalOf building.mergeOf dic.isPivot dic.pivotFace dic.pivotRow dic.pivotsOf dic.reciprocalsOf dic.dicOf matrix.sumFace matrix.sumRow matrix.rowSumsOf sweep.gatherFace sweep.castFace sweep.freshOf sweep.forwardRow sweep.backwardRow sweep.gaussSeidelOf sweep.lowerRow sweep.upperRow sweep.dicSweepOf matrix.residualOf smooth.gaussSeidelsOf smooth.dicSweepsOf smooth.sweptOf smooth.smoothOf scaling.productsTurn scaling.productsOf scaling.quotientOf scaling.scaleOf scaling.correctionFactorOf scaled.addScaledOf transfer.gatherTurn transfer.gatherOf transfer.restrictOf transfer.prolongOf counts.preSweepsOf counts.postSweepsOf cycle.residualAfter cycle.corrected cycle.upOf measure.sizeAt measure.sizesOf normalization.meanOf normalization.spreadOf normalization.spreadAt normalization.spreadsOf gcr.twiceOf gcr.keptOf gcr.correctOf directions.lessOf directions.orthogonalTo directions.passOf normal.overOf normal.normalOf advance.moreOf advance.advanceOf
 computed = (
   record { weights = refl; built = refl; anew = refl; view = refl; viewed = refl; fits = refl; heads = refl; refuses = refl; accepts = refl; solves = refl; solved = refl },
   record { weights = refl; built = refl; anew = refl; view = refl; viewed = refl; fits = refl; heads = refl; refuses = refl; accepts = refl; solves = refl; solved = refl },
@@ -74,7 +74,7 @@ computed = (
 
 -- The ring is paired by its weights; by its values it would be paired otherwise.
 pub weights-decide : (paired true 0 (meshIn (ring .input)) .map ≡ fine .links) × (paired false 0 (meshIn (ring .input)) .map ≡ 0 ∷ 0 ∷ 1 ∷ 1 ∷ [])
-unfolding ofInt ofBits lt absOf for iter tab pairs.strengthsOf pairs.considerOf pairs.entryOf pairs.strongestOf pairs.placeOf pairs.pairRowOf pairs.turnOf pairs.pairsOf
+unfolding ofInt ofBits lt absOf for iter tab pairs.strengthsOf pairs.considerOf pairs.entryOf pairs.strongestOf pairs.assignOf pairs.pairRowOf pairs.turnOf pairs.pairsOf
 weights-decide = (refl, refl)
 
 -- Each solve of their calls agrees with a build that there is.
@@ -87,14 +87,14 @@ ring-agrees = calls-agree (computed .1)
 -- What their calls leave in the statistics: three solves of the cell visit its level once each,
 pub cell-counted : statisticsAfter (calls-made (computed .0))
     ≡ record { cells = 1; visits = 3; «smoothing_sweeps» = 0; «coarse_iterations» = 0 } ∷ []
-unfolding statisticsOf freshOf countedOn countedAt lay tab
+unfolding statisticsOf unvisitedLevels countedOn countedAt lay tab
 cell-counted = calls-counted (computed .0)
 
 -- and those of the ring make two, two and one iteration, each with a sweep on the finest level.
 pub ring-counted : statisticsAfter (calls-made (computed .1))
     ≡ record { cells = 4; visits = 5; «smoothing_sweeps» = 5; «coarse_iterations» = 0 }
     ∷ record { cells = 2; visits = 5; «smoothing_sweeps» = 0; «coarse_iterations» = 0 } ∷ []
-unfolding statisticsOf freshOf countedOn countedAt lay tab
+unfolding statisticsOf unvisitedLevels countedOn countedAt lay tab
 ring-counted = calls-counted (computed .1)
 
 -- A counter stops at 2^64 - 1, and a level behind those of the solve keeps its record.

@@ -20,9 +20,9 @@ abbrev pub updatedAt : Handle → List ℕ → List Float → List ℕ → List 
 updatedAt h w F offsets columns values = updateOf (h .options) (shapesIn (viewOf (h .levels) w F 0 .levels)) offsets columns values
 
 -- the answer
-abbrev pub answerOf : Outcome Hierarchy → Updated
-answerOf (accepted h) = Updated.Done
-answerOf (refused q) = Updated.Refused q
+abbrev pub updatedAnswer : Outcome Hierarchy → Updated
+updatedAnswer (accepted h) = Updated.Done
+updatedAnswer (refused q) = Updated.Refused q
 
 -- the hierarchy after it: as it was where the update is refused
 abbrev pub hierarchyOf : Hierarchy → Outcome Hierarchy → Hierarchy
@@ -31,7 +31,7 @@ hierarchyOf old (refused q) = old
 
 -- What an update whose outcome is `out` ensures: its answer, and the hierarchy in the stores; refused, no word of the image changed.
 pub record UpdateDone (h : Handle) (w : List ℕ) (F G : List Float) (out : Outcome Hierarchy) (r : Updated) : Type 0 where
-  pub answer : r ≡ answerOf out
+  pub answer : r ≡ updatedAnswer out
   pub view : viewOf (h .levels) w G 0 ≡ hierarchyOf (viewOf (h .levels) w F 0) out
   pub kept : (q : Refusal) → out ≡ refused q → Kept (imageOf (h .levels) w) F G
   pub size : length G ≡ length F

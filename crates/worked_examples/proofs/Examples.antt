@@ -10,7 +10,7 @@ use Rattle.store.specs.Vector.{tab}
 use Rattle.options.specs.declared.options.MultigridSmoother.{MultigridSmoother}
 use Rattle.refusal.specs.Refusal.{badDicPivot}
 use Rattle.refusal.specs.Outcome.{Outcome, accepted, refused, askRows, _>>=_}
-use Rattle.coefficients.specs.Update.{isPositive, diagonalAsked, updateOf}
+use Rattle.coefficients.specs.Update.{isPositive, diagonalAsked, kernelUpdateOf}
 use Rattle.pattern.specs.Pattern as pattern
 use Rattle.faces.specs.Faces as faces
 use Rattle.matrix.specs.Kernel.{Kernel, spreadFace, spreadRow, spreadOf, residualOf}
@@ -25,7 +25,7 @@ rhs = floats (pos 2 ∷ pos 0 ∷ [])
 
 -- 4, 4; 4, 2 has a second pivot below zero.
 negative : inversesOf 3 (twoRows (pos 4)) ≡ refused (badDicPivot 3 1)
-unfolding floats ofInt faces.above faces.facesOf faces.uppersOf faces.faceOffsetsOf faces.neighborsOf faces.standsAt faces.diagonalsOf pattern.howMany pattern.those pattern.rowOf isPositive diagonalAsked updateOf lt dicOf pivotsOf pivotRow pivotFace reciprocalsOf isPivot isFinite askRows for iter tab ofBits sub mul div le
+unfolding floats ofInt faces.above faces.facesOf faces.uppersOf faces.faceOffsetsOf faces.neighborsOf faces.standsAt faces.diagonalsOf pattern.howMany pattern.those pattern.rowOf isPositive diagonalAsked kernelUpdateOf lt dicOf pivotsOf pivotRow pivotFace reciprocalsOf isPivot isFinite askRows for iter tab ofBits sub mul div le
 negative = refl
 
 -- a DIC sweep of P from zero
@@ -37,7 +37,7 @@ sweptByDic = do
 
 -- It solves P x = 2, 0.
 solved : sweptByDic ≡ accepted (one64 ∷ one64 ∷ [])
-unfolding floats ofInt faces.above faces.facesOf faces.uppersOf faces.faceOffsetsOf faces.neighborsOf faces.standsAt faces.diagonalsOf pattern.howMany pattern.those pattern.rowOf isPositive diagonalAsked updateOf lt dicOf pivotsOf pivotRow pivotFace reciprocalsOf isPivot isFinite askRows dicSweepOf lowerRow upperRow gatherFace castFace residualOf spreadOf spreadRow spreadFace for iter tab ofBits add sub mul div le
+unfolding floats ofInt faces.above faces.facesOf faces.uppersOf faces.faceOffsetsOf faces.neighborsOf faces.standsAt faces.diagonalsOf pattern.howMany pattern.those pattern.rowOf isPositive diagonalAsked kernelUpdateOf lt dicOf pivotsOf pivotRow pivotFace reciprocalsOf isPivot isFinite askRows dicSweepOf lowerRow upperRow gatherFace castFace residualOf spreadOf spreadRow spreadFace for iter tab ofBits add sub mul div le
 solved = refl
 
 -- No sweep asks nothing: x stays, finite or not.

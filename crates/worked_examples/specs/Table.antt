@@ -77,16 +77,19 @@ acceptedBits (refused q) = []
 
 -- ---- the matrices, each as a build takes it
 
--- the pattern of the path of 4 rows, of the path of 3, of the faces 0-1, 0-2, 2-3, and of two joined rows, each row with its diagonal
+-- the pattern of the path of 4 rows, each row with its diagonal
 abbrev pub path4 : Pattern
 path4 = record { rows = 4; offsets = 0 ∷ 2 ∷ 5 ∷ 8 ∷ 10 ∷ []; columns = 0 ∷ 1 ∷ 0 ∷ 1 ∷ 2 ∷ 1 ∷ 2 ∷ 3 ∷ 2 ∷ 3 ∷ [] }
 
+-- of the path of 3
 abbrev pub path3 : Pattern
 path3 = record { rows = 3; offsets = 0 ∷ 2 ∷ 5 ∷ 7 ∷ []; columns = 0 ∷ 1 ∷ 0 ∷ 1 ∷ 2 ∷ 1 ∷ 2 ∷ [] }
 
+-- of the faces 0-1, 0-2, 2-3
 abbrev pub tree4 : Pattern
 tree4 = record { rows = 4; offsets = 0 ∷ 3 ∷ 5 ∷ 8 ∷ 10 ∷ []; columns = 0 ∷ 1 ∷ 2 ∷ 0 ∷ 1 ∷ 0 ∷ 2 ∷ 3 ∷ 2 ∷ 3 ∷ [] }
 
+-- of two joined rows
 abbrev pub joined2 : Pattern
 joined2 = record { rows = 2; offsets = 0 ∷ 2 ∷ 4 ∷ []; columns = 0 ∷ 1 ∷ 0 ∷ 1 ∷ [] }
 
@@ -94,13 +97,14 @@ joined2 = record { rows = 2; offsets = 0 ∷ 2 ∷ 4 ∷ []; columns = 0 ∷ 1 �
 abbrev pub matrix : Pattern → List ℤ → Mesh
 matrix p v = record { pattern = p; values = floats v; weights = [] }
 
--- the paths of 4 and of 3 with diagonal 2 and off-diagonal −1
+-- the path of 4 with diagonal 2 and off-diagonal −1
 abbrev pub pathOf4 : Mesh
 pathOf4 =
     let d = pos 2 in
     let a = negℤ (pos 1) in
     matrix path4 (d ∷ a ∷ a ∷ d ∷ a ∷ a ∷ d ∷ a ∷ a ∷ d ∷ [])
 
+-- that of 3
 abbrev pub pathOf3 : Mesh
 pathOf3 =
     let d = pos 2 in
@@ -160,13 +164,15 @@ factors =
     let s = lastShape (P .pattern) in
     same (acceptedBits (choleskyOf 0 (csrOf s (P .values)) (length (s .links)) (s .links))) (bits (floats (pos 2 ∷ negℤ (pos 1) ∷ pos 1 ∷ []))) ∷ []
 
--- 0.25, 0.5 and 0.75 by their bits
+-- 0.25 by its bits
 abbrev pub quarterBits : ℕ
 quarterBits = 0x3fd0_0000_0000_0000
 
+-- 0.5
 abbrev pub halfBits : ℕ
 halfBits = 0x3fe0_0000_0000_0000
 
+-- 0.75
 abbrev pub threeQuarterBits : ℕ
 threeQuarterBits = 0x3fe8_0000_0000_0000
 
@@ -186,6 +192,7 @@ sweptP symmetric = do
   k ← kernelMade P
   accepted (gaussSeidelOf k symmetric (floats (pos 2 ∷ pos 0 ∷ [])) (filled 2 zero64) .x)
 
+-- they give 0.5, 0.5 and 0.75, 0.5
 abbrev pub gaussSeidel : List Bool
 gaussSeidel = same (acceptedBits (sweptP false)) (halfBits ∷ halfBits ∷ []) ∷ same (acceptedBits (sweptP true)) (threeQuarterBits ∷ halfBits ∷ []) ∷ []
 

@@ -15,7 +15,7 @@ use Rattle.store.proofs.store.Region.{wrote-at, wrote-off}
 use Rattle.vector.specs.declared.vector.Product.{Product}
 use Rattle.vector.specs.declared.vector.Product.the-variants.{Finite, NotFinite}
 use Rattle.vector.specs.Dot.{dotOf, productOf}
-use Rattle.acceleration.specs.Directions.{lessOf, stepOf, passOf}
+use Rattle.acceleration.specs.Directions.{lessOf, orthogonalTo, passOf}
 use Rattle.acceleration.specs.DirectionsContract.{pairAt, memoryAt, AxpyOk, Between, StepOk, Stepped, PassOk}
 
 -- ---- frames
@@ -49,8 +49,8 @@ module _ {F : List Float} {n p q direction image : ℕ} {d : Product} (ok : Step
   -- A finite product: both vectors are lessened.
   pub step-yes : {G H : List Float} {b : Float} → d ≡ Finite b → Wrote image n (lessOf n b (part q n F) (part image n F)) F G
       → Wrote direction n (lessOf n b (part p n G) (part direction n G)) G H
-      → Stepped n direction image (stepOf n (pairAt n p q F) (pairAt n direction image F)) F H true
-  unfolding stepOf
+      → Stepped n direction image (orthogonalTo n (pairAt n p q F) (pairAt n direction image F)) F H true
+  unfolding orthogonalTo
   step-yes t g h =
       let told = sym e ∙ t in
       let p₁ = wrote-off g p n (omega arith) in
@@ -68,8 +68,8 @@ module _ {F : List Float} {n p q direction image : ℕ} {d : Product} (ok : Step
       }
 
   -- One that is not: refused, and nothing is written.
-  pub step-no : d ≡ NotFinite → Stepped n direction image (stepOf n (pairAt n p q F) (pairAt n direction image F)) F F false
-  unfolding stepOf
+  pub step-no : d ≡ NotFinite → Stepped n direction image (orthogonalTo n (pairAt n p q F) (pairAt n direction image F)) F F false
+  unfolding orthogonalTo
   step-no t = let told = sym e ∙ t in record { is = rw told; frame = between-self }
 
 -- ---- the loop
@@ -119,15 +119,15 @@ module _ {F G : List Float} {n used index p₀ q₀ p q direction image : ℕ}
   unfolding memoryAt
   opened k e = rw e at (s .left)
 
-  module _ {H : List Float} {r : Bool} (d : Stepped n direction image (stepOf n (pairAt n p q G) (pairAt n direction image G)) G H r) where
-    stepped : ask r badDotProduct (accepted (pairAt n direction image H)) ≡ stepOf n (pairAt n p q F) (pairAt n direction image G)
+  module _ {H : List Float} {r : Bool} (d : Stepped n direction image (orthogonalTo n (pairAt n p q G) (pairAt n direction image G)) G H r) where
+    stepped : ask r badDotProduct (accepted (pairAt n direction image H)) ≡ orthogonalTo n (pairAt n p q F) (pairAt n direction image G)
     stepped = d .is ∙ rw (s .frame .below p n (passing-ok .ps), s .frame .below q n (passing-ok .qs))
 
     -- A pair that passes.
     pub passing-on : r ≡ true → Passing n used (index + 1) p₀ q₀ (p + n) (q + n) direction image F H
     unfolding passOf
     passing-on t =
-        let e : accepted (pairAt n direction image H) ≡ stepOf n (pairAt n p q F) (pairAt n direction image G) = rw t at stepped in
+        let e : accepted (pairAt n direction image H) ≡ orthogonalTo n (pairAt n p q F) (pairAt n direction image G) = rw t at stepped in
         record {
           left = rw (← e) at (opened (used - (index + 1)) next);
           frame = between-on (s .frame) (d .frame);
@@ -142,7 +142,7 @@ module _ {F G : List Float} {n used index p₀ q₀ p q direction image : ℕ}
         → Stepped n direction image (passOf n (memoryAt used n p₀ q₀ F) (pairAt n direction image F)) F H false
     unfolding passOf
     passing-no t =
-        let e : refused badDotProduct ≡ stepOf n (pairAt n p q F) (pairAt n direction image G) = rw t at stepped in
+        let e : refused badDotProduct ≡ orthogonalTo n (pairAt n p q F) (pairAt n direction image G) = rw t at stepped in
         record { is = rw (← e) at (opened (used - (index + 1)) next); frame = between-on (s .frame) (d .frame) }
 
 -- At the end nothing is left.

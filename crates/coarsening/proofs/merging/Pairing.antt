@@ -16,7 +16,7 @@ use Rattle.refusal.specs.Outcome.{accepted, refused}
 use Rattle.store.specs.Region.{idx, part, Kept}
 use Rattle.store.specs.Vector.{tab}
 use Rattle.store.proofs.store.Region.{length-part, getD-part, wrote-at, kept-wrote, kept-on, kept-less, kept-part}
-use Rattle.coefficients.specs.Update.{entryOf, Coefficients, updateOf, after}
+use Rattle.coefficients.specs.Update.{entryOf, Coefficients, kernelUpdateOf, after}
 use Rattle.aggregation.specs.declared.Graph.{Graph}
 use Rattle.aggregation.specs.Pairs.{InRange, pairsOf}
 use Rattle.aggregation.specs.Layout.{weightedAt, GraphOk, Paired}
@@ -160,7 +160,7 @@ module _ {w z : List ℕ} {floats : ℕ} {t : Workspace} {count most : ℕ} {s :
     -- The verdict on the rows is that on the kernel.
     kernel : {v : Verdict} → RowsAsked z F count most (t .diagonals) (t .«merged_values») level v
         → kernelAsked level mesh ≡ after v (accepted made)
-    unfolding updateOf
+    unfolding kernelUpdateOf
     kernel a = rw (r .owns) at (a .asked (accepted made))
 
     -- A row was refused.

@@ -8,24 +8,24 @@ use Rattle.store.specs.Vector.{tab}
 use Rattle.refusal.specs.Refusal.{badDiagonal, badReciprocal}
 use Rattle.refusal.specs.Outcome.{accepted, refused, askRows}
 use Rattle.matrix.proofs.matrix.Examples.{two, minusTwo, four, P}
-use Rattle.coefficients.specs.Update.{isPositive, diagonalAsked, updateOf}
+use Rattle.coefficients.specs.Update.{isPositive, diagonalAsked, kernelUpdateOf}
 
 -- The entries of P by rows.
 abbrev entries : List Float
 entries = four ∷ minusTwo ∷ minusTwo ∷ two ∷ []
 
 -- An update from them gives P's values again.
-updated : updateOf 0 2 (0 ∷ 3 ∷ []) (1 ∷ []) entries
+updated : kernelUpdateOf 0 2 (0 ∷ 3 ∷ []) (1 ∷ []) entries
     ≡ accepted (record { diagonal = P .diagonal; inverse = P .inverse; coefficients = P .coefficients })
-unfolding updateOf diagonalAsked isPositive isFinite askRows tab ofBits div lt
+unfolding kernelUpdateOf diagonalAsked isPositive isFinite askRows tab ofBits div lt
 updated = refl
 
 -- A zero on the diagonal of row 1 is refused by question 12.
-zeroDiagonal : updateOf 3 2 (0 ∷ 3 ∷ []) (1 ∷ []) (four ∷ minusTwo ∷ minusTwo ∷ zero64 ∷ []) ≡ refused (badDiagonal 3 1)
-unfolding updateOf diagonalAsked isPositive isFinite askRows tab ofBits div lt
+zeroDiagonal : kernelUpdateOf 3 2 (0 ∷ 3 ∷ []) (1 ∷ []) (four ∷ minusTwo ∷ minusTwo ∷ zero64 ∷ []) ≡ refused (badDiagonal 3 1)
+unfolding kernelUpdateOf diagonalAsked isPositive isFinite askRows tab ofBits div lt
 zeroDiagonal = refl
 
 -- The least number above zero has no finite reciprocal: question 13.
-tinyDiagonal : updateOf 3 2 (0 ∷ 3 ∷ []) (1 ∷ []) (four ∷ minusTwo ∷ minusTwo ∷ ofBits binary64 1 ∷ []) ≡ refused (badReciprocal 3 1)
-unfolding updateOf diagonalAsked isPositive isFinite askRows tab ofBits div lt
+tinyDiagonal : kernelUpdateOf 3 2 (0 ∷ 3 ∷ []) (1 ∷ []) (four ∷ minusTwo ∷ minusTwo ∷ ofBits binary64 1 ∷ []) ≡ refused (badReciprocal 3 1)
+unfolding kernelUpdateOf diagonalAsked isPositive isFinite askRows tab ofBits div lt
 tinyDiagonal = refl

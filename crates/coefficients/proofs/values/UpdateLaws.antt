@@ -24,7 +24,7 @@ use Rattle.store.proofs.store.Vector.{length-tab, getD-tab, tab-same, for-each}
 use Rattle.store.proofs.store.Each.{Tested, both-l, both-r, each-at, tested-start, tested-on, tested-done}
 use Rattle.matrix.specs.declared.matrix.SymmetricMatrix.{SymmetricMatrix}
 use Rattle.coefficients.specs.declared.values.entries.Entries.{Entries}
-use Rattle.coefficients.specs.Update.{isPositive, diagonalAsked, diagonalGood, entryOf, Coefficients, updateOf, updateWith, updateAt, FacesTaken, Within, Holds, UpdateOk, Updated, EntriesOk, GivenOk, pickTurn, Inverted, after, RowsTold, RowsAsked}
+use Rattle.coefficients.specs.Update.{isPositive, diagonalAsked, diagonalGood, entryOf, Coefficients, kernelUpdateOf, updateWith, updateAt, FacesTaken, Within, Holds, UpdateOk, Updated, EntriesOk, GivenOk, pickTurn, Inverted, after, RowsTold, RowsAsked}
 
 -- ---- the frame
 
@@ -287,7 +287,7 @@ module _ {level : ℕ} {w : List ℕ} (U : List Float) {F D G : List Float} {s :
 
   -- A row was refused.
   pub refuses : {q : Refusal} → v ≡ Verdict.Refused q → Updated w s (updateWith level s e w U) F G (Verdict.Refused q)
-  unfolding updateOf after
+  unfolding kernelUpdateOf after
   refuses {q} t =
       let no : updateWith level s e w U ≡ refused q = asked _ ∙ rw t in
       record { verdict = rw no; holds = λ k y. let z : _≡_ {A = ℕ} 0 1 = cc in absurd (omega arith); within = wide }
@@ -305,7 +305,7 @@ module _ {level : ℕ} {w : List ℕ} (U : List Float) {F D G : List Float} {s :
     }
 
     told : updateWith level s e w U ≡ accepted made
-    unfolding updateOf after
+    unfolding kernelUpdateOf after
     told = asked _ ∙ rw t
 
     -- Since then the rows were left alone, and the faces' values stand.

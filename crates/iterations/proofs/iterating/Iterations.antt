@@ -19,7 +19,8 @@ use Rattle.refusal.proofs.Outcome.{then-accepted, then-refused, accepted-one}
 use Rattle.iterations.specs.declared.stepping.Regions.{Regions}
 use Rattle.iterations.specs.declared.stepping.Step.{Step}
 use Rattle.iterations.specs.Iteration.{State, stepOf}
-use Rattle.iterations.specs.Steps.{systemAt, Ready, StepOk, stateAt, stepAt, StepDone}
+use Rattle.iterations.specs.System.{systemAt}
+use Rattle.iterations.specs.Steps.{Ready, StepOk, stateAt, stepAt, StepDone}
 use Rattle.iterations.proofs.stepping.Placing.{vectors, system-kept}
 use Rattle.solver.specs.declared.answers.Solved.{Solved}
 use Rattle.solver.specs.Solver.{reportOf}

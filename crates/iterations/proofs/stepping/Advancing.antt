@@ -32,8 +32,9 @@ use Rattle.cycle.specs.Cycle.{Cycled, cycleOf}
 use Rattle.cycle.specs.Contract.{cycleAt, CycleOk, CycleDone}
 use Rattle.iterations.specs.declared.stepping.Regions.{Regions}
 use Rattle.iterations.specs.declared.stepping.Step.{Step}
-use Rattle.iterations.specs.Iteration.{System, State, measured, residualOf, movedOf, stepOf}
-use Rattle.iterations.specs.Steps.{systemAt, StepOk, VectorsOk, Renewed, Moved, moveOf, moveAt, afterOf, afterAt, stateAt, stepAt, AdvanceDone, StepDone}
+use Rattle.iterations.specs.Iteration.{System, State, measured, trueResidualOf, movedOf, stepOf}
+use Rattle.iterations.specs.System.{systemAt}
+use Rattle.iterations.specs.Steps.{StepOk, VectorsOk, Renewed, Moved, moveOf, moveAt, afterOf, afterAt, stateAt, stepAt, AdvanceDone, StepDone}
 use Rattle.iterations.proofs.stepping.Moving.{memory-kept}
 use Rattle.iterations.proofs.stepping.Placing.{vectors, move-ok, cycle-ok, rows-is, correction-is, system-kept, kernel-is, kernel-rows}
 
@@ -121,7 +122,7 @@ module _ {h : Handle} {w : List ℕ} (F : List Float) {g : Regions} {used : ℕ}
       kept = let l = vectors (ok .ready) in kept-on (m .floats) (kept-less (v .floats) (omega arith))
 
       -- The residual is that of the moved solution.
-      residual-is : (factor : Float) → part (g .residual) n H ≡ residualOf y rhs factor (s .solution)
+      residual-is : (factor : Float) → part (g .residual) n H ≡ trueResidualOf y rhs factor (s .solution)
       residual-is factor =
           let l = vectors (ok .ready) in
           let x : part (g .solution) n G ≡ s .solution = m .solved s taken in
@@ -150,8 +151,8 @@ module _ {h : Handle} {w : List ℕ} (F : List Float) {g : Regions} {used : ℕ}
           let memory : memoryAt stored n (g .directions) (g .images) H ≡ s .memory =
           memory-kept stored n (g .directions) (g .images) (v .floats) (omega arith) (omega arith) ∙ old in
           then-accepted (movedOf _ _ _ _ _ _ _) _ (moved-is factor ∙ taken)
-          ∙ ap (λ (k : ℕ). finished h factor counts k (s .solution) (residualOf y rhs factor (s .solution)) (s .memory)) (kernel-rows (ok .ready) F)
-          ∙ ap (λ (x : List Float). finished h factor counts n x (residualOf y rhs factor (s .solution)) (s .memory)) (sym x)
+          ∙ ap (λ (k : ℕ). finished h factor counts k (s .solution) (trueResidualOf y rhs factor (s .solution)) (s .memory)) (kernel-rows (ok .ready) F)
+          ∙ ap (λ (x : List Float). finished h factor counts n x (trueResidualOf y rhs factor (s .solution)) (s .memory)) (sym x)
           ∙ ap (λ (r : List Float). finished h factor counts n (part (g .solution) n H) r (s .memory)) (sym (residual-is factor))
           ∙ ap (finished h factor counts n (part (g .solution) n H) (part (g .residual) n H)) (sym memory)
 

@@ -24,7 +24,8 @@ use Rattle.cycle.specs.Contract.{CycleOk}
 use Rattle.cycle.proofs.Ways.{scratch-to, walk-to}
 use Rattle.iterations.specs.declared.stepping.Regions.{Regions}
 use Rattle.iterations.specs.Iteration.{kernelFirst}
-use Rattle.iterations.specs.Steps.{systemAt, regionsAt, Opened, Ready, VectorsOk, MoveOk}
+use Rattle.iterations.specs.System.{systemAt}
+use Rattle.iterations.specs.Steps.{regionsAt, Opened, Ready, VectorsOk, MoveOk}
 
 -- The scratch before the cycle's: two vectors, and those of the memory.
 memory-is : (krylov n : ℕ) → (2 + 2 * krylov) * n ≡ 2 * n + 2 * (krylov * n)

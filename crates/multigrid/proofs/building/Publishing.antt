@@ -22,7 +22,7 @@ use Rattle.solver.specs.declared.statistics.MultigridLevelStatistics.{Multigrid
 use Rattle.solver.specs.Statistics.{unvisited}
 use Rattle.statistics.specs.Contract.{Published}
 use Rattle.build.specs.Contract.{lentOf}
-use Rattle.multigrid.specs.New.{freshOf, statisticsOf, NewDone}
+use Rattle.multigrid.specs.New.{unvisitedLevels, statisticsOf, NewDone}
 use Rattle.multigrid.specs.Contract.{cellsOf, tableOf, tableBuilt, BuildRan}
 use Rattle.multigrid.proofs.building.Builds.{levels-few}
 
@@ -62,8 +62,8 @@ module _ {A : Type 0} where
 -- ---- the records
 
 -- The statistics of levels are as many as the levels,
-fresh-long : (levels : List Level) → length (freshOf levels) ≡ length levels
-unfolding freshOf
+fresh-long : (levels : List Level) → length (unvisitedLevels levels) ≡ length levels
+unfolding unvisitedLevels
 fresh-long [] = refl
 fresh-long (l ∷ levels) = omega (arith, fresh-long levels)
 
@@ -74,36 +74,36 @@ cells-long [] = refl
 cells-long (l ∷ levels) = omega (arith, cells-long levels)
 
 -- which these tell.
-fresh-at : (levels : List Level) (i : ℕ) → getD (freshOf levels) i (unvisited 0) ≡ unvisited (getD (cellsOf levels) i 0)
-unfolding freshOf cellsOf
+fresh-at : (levels : List Level) (i : ℕ) → getD (unvisitedLevels levels) i (unvisited 0) ≡ unvisited (getD (cellsOf levels) i 0)
+unfolding unvisitedLevels cellsOf
 fresh-at [] i = refl
 fresh-at (l ∷ levels) zero = refl
 fresh-at (l ∷ levels) (suc i) = fresh-at levels i
 
 -- The records of levels and zeros behind them are those that the table tells.
 laid-at : (levels : List Level) (n i : ℕ) → length levels ≤ n → length levels ≤ 128
-    → getD (lay (freshOf levels) (filled n (unvisited 0))) i (unvisited 0) ≡ unvisited (getD (tableOf (cellsOf levels)) i 0)
+    → getD (lay (unvisitedLevels levels) (filled n (unvisited 0))) i (unvisited 0) ≡ unvisited (getD (tableOf (cellsOf levels)) i 0)
 laid-at levels n i room few = go (le-or-lt (length levels) i)
   where
     go : (length levels ≤ i) ⊎ (i < length levels)
-        → getD (lay (freshOf levels) (filled n (unvisited 0))) i (unvisited 0) ≡ unvisited (getD (tableOf (cellsOf levels)) i 0)
+        → getD (lay (unvisitedLevels levels) (filled n (unvisited 0))) i (unvisited 0) ≡ unvisited (getD (tableOf (cellsOf levels)) i 0)
     go (inl past) =
         let long = fresh-long levels in
         let wide = cells-long levels in
-        get-behind (freshOf levels) (filled n (unvisited 0)) i (unvisited 0) (omega arith) ∙ get-filled n i (unvisited 0)
+        get-behind (unvisitedLevels levels) (filled n (unvisited 0)) i (unvisited 0) (omega arith) ∙ get-filled n i (unvisited 0)
         ∙ sym (ap unvisited (get-behind (cellsOf levels) (filled 128 0) i 0 (omega arith) ∙ get-filled 128 i 0))
     go (inr here) =
         let long = fresh-long levels in
         let wide = cells-long levels in
         let n-long = length-tab (λ _. unvisited 0) n in
         let most = length-tab {A = ℕ} (λ _. 0) 128 in
-        get-laid (freshOf levels) (filled n (unvisited 0)) i (unvisited 0) (omega arith) (omega arith) ∙ fresh-at levels i
+        get-laid (unvisitedLevels levels) (filled n (unvisited 0)) i (unvisited 0) (omega arith) (omega arith) ∙ fresh-at levels i
         ∙ sym (ap unvisited (get-laid (cellsOf levels) (filled 128 0) i 0 (omega arith) (omega arith)))
 
 -- A build leaves as many records as there were.
 pub build-length : (n : ℕ) (out : Outcome Hierarchy) → length (statisticsOf n out) ≡ n
 unfolding statisticsOf
-build-length n (accepted h) = length-lay (freshOf (h .levels)) (filled n (unvisited 0)) ∙ length-tab (λ _. unvisited 0) n
+build-length n (accepted h) = length-lay (unvisitedLevels (h .levels)) (filled n (unvisited 0)) ∙ length-tab (λ _. unvisited 0) n
 build-length n (refused q) = length-tab (λ _. unvisited 0) n
 
 -- They are those that the table of the build tells.

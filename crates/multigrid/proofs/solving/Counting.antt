@@ -25,7 +25,8 @@ use Rattle.statistics.specs.Contract.{CountOk, CountDone}
 use Rattle.solver.specs.declared.statistics.MultigridLevelStatistics.{MultigridLevelStatistics}
 use Rattle.solver.specs.Statistics.{unvisited, countedAt, countedOn}
 use Rattle.statistics.specs.Contract.{CountedUp}
-use Rattle.solve.specs.Contract.{solvedAt, levelsCounted}
+use Rattle.solve.specs.Solved.{solvedAt}
+use Rattle.solve.specs.Contract.{levelsCounted}
 use Rattle.solve.proofs.Solving.{opened-of}
 use Rattle.multigrid.specs.SolvingCall.{solvedOf, recordsOf, SolveCall}
 use Rattle.multigrid.specs.Contract.{SolveRan}

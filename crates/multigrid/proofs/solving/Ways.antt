@@ -18,7 +18,8 @@ use Rattle.layout.specs.Layout.{viewOf}
 use Rattle.index_check.specs.Sound.{soundOf, scratchStart}
 use Rattle.iterations.specs.Steps.{Opened}
 use Rattle.solver.specs.declared.answers.SolveRun.{SolveRun}
-use Rattle.solve.specs.Contract.{solvedAt, refusedRun, SolveDone}
+use Rattle.solve.specs.Solved.{solvedAt}
+use Rattle.solve.specs.Contract.{refusedRun, SolveDone}
 use Rattle.solve.proofs.Solving.{opened-of}
 use Rattle.update.proofs.shadow.Moving.{view-stays}
 use Rattle.multigrid.specs.SolvingCall.{solvedOf}

@@ -14,7 +14,7 @@ use lib.ListN.{length}
 use Rattle.store.specs.Region.{idx}
 use Rattle.store.proofs.store.Region.{le-or-lt}
 use Rattle.store.proofs.store.Vector.{length-tab, getD-tab}
-use Rattle.pattern.specs.Pattern.{Pattern, entries, columnOf, rowOf, Valid, Rising, Mirrored, Diagonal, startOf, placeOf, joinsBy, joins, coarseOffsets, coarseColumns, coarsePositions, coarse, Maps, Onto}
+use Rattle.pattern.specs.Pattern.{Pattern, entries, columnOf, rowOf, Valid, Rising, Mirrored, Diagonal, startOf, columnPlaceOf, joinsBy, joins, coarseOffsets, coarseColumns, coarsePositions, coarse, Maps, Onto}
 use Rattle.pattern.proofs.pattern.Place.{start-zero, start-mono, start-which, place-in, place-below, place-mono, place-which, place-exactly, length-columns, columns-at}
 use Rattle.pattern.proofs.pattern.Row.{row-is, joins-at, joins-below, joins-mirror, joins-few}
 
@@ -35,13 +35,13 @@ module _ (p : Pattern) (map : List ℕ) (count : ℕ) where
 
   -- The column of a joined pair stands at its place.
   pub coarse-column : (a b : ℕ) → a < count → b < count → joins p map a b ≡ true
-      → columnOf (coarse p map count) (placeOf count (joins p map) a b) ≡ b
+      → columnOf (coarse p map count) (columnPlaceOf count (joins p map) a b) ≡ b
   unfolding coarseColumns
   coarse-column a b h l t = columns-at count (joins p map) a b h l t
 
   -- Each coarse entry is the place of a joined pair.
   pub coarse-which : (q : ℕ) → q < entries (coarse p map count)
-      → (a : ℕ) × (b : ℕ) × (a < count) × (b < count) × (joins p map a b ≡ true) × (q ≡ placeOf count (joins p map) a b)
+      → (a : ℕ) × (b : ℕ) × (a < count) × (b < count) × (joins p map a b ≡ true) × (q ≡ columnPlaceOf count (joins p map) a b)
   coarse-which q h =
       let w = start-which count (joins p map) q (rw coarse-size at h) in
       let u = place-which count (joins p map) (w .0) q (w .2) (w .3) in
@@ -64,16 +64,16 @@ module _ (p : Pattern) (map : List ℕ) (count : ℕ) where
 
   -- The row of a joined pair's place is the pair's.
   pub coarse-row : (a b : ℕ) → a < count → b < count → joins p map a b ≡ true
-      → rowOf (coarse p map count) (placeOf count (joins p map) a b) ≡ a
+      → rowOf (coarse p map count) (columnPlaceOf count (joins p map) a b) ≡ a
   coarse-row a b h l t =
       let i = place-in count (joins p map) a b l t in
-      row-is coarse-valid a (placeOf count (joins p map) a b) h (rw (offsets-at a (omega arith)) (i .0))
+      row-is coarse-valid a (columnPlaceOf count (joins p map) a b) h (rw (offsets-at a (omega arith)) (i .0))
       (rw (offsets-at (a + 1) (omega arith), add-one a) (i .1))
 
   -- Each coarse entry joins its row to its column, and stands at their place.
   pub coarse-joined : (q : ℕ) → q < entries (coarse p map count)
       → (joins p map (rowOf (coarse p map count) q) (columnOf (coarse p map count) q) ≡ true) ×
-      (q ≡ placeOf count (joins p map) (rowOf (coarse p map count) q) (columnOf (coarse p map count) q))
+      (q ≡ columnPlaceOf count (joins p map) (rowOf (coarse p map count) q) (columnOf (coarse p map count) q))
   coarse-joined q h =
       let w = coarse-which q h in
       let r : rowOf (coarse p map count) q ≡ w .0 = ap (rowOf (coarse p map count)) (w .5)
@@ -89,8 +89,8 @@ module _ (p : Pattern) (map : List ℕ) (count : ℕ) where
         let a = rowOf (coarse p map count) (e + 1) in
         let b = columnOf (coarse p map count) e in
         let d = columnOf (coarse p map count) (e + 1) in
-        let u : e ≡ placeOf count (joins p map) a b = rw same at (coarse-joined e (omega arith) .1) in
-        let v : e + 1 ≡ placeOf count (joins p map) a d = coarse-joined (e + 1) h .1 in
+        let u : e ≡ columnPlaceOf count (joins p map) a b = rw same at (coarse-joined e (omega arith) .1) in
+        let v : e + 1 ≡ columnPlaceOf count (joins p map) a d = coarse-joined (e + 1) h .1 in
         ⊎-elim (λ (w : d ≤ b). let m = place-mono count (joins p map) a d b w in absurd (omega arith))
         (λ (w : b < d). w) (le-or-lt d b);
   }
@@ -102,7 +102,7 @@ module _ (p : Pattern) (map : List ℕ) (count : ℕ) where
         (columnOf (coarse p map count) q ≡ b)
     coarse-entry a b t =
         let l = joins-below p map valid maps a b t in (
-          placeOf count (joins p map) a b,
+          columnPlaceOf count (joins p map) a b,
           rw coarse-size (place-below count (joins p map) a b (l .0) (l .1) t),
           coarse-row a b (l .0) (l .1) t,
           coarse-column a b (l .0) (l .1) t,
@@ -129,10 +129,10 @@ module _ (p : Pattern) (map : List ℕ) (count : ℕ) where
     -- ---- positions
 
     -- The position of a fine entry is the place of the pair that it joins.
-    pub position-is : (e : ℕ) → e < entries p → idx (coarsePositions p map count) e ≡ placeOf count (joins p map)
+    pub position-is : (e : ℕ) → e < entries p → idx (coarsePositions p map count) e ≡ columnPlaceOf count (joins p map)
         (idx map (rowOf p e)) (idx map (columnOf p e))
     unfolding coarsePositions
-    position-is e h = getD-tab (λ e. placeOf count (joins p map) (idx map (rowOf p e)) (idx map (columnOf p e)))
+    position-is e h = getD-tab (λ e. columnPlaceOf count (joins p map) (idx map (rowOf p e)) (idx map (columnOf p e)))
         (entries p) e 0 h
 
     -- Positions are below the number of coarse entries.
@@ -154,7 +154,7 @@ module _ (p : Pattern) (map : List ℕ) (count : ℕ) where
         let u = coarse-joined q l in
         let d = joins-below p map valid maps (rowOf (coarse p map count) q) (columnOf (coarse p map count) q) (u .0) in
         ap (eqb (idx (coarsePositions p map count) e)) (u .1)
-        ∙ ap (λ (x : ℕ). eqb x (placeOf count (joins p map) (rowOf (coarse p map count) q)
+        ∙ ap (λ (x : ℕ). eqb x (columnPlaceOf count (joins p map) (rowOf (coarse p map count) q)
         (columnOf (coarse p map count) q))) (position-is e h)
         ∙ place-exactly count (joins p map) (idx map (rowOf p e)) (idx map (columnOf p e))
         (rowOf (coarse p map count) q) (columnOf (coarse p map count) q) (b .1) t (d .1) (u .0)

@@ -16,7 +16,7 @@ use Rattle.refusal.specs.declared.Verdict.{Verdict}
 use Rattle.refusal.specs.Outcome.{Outcome, accepted, refused, verdictOf, isRefused, _>>=_}
 use Rattle.refusal.proofs.Outcome.{then-accepted, then-refused, verdict-passed, accepted-one, then-then, never}
 use Rattle.matrix.specs.Kernel.{kernelAt}
-use Rattle.coefficients.specs.Update.{Coefficients, updateOf, updateWith, Updated}
+use Rattle.coefficients.specs.Update.{Coefficients, kernelUpdateOf, updateWith, Updated}
 use Rattle.coefficients.proofs.values.UpdateLaws.{within-kept}
 use Rattle.dic.specs.Dic.{settled, Settled}
 use Rattle.cholesky.specs.Triangle.{tri}
@@ -76,7 +76,7 @@ module _ {w : List ℕ} (F : List Float) {p : Place} {last : Bool} {coupled : �
     asked-is =
         let last : idx w (p .starts + p .rows) ≡ p .faces = ok .faces in
         ap (λ (s : Outcome Unit). _>>=_ s (λ _. updateWith level (kernelIn p) (entriesIn p) w values)) (sym stands-same)
-        ∙ ap (λ (n : ℕ). _>>=_ (diagonalsStand level own) (λ _. updateOf level (p .rows) (part (p .diagonals) (p .rows) w) (part (p .uppers) n w) values)) last
+        ∙ ap (λ (n : ℕ). _>>=_ (diagonalsStand level own) (λ _. kernelUpdateOf level (p .rows) (part (p .diagonals) (p .rows) w) (part (p .uppers) n w) values)) last
 
     -- The level is these and those after them.
     whole : levelRenewed o last coupled level w values p ≡ _>>=_ asked rest
