@@ -17,7 +17,7 @@ use Rattle.options.specs.declared.options.MultigridCoarseSolver.{MultigridCoars
 use Rattle.options.specs.Options.{defaultOptions, within, tolerable, validOf, controlsAsked}
 use Rattle.solver.specs.declared.answers.Built.{Built}
 use Rattle.export.specs.Flat.{isSet, smootherOf, residualNormOf, coarseSolverOf}
-use Rattle.export.specs.Structs.{inRange, controlsOf, handleFrom, smootherNumber, residualNormNumber, coarseSolverNumber, structOf, withCholesky, defaultStruct, builtStruct}
+use Rattle.export.specs.Structs.{inRange, controlsOf, handleOf, smootherNumber, residualNormNumber, coarseSolverNumber, structOf, withCholesky, defaultStruct, builtStruct}
 use Rattle.export.specs.declared.structs.OptionsForC.{OptionsForC}
 
 -- ---- out of range
@@ -109,6 +109,6 @@ unfolding defaultOptions validOf isFinite round ofBits lt
 defaults-pass = rw defaults-back
 
 -- The struct that a build answers with stands for the handle of that build.
-pub handle-back : (o : OptionsForC) (h : Handle) → h .options ≡ controlsOf o → handleFrom (builtStruct o (Built.Made h) .hierarchy) ≡ h
-unfolding handleFrom
+pub handle-back : (o : OptionsForC) (h : Handle) → h .options ≡ controlsOf o → handleOf (builtStruct o (Built.Made h) .hierarchy) ≡ h
+unfolding handleOf
 handle-back o h e = rw (← e)

@@ -43,8 +43,8 @@ controlsOf o =
     (o .«coarse_absolute_tolerance») (o .«coarse_relative_tolerance») (o .«coarse_max_iterations») (o .«scale_correction»)
 
 -- the handle that a struct stands for
-unfoldable pub handleFrom : HierarchyForC → Handle
-handleFrom h = record { options = controlsOf (h .options); levels = h .levels; rows = h .rows; entries = h .entries }
+unfoldable pub handleOf : HierarchyForC → Handle
+handleOf h = record { options = controlsOf (h .options); levels = h .levels; rows = h .rows; entries = h .entries }
 
 -- ---- controls as a struct
 

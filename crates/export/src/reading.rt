@@ -1,6 +1,6 @@
 // What C hands over, read: controls and handle.
 ghost use mathlib.Core.Path.{_≡_};
-ghost use Rattle.export.specs.Structs.{inRange, levelsAllowed, controlsOf, handleFrom, limitsOf};
+ghost use Rattle.export.specs.Structs.{inRange, levelsAllowed, controlsOf, handleOf, limitsOf};
 use crate::controls::coarse_solver_of;
 use crate::controls::residual_norm_of;
 use crate::controls::smoother_of;
@@ -50,7 +50,7 @@ pub fn read_options(o: OptionsForC) -> MultigridOptions
 
 // The handle of a struct.
 pub fn read_handle(h: HierarchyForC) -> Handle
-    ensures { λ r. ⌜ r ≡ handleFrom h ⌝ }
+    ensures { λ r. ⌜ r ≡ handleOf h ⌝ }
 {
     let given = h.options;
     Handle {

@@ -16,7 +16,7 @@ use Rattle.hierarchy.specs.Build.{Lent, Input, patternIn, buildOf}
 use Rattle.index_check.specs.Sound.{handleSound, soundOf}
 use Rattle.export.specs.declared.structs.OptionsForC.{OptionsForC}
 use Rattle.export.specs.declared.structs.HierarchyForC.{HierarchyForC}
-use Rattle.export.specs.Structs.{inRange, controlsOf, handleFrom}
+use Rattle.export.specs.Structs.{inRange, controlsOf, handleOf}
 use Rattle.export.proofs.Back.{out-of-range-invalid}
 
 -- questions 1 to 5 of a build, and then a refusal by 6
@@ -35,6 +35,6 @@ build-out-of-range l x o is e =
 
 -- A handle with such options is that of no stores.
 pub handle-out-of-range : (h : HierarchyForC) (w : List ℕ) (size records : ℕ) → inRange (h .options) ≡ false
-    → soundOf (handleFrom h) w size records ≡ false
-unfolding handleFrom soundOf handleSound
+    → soundOf (handleOf h) w size records ≡ false
+unfolding handleOf soundOf handleSound
 handle-out-of-range h w size records e = rw (out-of-range-invalid (h .options) e)
