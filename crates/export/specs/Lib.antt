@@ -1,3 +1,2 @@
 pub mod Flat
 pub mod Structs
-pub mod Told

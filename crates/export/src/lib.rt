@@ -1,14 +1,9 @@
-// Controls and answers as they cross to C: as structs by value, and as numbers.
-pub mod answers;
+// Controls and answers as they cross to C, as structs by value; and controls as numbers, for programs.
 pub mod controls;
 pub mod reading;
 pub mod structs;
 pub mod telling;
 
-pub use answers::tell;
-pub use answers::tell_count;
-pub use answers::tell_solve;
-pub use answers::tell_update;
 pub use controls::options_of;
 pub use controls::residual_norm_of;
 pub use controls::smoother_of;

@@ -1,147 +1,128 @@
-// `update_values` and `solve` for C. The handle crosses as its levels, rows and entries, and its controls.
-ghost use Prim.Native.Nat.{_≤_};
+// The five calls for C.
+ghost use mathlib.Core.Path.{_≡_};
+ghost use mathlib.Core.Bool.{true, false};
+ghost use mathlib.Core.List.{[]};
 ghost use lib.ListN.{length};
-ghost use Rattle.export.specs.Flat.{optionsOf};
-ghost use Rattle.multigrid_c.specs.Exported.{handleIn, solverIn, ExportedUpdate, ExportedSolve};
-use options::Handle;
-use solver::LinearSolverOptions;
+ghost use Rattle.build.specs.Steps.{inputOf};
+ghost use Rattle.export.specs.Structs.{controlsOf, handleOf, limitsOf};
+ghost use Rattle.multigrid_c.specs.Exported.{BuildExported, UpdateExported, SolveExported, CountExported};
+use export::AnswerForC;
+use export::BuiltForC;
+use export::CountForC;
+use export::HierarchyForC;
+use export::OptionsForC;
+use export::ReportForC;
+use multigrid::update_values;
+use solver::MultigridLevelStatistics;
 
+// `new`: rows are paired by the values.
+#[no_mangle]
+pub extern "C" fn multigrid_new(
+    rows: usize,
+    offsets: &[u32],
+    columns: &[u32],
+    values: &[f64],
+    options: OptionsForC,
+    words: &mut [u32],
+    floats: &mut [f64],
+    statistics: &mut [MultigridLevelStatistics],
+) -> BuiltForC
+    ensures { λ r. ⌜ BuildExported (now (words .entry)) (now (words .exit)) (now (floats .entry)) (now (floats .exit)) (now (statistics .entry)) (now (statistics .exit)) (inputOf rows (now (offsets .entry)) (now (columns .entry)) (now (values .entry)) false [] (controlsOf options)) options r ⌝ }
+{
+    let controls = export::read_options(options);
+    let built = multigrid::new(
+        rows,
+        offsets,
+        columns,
+        values,
+        controls,
+        words,
+        floats,
+        statistics,
+    );
+    export::tell_built(options, built)
+}
+
+// `new_with_face_weights`: rows are paired by weights that are given.
+#[no_mangle]
+pub extern "C" fn multigrid_new_with_face_weights(
+    rows: usize,
+    offsets: &[u32],
+    columns: &[u32],
+    values: &[f64],
+    face_weights: &[f64],
+    options: OptionsForC,
+    words: &mut [u32],
+    floats: &mut [f64],
+    statistics: &mut [MultigridLevelStatistics],
+) -> BuiltForC
+    ensures { λ r. ⌜ BuildExported (now (words .entry)) (now (words .exit)) (now (floats .entry)) (now (floats .exit)) (now (statistics .entry)) (now (statistics .exit)) (inputOf rows (now (offsets .entry)) (now (columns .entry)) (now (values .entry)) true (now («face_weights» .entry)) (controlsOf options)) options r ⌝ }
+{
+    let controls = export::read_options(options);
+    let built = multigrid::new_with_face_weights(
+        rows,
+        offsets,
+        columns,
+        values,
+        face_weights,
+        controls,
+        words,
+        floats,
+        statistics,
+    );
+    export::tell_built(options, built)
+}
+
+// `update_values`, of a handle that the struct stands for, whatever it holds.
 #[no_mangle]
 pub extern "C" fn multigrid_update_values(
-    levels: u64,
-    rows: u64,
-    entries: u64,
-    smoother: u8,
-    residual_norm: u8,
-    pre_sweeps: u64,
-    post_sweeps: u64,
-    finest_sweeps: u64,
-    sweep_level_multiplier: u64,
-    max_sweeps: u64,
-    coarsest_cells: u64,
-    max_levels: u64,
-    merge_levels: u64,
-    krylov_dimension: u64,
-    coarse_solver: u8,
-    coarse_absolute_tolerance: f64,
-    coarse_relative_tolerance: f64,
-    coarse_max_iterations: u64,
-    scale_correction: u8,
+    hierarchy: HierarchyForC,
     offsets: &[u32],
     columns: &[u32],
     values: &[f64],
     words: &[u32],
     floats: &mut [f64],
-    statistics: &[u64],
-    place: &mut [u64],
-) -> u64
-    requires { ⌜ 3 ≤ length (now place) ⌝ }
-    ensures { λ r. ⌜ ExportedUpdate (handleIn levels rows entries (optionsOf smoother «residual_norm» «pre_sweeps» «post_sweeps» «finest_sweeps» «sweep_level_multiplier» «max_sweeps» «coarsest_cells» «max_levels» «merge_levels» «krylov_dimension» «coarse_solver» «coarse_absolute_tolerance» «coarse_relative_tolerance» «coarse_max_iterations» «scale_correction»))
-        (now (words .entry)) (now (floats .entry)) (now (floats .exit)) (now (statistics .entry))
-        (now (offsets .entry)) (now (columns .entry)) (now (values .entry)) (now (place .entry)) (now (place .exit)) r ⌝ }
+    statistics: &[MultigridLevelStatistics],
+) -> AnswerForC
+    ensures { λ r. ⌜ UpdateExported (handleOf hierarchy) (now (words .entry)) (now (floats .entry)) (now (floats .exit)) (length (now (statistics .entry))) (now (offsets .entry)) (now (columns .entry)) (now (values .entry)) r ⌝ }
 {
-    let options = export::options_of(
-        smoother,
-        residual_norm,
-        pre_sweeps,
-        post_sweeps,
-        finest_sweeps,
-        sweep_level_multiplier,
-        max_sweeps,
-        coarsest_cells,
-        max_levels,
-        merge_levels,
-        krylov_dimension,
-        coarse_solver,
-        coarse_absolute_tolerance,
-        coarse_relative_tolerance,
-        coarse_max_iterations,
-        scale_correction,
-    );
-    let handle = Handle {
-        options: options,
-        levels: levels,
-        rows: rows,
-        entries: entries,
-    };
-    export::tell_update(
-        multigrid::update_values(handle, offsets, columns, values, words, floats, statistics),
-        place,
-    )
+    let handle = export::read_handle(hierarchy);
+    let updated = update_values(handle, offsets, columns, values, words, floats, statistics);
+    export::tell_updated(updated)
 }
 
+// `solve`, of a handle that the struct stands for, whatever it holds.
 #[no_mangle]
 pub extern "C" fn multigrid_solve(
-    levels: u64,
-    rows: u64,
-    entries: u64,
-    smoother: u8,
-    residual_norm: u8,
-    pre_sweeps: u64,
-    post_sweeps: u64,
-    finest_sweeps: u64,
-    sweep_level_multiplier: u64,
-    max_sweeps: u64,
-    coarsest_cells: u64,
-    max_levels: u64,
-    merge_levels: u64,
-    krylov_dimension: u64,
-    coarse_solver: u8,
-    coarse_absolute_tolerance: f64,
-    coarse_relative_tolerance: f64,
-    coarse_max_iterations: u64,
-    scale_correction: u8,
+    hierarchy: HierarchyForC,
     words: &[u32],
     floats: &mut [f64],
-    statistics: &mut [u64],
+    statistics: &mut [MultigridLevelStatistics],
     rhs: &[f64],
     x: &mut [f64],
     absolute_tolerance: f64,
     relative_tolerance: f64,
     max_iterations: u64,
-    place: &mut [u64],
-    residuals: &mut [f64],
-) -> u64
-    requires { ⌜ 3 ≤ length (now place) ⌝ }
-    requires { ⌜ 3 ≤ length (now residuals) ⌝ }
-    ensures { λ r. ⌜ ExportedSolve (handleIn levels rows entries (optionsOf smoother «residual_norm» «pre_sweeps» «post_sweeps» «finest_sweeps» «sweep_level_multiplier» «max_sweeps» «coarsest_cells» «max_levels» «merge_levels» «krylov_dimension» «coarse_solver» «coarse_absolute_tolerance» «coarse_relative_tolerance» «coarse_max_iterations» «scale_correction»))
-        (now (words .entry)) (now (floats .entry)) (now (floats .exit)) (now (statistics .entry)) (now (statistics .exit))
-        (now (rhs .entry)) (now (x .entry)) (now (x .exit))
-        (solverIn «absolute_tolerance» «relative_tolerance» «max_iterations»)
-        (now (place .entry)) (now (place .exit)) (now (residuals .entry)) (now (residuals .exit)) r ⌝ }
+) -> ReportForC
+    ensures { λ r. ⌜ SolveExported (handleOf hierarchy) (now (words .entry)) (now (floats .entry)) (now (floats .exit)) (now (statistics .entry)) (now (statistics .exit)) (now (rhs .entry)) (now (x .entry)) (now (x .exit)) (limitsOf «absolute_tolerance» «relative_tolerance» «max_iterations») r ⌝ }
 {
-    let options = export::options_of(
-        smoother,
-        residual_norm,
-        pre_sweeps,
-        post_sweeps,
-        finest_sweeps,
-        sweep_level_multiplier,
-        max_sweeps,
-        coarsest_cells,
-        max_levels,
-        merge_levels,
-        krylov_dimension,
-        coarse_solver,
-        coarse_absolute_tolerance,
-        coarse_relative_tolerance,
-        coarse_max_iterations,
-        scale_correction,
-    );
-    let handle = Handle {
-        options: options,
-        levels: levels,
-        rows: rows,
-        entries: entries,
-    };
-    let solver = LinearSolverOptions {
-        absolute_tolerance: absolute_tolerance,
-        relative_tolerance: relative_tolerance,
-        max_iterations: max_iterations,
-    };
-    export::tell_solve(
-        multigrid::solve(handle, words, floats, statistics, rhs, x, solver),
-        place,
-        residuals,
-    )
+    let handle = export::read_handle(hierarchy);
+    let limits = export::read_limits(absolute_tolerance, relative_tolerance, max_iterations);
+    let solved = multigrid::solve(handle, words, floats, statistics, rhs, x, limits);
+    export::tell_solved(solved)
+}
+
+// `statistics`, of a handle that the struct stands for, whatever it holds.
+#[no_mangle]
+pub extern "C" fn multigrid_statistics(
+    hierarchy: HierarchyForC,
+    words: &[u32],
+    floats: &[f64],
+    statistics: &[MultigridLevelStatistics],
+) -> CountForC
+    ensures { λ r. ⌜ CountExported (handleOf hierarchy) (now (words .entry)) (now (floats .entry)) (length (now (statistics .entry))) r ⌝ }
+{
+    let handle = export::read_handle(hierarchy);
+    let counted = multigrid::statistics(handle, words, floats, statistics);
+    export::tell_counted(counted)
 }

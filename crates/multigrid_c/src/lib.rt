@@ -1,7 +1,5 @@
-// The calls of `multigrid` for C: numbers and slices only, a slice as a pointer and a length.
+// The calls of `multigrid` for C: numbers, slices as a pointer and a length, and structs by value. Each reads its structs, makes one call
+// and tells the answer; none has a precondition.
 // include/multigrid.h and rust/src/calls.rs declare the same functions.
-mod by_values;
-mod by_weights;
 mod calls;
-mod counts;
 mod sizes;
