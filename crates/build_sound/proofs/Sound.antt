@@ -21,7 +21,7 @@ use Rattle.hierarchy.specs.Build.{holds, Lent, Input, patternIn, meshIn, buildO
 use Rattle.hierarchy.proofs.Accepted.{fixedIn, chargeIn, Built, build-built}
 use Rattle.hierarchy.proofs.Depth.{levels-kept, build-levels}
 use Rattle.layout.specs.Layout.{rowsAt, lastAt, entriesAt, wordsEnd, floatsEnd, levelsAt, wordsFit, viewOf}
-use Rattle.build.specs.Contract.{handleOf}
+use Rattle.build.specs.Built.{handleOf}
 use Rattle.index_check.specs.declared.sound.Walk.{Walk}
 use Rattle.index_check.specs.Sound.{headSound, shapeIn, arraysSound, rowPlaced, targetsOf, sumsOf, walkOf, isSound, scratchEnd, cycleStart, handleSound, soundOf}
 use Rattle.index_check.proofs.sound.Walks.{endsOf, head-fits, level-walked, walk-closed, walk-none}

@@ -34,8 +34,8 @@ use Rattle.solver.specs.declared.answers.Solved.{Solved}
 use Rattle.solver.specs.declared.statistics.MultigridLevelStatistics.{MultigridLevelStatistics}
 use Rattle.solver.specs.declared.answers.Updated.{Updated}
 use Rattle.update.specs.Shadow.{imageOf}
-use Rattle.update.specs.Contract.{updatedAt, hierarchyOf}
-use Rattle.update.specs.Contract as updating
+use Rattle.update.specs.Updated.{updatedAt, hierarchyOf}
+use Rattle.update.specs.Updated as updating
 use Rattle.multigrid.specs.UpdatingCall.{updatedOf, UpdateCall}
 use Rattle.multigrid.specs.SolvingCall.{solvedOf, recordsOf, SolveCall}
 use Rattle.multigrid.specs.CountingCall.{countedOf}
@@ -106,7 +106,7 @@ module _ (h : Handle) {w w' : List ℕ} {F F' : List Float} (a : Agree (h .level
     -- Both pass question 19.
     updated-sound : soundOf h w (length F) records ≡ true → (r' ≡ r) × Agree (h .levels) w w' G G'
     updated-sound passes =
-        (c' .done .answer ∙ ap updating.answerOf same ∙ sym (c .done .answer), left (updatedOf h w F records offsets columns values) refl)
+        (c' .done .answer ∙ ap updating.updatedAnswer same ∙ sym (c .done .answer), left (updatedOf h w F records offsets columns values) refl)
       where
         some : 1 ≤ h .levels
         some = sound-some h w (length F) records passes
@@ -137,7 +137,7 @@ module _ (h : Handle) {w w' : List ℕ} {F F' : List Float} (a : Agree (h .level
         let fails' : soundOf h w' (length F') records ≡ false = sound-same records ∙ fails in
         let x = ask-no (soundOf h w (length F) records) unsoundStores (updatedAt h w F offsets columns values) fails in
         let x' = ask-no (soundOf h w' (length F') records) unsoundStores (updatedAt h w' F' offsets columns values) fails' in
-        (c' .done .answer ∙ ap updating.answerOf (x' ∙ sym x) ∙ sym (c .done .answer), agree-still (c .unsound fails) (c' .unsound fails'))
+        (c' .done .answer ∙ ap updating.updatedAnswer (x' ∙ sym x) ∙ sym (c .done .answer), agree-still (c .unsound fails) (c' .unsound fails'))
 
     update-same : (r' ≡ r) × Agree (h .levels) w w' G G'
     update-same = go (bool? (soundOf h w (length F) records))

@@ -22,7 +22,7 @@ use Rattle.hierarchy.specs.First.{shapesIn}
 use Rattle.hierarchy.proofs.First.{build-first}
 use Rattle.layout.specs.Layout.{viewOf}
 use Rattle.solver.specs.declared.answers.Built.{Built}
-use Rattle.build.specs.Contract.{lentOf}
+use Rattle.build.specs.Built.{lentOf}
 use Rattle.index_check.specs.Sound.{soundOf}
 use Rattle.build_sound.proofs.Sound.{built-sound}
 use Rattle.iterations.specs.Iteration.{systemOf}
@@ -32,8 +32,8 @@ use Rattle.iterations.specs.Iterate.{Solution, answerOf}
 use Rattle.solve.specs.Solve.{solveOf}
 use Rattle.solve.specs.Solved.{solvedAt, solutionOf}
 use Rattle.solver.specs.declared.answers.Updated.{Updated}
-use Rattle.update.specs.Contract.{updatedAt, hierarchyOf}
-use Rattle.update.specs.Contract as refreshing
+use Rattle.update.specs.Updated.{updatedAt, hierarchyOf}
+use Rattle.update.specs.Updated as refreshing
 use Rattle.multigrid.specs.New.{NewDone}
 use Rattle.multigrid.proofs.building.Builds.{made-is}
 use Rattle.multigrid.proofs.building.Publishing.{build-length}
@@ -136,7 +136,7 @@ module _ {h : Handle} {w : List ℕ} {F : List Float} {t : List MultigridLevelSt
         }
 
     -- a refused one changes nothing; and so it is with the book.
-    booked-holds : (r : Updated) (out : Outcome Hierarchy) → updatedAt h w F offsets columns values ≡ out → r ≡ refreshing.answerOf out
+    booked-holds : (r : Updated) (out : Outcome Hierarchy) → updatedAt h w F offsets columns values ≡ out → r ≡ refreshing.updatedAnswer out
         → viewOf (h .levels) w G 0 ≡ hierarchyOf (viewOf (h .levels) w F 0) out → length G ≡ length F → Holds h w G t (booked x values r)
     booked-holds Updated.Done (accepted k) e a v size = accepted-holds e v size
     booked-holds Updated.Done (refused q) e a v size = absurd (let none : _≡_ {A = ℕ} 0 1 = cc in omega arith)
@@ -150,7 +150,7 @@ module _ {h : Handle} {w : List ℕ} {F : List Float} {t : List MultigridLevelSt
       let out = updatedAt h w F offsets columns values in
       let same : updatedOf h w F (length t) offsets columns values ≡ out =
       ask-yes (soundOf h w (length F) (length t)) unsoundStores out (i .sound) in
-      booked-holds offsets columns values r out refl (c .done .answer ∙ ap refreshing.answerOf same)
+      booked-holds offsets columns values r out refl (c .done .answer ∙ ap refreshing.updatedAnswer same)
       (c .done .view ∙ ap (hierarchyOf (viewOf (h .levels) w F 0)) same) (c .done .size)
 
 -- ---- the list of calls

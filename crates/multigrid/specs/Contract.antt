@@ -16,7 +16,7 @@ use Rattle.layout.specs.Layout.{rowsAt, wordsEnd, wordsFit, viewOf}
 use Rattle.index_check.specs.Sound.{soundOf}
 use Rattle.solver.specs.declared.answers.BuildRun.{BuildRun}
 use Rattle.solver.specs.declared.answers.SolveRun.{SolveRun}
-use Rattle.build.specs.Contract.{lentOf, BuildDone}
+use Rattle.build.specs.Built.{lentOf, BuildDone}
 use Rattle.solve.specs.Contract.{SolveDone}
 use Rattle.multigrid.specs.SolvingCall.{solvedOf}
 

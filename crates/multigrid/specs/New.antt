@@ -12,7 +12,7 @@ use Rattle.hierarchy.specs.Build.{Input, buildOf}
 use Rattle.solver.specs.declared.answers.Built.{Built}
 use Rattle.solver.specs.declared.statistics.MultigridLevelStatistics.{MultigridLevelStatistics}
 use Rattle.solver.specs.Statistics.{unvisited}
-use Rattle.build.specs.Contract.{lentOf, BuildDone}
+use Rattle.build.specs.Built.{lentOf, BuildDone}
 
 -- the statistics of levels that nobody has visited, a record to a level
 unfoldable pub unvisitedLevels : List Level → List MultigridLevelStatistics

@@ -11,7 +11,7 @@ use Rattle.refusal.specs.Outcome.{Outcome, ask}
 use Rattle.hierarchy.specs.Level.{Hierarchy}
 use Rattle.index_check.specs.Sound.{soundOf}
 use Rattle.solver.specs.declared.answers.Updated.{Updated}
-use Rattle.update.specs.Contract.{updatedAt, UpdateDone}
+use Rattle.update.specs.Updated.{updatedAt, UpdateDone}
 
 -- an update: question 19, and then that of the hierarchy in the stores
 abbrev pub updatedOf : Handle → List ℕ → List Float → ℕ → List ℕ → List ℕ → List Float → Outcome Hierarchy

@@ -11,8 +11,8 @@ use Rattle.solver.specs.declared.answers.Updated.{Updated}
 use Rattle.solver.specs.declared.answers.Solved.{Solved}
 use Rattle.solver.specs.declared.solver.LinearSolverOptions.{LinearSolverOptions}
 use Rattle.solver.specs.declared.statistics.MultigridLevelStatistics.{MultigridLevelStatistics}
-use Rattle.build.specs.Contract.{lentOf, builtOf}
-use Rattle.update.specs.Contract as refresh
+use Rattle.build.specs.Built.{lentOf, builtOf}
+use Rattle.update.specs.Updated as refresh
 use Rattle.iterations.specs.Iterate as iterating
 use Rattle.export.specs.declared.structs.OptionsForC.{OptionsForC}
 use Rattle.export.specs.declared.structs.AnswerForC.{AnswerForC}
@@ -36,7 +36,7 @@ pub record BuildExported (w z : List ℕ) (F G : List Float) (s t : List Multigr
 
 -- the answer to an update of stores w and F with so many records of statistics
 abbrev pub updatedBy : Handle → List ℕ → List Float → ℕ → List ℕ → List ℕ → List Float → Updated
-updatedBy h w F records offsets columns values = refresh.answerOf (updatedOf h w F records offsets columns values)
+updatedBy h w F records offsets columns values = refresh.updatedAnswer (updatedOf h w F records offsets columns values)
 
 -- What an update ensures: what the call ensures, and its answer as a struct.
 pub record UpdateExported (h : Handle) (w : List ℕ) (F G : List Float) (records : ℕ) (offsets columns : List ℕ) (values : List Float) (r : AnswerForC) : Type 0 where

@@ -29,7 +29,7 @@ use Rattle.solver.specs.declared.answers.Solved.{Solved}
 use Rattle.solver.specs.declared.answers.Updated.{Updated}
 use Rattle.solver.specs.declared.statistics.MultigridLevelStatistics.{MultigridLevelStatistics}
 use Rattle.solver.specs.Statistics.{unvisited, countedOn}
-use Rattle.build.specs.Contract.{handleOf, lentOf}
+use Rattle.build.specs.Built.{handleOf, lentOf}
 use Rattle.iterations.specs.Iteration.{systemOf}
 use Rattle.iterations.specs.Iterate.{Solution, answerOf}
 use Rattle.solve.specs.Solve.{uncounted, solveOf}

@@ -19,7 +19,7 @@ use Rattle.update_levels.specs.Update.{updateOf}
 use Rattle.update_levels.specs.Steps.{Chain}
 use Rattle.update.specs.Shadow.{imageOf}
 use Rattle.solver.specs.declared.answers.Updated.{Updated}
-use Rattle.update.specs.Contract.{hierarchyOf}
+use Rattle.update.specs.Updated.{hierarchyOf}
 
 -- ---- the copy
 

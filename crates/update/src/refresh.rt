@@ -2,7 +2,7 @@
 // over it once nothing can be refused any more.
 ghost use mathlib.Core.Path.{_≡_};
 ghost use lib.ListN.{length};
-ghost use Rattle.update.specs.Contract.{updatedAt, UpdateDone};
+ghost use Rattle.update.specs.Updated.{updatedAt, UpdateDone};
 ghost use Rattle.update.specs.Shadow.{With};
 ghost use Rattle.update.specs.Steps.{CommitOk, Committed, AttemptOk, attemptOf, Attempted, toldOf, UpdateOk};
 use crate::questions;

@@ -17,7 +17,7 @@ use Rattle.hierarchy.specs.Build.{Lent, Input, buildOf}
 use Rattle.layout.specs.Layout.{viewOf}
 use Rattle.solver.specs.declared.answers.Built.{Built}
 use Rattle.solver.specs.declared.answers.BuildRun.{BuildRun}
-use Rattle.build.specs.Contract.{handleOf, builtOf, lentOf, BuildDone}
+use Rattle.build.specs.Built.{handleOf, builtOf, lentOf, BuildDone}
 use Rattle.build.specs.Steps.{inputOf}
 use Rattle.build_sound.proofs.Sound.{built-sound}
 use Rattle.solve.proofs.Solving.{zeros-are, opened-of}

@@ -21,7 +21,7 @@ use Rattle.statistics.specs.Contract.{PublishDone}
 use Rattle.solver.specs.declared.statistics.MultigridLevelStatistics.{MultigridLevelStatistics}
 use Rattle.solver.specs.Statistics.{unvisited}
 use Rattle.statistics.specs.Contract.{Published}
-use Rattle.build.specs.Contract.{lentOf}
+use Rattle.build.specs.Built.{lentOf}
 use Rattle.multigrid.specs.New.{unvisitedLevels, statisticsOf, NewDone}
 use Rattle.multigrid.specs.Contract.{cellsOf, tableOf, tableBuilt, BuildRan}
 use Rattle.multigrid.proofs.building.Builds.{levels-few}

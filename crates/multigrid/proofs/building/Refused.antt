@@ -9,7 +9,7 @@ use Rattle.refusal.specs.declared.Refusal.{Refusal}
 use Rattle.hierarchy.specs.Build.{Input, buildOf}
 use Rattle.solver.specs.declared.answers.Built.{Built}
 use Rattle.solver.specs.declared.statistics.MultigridLevelStatistics.{MultigridLevelStatistics}
-use Rattle.build.specs.Contract.{lentOf}
+use Rattle.build.specs.Built.{lentOf}
 use Rattle.multigrid.specs.New.{statisticsOf, NewDone}
 use Rattle.multigrid.specs.Stores.{Zeroed}
 use Rattle.multigrid.proofs.building.Builds.{refused-is}

@@ -9,7 +9,7 @@ use Rattle.options.specs.declared.options.Handle.{Handle}
 use Rattle.hierarchy.specs.Build.{Input, buildOf}
 use Rattle.solver.specs.declared.answers.Built.{Built}
 use Rattle.solver.specs.declared.statistics.MultigridLevelStatistics.{MultigridLevelStatistics}
-use Rattle.build.specs.Contract.{builtOf, lentOf}
+use Rattle.build.specs.Built.{builtOf, lentOf}
 use Rattle.multigrid.specs.New.{NewDone}
 use Rattle.multigrid.specs.Stores.{Same}
 use Rattle.multigrid.proofs.building.Builds.{made-is}

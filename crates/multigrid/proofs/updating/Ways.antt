@@ -13,7 +13,7 @@ use Rattle.refusal.specs.Refusal.{unsoundStores}
 use Rattle.layout.specs.Layout.{viewOf}
 use Rattle.index_check.specs.Sound.{soundOf}
 use Rattle.solver.specs.declared.answers.Updated.{Updated}
-use Rattle.update.specs.Contract.{updatedAt, UpdateDone}
+use Rattle.update.specs.Updated.{updatedAt, UpdateDone}
 use Rattle.multigrid.specs.UpdatingCall.{updatedOf, UpdateCall}
 
 -- The index check passes: the update of the hierarchy in the stores.

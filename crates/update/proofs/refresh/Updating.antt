@@ -37,7 +37,7 @@ use Rattle.update.specs.Shadow.{imageOf, SumOk, Summed, With, ShadowOk}
 use Rattle.update.proofs.shadow.Moving.{shapes-are, view-stays}
 use Rattle.update.proofs.shadow.Shadowing.{shadow-end, sums-ready, with-sums}
 use Rattle.solver.specs.declared.answers.Updated.{Updated}
-use Rattle.update.specs.Contract.{updatedAt, answerOf, hierarchyOf, UpdateDone}
+use Rattle.update.specs.Updated.{updatedAt, answerOf, hierarchyOf, UpdateDone}
 use Rattle.update.specs.Steps.{CommitOk, Committed, AttemptOk, attemptOf, Attempted, toldOf, UpdateOk}
 
 -- ---- the update
