@@ -12,11 +12,16 @@ use Rattle.store.specs.Vector.{tab}
 use Rattle.vector.specs.Finite.{allFinite}
 use Rattle.cholesky.specs.TriangularFactor.{solveFactorOf}
 
--- the terminal solve: all rows by their diagonal, the coupled ones anew by the factor; question 24 over all of x
+-- the terminal level's x: all rows by their diagonal, the coupled ones anew by the factor
+unfoldable pub solutionOf : ℕ → List Float → ℕ → List ℕ → List Float → List Float → List Float
+solutionOf n inverse size coupled factor rhs =
+    let u = solveFactorOf size factor (tab (λ k. at rhs (idx coupled k)) size) in
+    for (λ k x. set x (idx coupled k) (at u k)) 0 size (tab (λ row. mul64 (at rhs row) (at inverse row)) n)
+
+-- the terminal solve, with question 24 over all of x
 unfoldable pub terminalOf : ℕ → List Float → ℕ → List ℕ → List Float → List Float → Outcome (List Float)
 terminalOf n inverse size coupled factor rhs =
-    let u = solveFactorOf size factor (tab (λ k. at rhs (idx coupled k)) size) in
-    let x = for (λ k x. set x (idx coupled k) (at u k)) 0 size (tab (λ row. mul64 (at rhs row) (at inverse row)) n) in
+    let x = solutionOf n inverse size coupled factor rhs in
     ask (allFinite n x) badCoarseSolution (accepted x)
 
 -- ---- the turns of the loops above, by the names that proofs have for them
@@ -32,9 +37,3 @@ gatherOf size coupled rhs = tab (λ k. at rhs (idx coupled k)) size
 -- the compact solution, put where the coupled rows are
 unfoldable pub scatterOf : ℕ → List ℕ → List Float → List Float → List Float
 scatterOf size coupled u x = for (λ k x. set x (idx coupled k) (at u k)) 0 size x
-
--- the terminal level's x: all rows by their diagonal, the coupled ones anew by the factor
-abbrev pub solutionOf : ℕ → List Float → ℕ → List ℕ → List Float → List Float → List Float
-solutionOf n inverse size coupled factor rhs =
-    let u = solveFactorOf size factor (tab (λ k. at rhs (idx coupled k)) size) in
-    for (λ k x. set x (idx coupled k) (at u k)) 0 size (tab (λ row. mul64 (at rhs row) (at inverse row)) n)

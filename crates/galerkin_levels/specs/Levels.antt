@@ -30,21 +30,17 @@ aboveAt k i j =
 unfoldable pub entryAt : Kernel → ℕ → ℕ → Float
 entryAt k i j = cond (ltb i j) (aboveAt k i j) (cond (ltb j i) (aboveAt k j i) (at (k .diagonal) i))
 
--- a matrix of whole numbers
-abbrev pub Matrix : Type 0
-Matrix = ℕ → ℕ → ℤ
-
--- The matrix of a level is exactly A.
-pub record MatrixIs (l : Level) (A : Matrix) : Type 0 where
+-- The matrix of a level is exactly the matrix A of whole numbers.
+pub record MatrixIs (l : Level) (A : ℕ → ℕ → ℤ) : Type 0 where
   pub entry : (i j : ℕ) → i < l .shape .pattern .rows → j < l .shape .pattern .rows → Whole (entryAt (kernelIn l) i j) (A i j)
 
 -- ---- level by level
 
 -- The matrix of the first level is exactly A, and each other level's exactly Pᵀ A P of the level above, with the aggregates of that; where
 -- merged steps made the level, these are the aggregates of all of them together.
-pub data Galerkin : Matrix → List Level → Type 0 where
-  last : {A : Matrix} {l : Level} → MatrixIs l A → Galerkin A (l ∷ [])
-  inner : {A : Matrix} {l next : Level} {rest : List Level} → MatrixIs l A
+pub data Galerkin : (ℕ → ℕ → ℤ) → List Level → Type 0 where
+  last : {A : ℕ → ℕ → ℤ} {l : Level} → MatrixIs l A → Galerkin A (l ∷ [])
+  inner : {A : ℕ → ℕ → ℤ} {l next : Level} {rest : List Level} → MatrixIs l A
       → Galerkin (galerkinProduct (l .shape .pattern .rows) (idx (l .shape .links)) A) (next ∷ rest) → Galerkin A (l ∷ next ∷ rest)
 
 -- What merged steps have made of a level with the pattern p and the whole values z is exactly Pᵀ A P of the level's matrix A, with the
@@ -68,7 +64,11 @@ pub record ExactLevels (p : Pattern) (z : ℕ → ℤ) (levels : List Level) : T
   pub finest : (k : ℕ) (l : Level) (rest : List Level) → drop k levels ≡ l ∷ rest
       → MatrixIs l (galerkinProduct (p .rows) (composed k levels) (fineMatrix p z))
 
--- ---- by a name that proofs have for it
+-- ---- by the names that proofs have for them
+
+-- a matrix of whole numbers
+abbrev pub Matrix : Type 0
+Matrix = ℕ → ℕ → ℤ
 
 -- Pᵀ A P, with the transfer P of a level's aggregates
 abbrev pub productOf : Level → Matrix → Matrix

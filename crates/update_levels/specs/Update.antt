@@ -25,8 +25,7 @@ sameList u v = eqb (length u) (length v) && each (λ k. eqb (idx u k) (idx v k))
 
 -- question 31: offsets and columns are those of the finest level, with as many values as columns
 unfoldable pub samePattern : Shape → List ℕ → List ℕ → List Float → Bool
-samePattern s offsets columns values =
-    sameList offsets (s .pattern .offsets) && sameList columns (s .pattern .columns) && eqb (length values) (length columns)
+samePattern s offsets columns values = sameList offsets (s .pattern .offsets) && sameList columns (s .pattern .columns) && eqb (length values) (length columns)
 
 -- ---- the levels
 
