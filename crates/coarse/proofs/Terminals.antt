@@ -21,7 +21,7 @@ use Rattle.cholesky.specs.declared.Terminal.{Terminal}
 use Rattle.cholesky.specs.Contract.{coupledAt, factorAt}
 use Rattle.cholesky.specs.TriangularFactor.{solveFactorOf}
 use Rattle.cholesky.specs.TriangularContract.{SolveOk}
-use Rattle.coarse.specs.Terminal.{diagonalOf, gatherOf, scatterOf, solutionOf, terminalOf}
+use Rattle.coarse.specs.Terminal.{diagonalOf, gatherOf, scatterOf, terminalSolution, terminalOf}
 use Rattle.coarse.specs.Contract.{SpreadOk, DiagonalOk, CoupledOk, SolutionOk, Outside, CoupledSolved, Solved}
 
 -- a turn of `diagonal`
@@ -159,8 +159,8 @@ module _ {w : List ℕ} {F G : List Float} {inverse rhs x work : ℕ} {t : Termi
 
   module _ {H : List Float} {r : Bool} (h : CoupledSolved t w rhs x work G H) (e : r ≡ allFinite (t .rows) (part x (t .rows) H)) where
     solution-is : part x (t .rows) H
-        ≡ solutionOf (t .rows) (part inverse (t .rows) F) (t .size) (coupledAt t w) (factorAt t F) (part rhs (t .rows) F)
-    unfolding solutionOf scatterOf gatherOf diagonalOf
+        ≡ terminalSolution (t .rows) (part inverse (t .rows) F) (t .size) (coupledAt t w) (factorAt t F) (part rhs (t .rows) F)
+    unfolding terminalSolution scatterOf gatherOf diagonalOf
     solution-is =
         let b : t .factor + tri (t .size) ≤ rhs = ok .coupled .factors in
         let c : rhs + t .rows ≤ x = ok .coupled .rhss in

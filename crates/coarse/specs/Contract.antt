@@ -11,7 +11,7 @@ use Rattle.cholesky.specs.Triangle.{tri}
 use Rattle.cholesky.specs.declared.Terminal.{Terminal}
 use Rattle.cholesky.specs.Contract.{coupledAt, factorAt}
 use Rattle.cholesky.specs.TriangularFactor.{solveFactorOf}
-use Rattle.coarse.specs.Terminal.{gatherOf, scatterOf, solutionOf, terminalOf}
+use Rattle.coarse.specs.Terminal.{gatherOf, scatterOf, terminalSolution, terminalOf}
 
 -- so many coupled rows, each below n, with n elements at x and as many as there are coupled rows at u
 pub record SpreadOk (w : List ℕ) (size n count coupled x u : ℕ) : Type 0 where
@@ -58,5 +58,5 @@ pub record Solved (t : Terminal) (w : List ℕ) (inverse rhs x work : ℕ) (F G 
   pub answer : v
       ≡ verdictOf (terminalOf (t .rows) (part inverse (t .rows) F) (t .size) (coupledAt t w) (factorAt t F) (part rhs (t .rows) F))
   pub solution : part x (t .rows) G
-      ≡ solutionOf (t .rows) (part inverse (t .rows) F) (t .size) (coupledAt t w) (factorAt t F) (part rhs (t .rows) F)
+      ≡ terminalSolution (t .rows) (part inverse (t .rows) F) (t .size) (coupledAt t w) (factorAt t F) (part rhs (t .rows) F)
   pub frame : Outside (t .rows) x work (work + t .size + t .size) F G

@@ -21,7 +21,7 @@ use Rattle.vector.specs.Finite.{allFinite}
 use Rattle.cholesky.specs.Triangle.{tri}
 use Rattle.matrix.specs.declared.matrix.SymmetricMatrix.{SymmetricMatrix}
 use Rattle.cholesky.specs.declared.Terminal.{Terminal}
-use Rattle.coarse.specs.Terminal.{solutionOf, terminalOf}
+use Rattle.coarse.specs.Terminal.{terminalSolution, terminalOf}
 use Rattle.coarse.specs.Contract.{SolutionOk, Solved, Outside}
 use Rattle.layout.specs.declared.Place.{Place}
 use Rattle.layout.specs.Layout.{placeOf, rowsAt, coupledAt, locate, floatsEnd}
@@ -161,10 +161,10 @@ outside-kept {n} {x} h a = record { below = h .below 0 x (omega arith) (omega ar
 
 -- Where it accepts, x is the solution.
 terminal-is : (n size : ℕ) (inverse factor rhs v : List Float) (coupled : List ℕ) → terminalOf n inverse size coupled factor rhs ≡ accepted v
-    → solutionOf n inverse size coupled factor rhs ≡ v
+    → terminalSolution n inverse size coupled factor rhs ≡ v
 unfolding terminalOf
 terminal-is n size inverse factor rhs v coupled e =
-    let y = solutionOf n inverse size coupled factor rhs in ask-is (allFinite n y) badCoarseSolution y v e
+    let y = terminalSolution n inverse size coupled factor rhs in ask-is (allFinite n y) badCoarseSolution y v e
 
 -- An x with its counters, by the cases of its outcome.
 visit-of : {s n : ℕ} {F G : List Float} {u : List ℕ} {r : Verdict} (out : Outcome (List Float)) (counts : List ℕ) → r ≡ verdictOf out
