@@ -133,7 +133,7 @@ reciprocals-spare level n d = each-spares n (reciprocalAsked level d)
     (λ row. ask-spares (isFinite (div64 one64 (at d row))) (badDicReciprocal level row) refl done) done
 
 dic-spares : (level : ℕ) (k : Kernel) → Spared 9 (dicOf level k)
-unfolding dicOf
+unfolding dicOf askRows reciprocalsOf
 dic-spares level k = then-spares (pivotsOf level k) (pivots-spare level k) (λ d _. reciprocals-spare level (k .rows) d)
 
 -- 15.

@@ -18,7 +18,6 @@ use Rattle.options.specs.Options.{controlsAsked}
 use Rattle.aggregation.specs.Pairs.{weighted, strengthsOf}
 use Rattle.aggregation.proofs.Numbers.{count-most}
 use Rattle.pattern.specs.Pattern.{Pattern, entries, Valid, coarse}
-use Rattle.pattern.proofs.pattern.Number.{not-both}
 use Rattle.pattern.proofs.pattern.Coarse.{coarse-few, coarse-valid}
 use Rattle.csr.specs.Questions.{matrixAsked}
 use Rattle.csr.specs.Weights.{weightsAsked}
@@ -26,7 +25,7 @@ use Rattle.faces.specs.Faces.{diagonalsAsked}
 use Rattle.hierarchy.specs.Level.{Level}
 use Rattle.hierarchy.specs.Refresh.{innerNumbers}
 use Rattle.hierarchy.specs.Build.{Charge, andLevel, holds, innerShape, Mesh, Merged, merged, even, kernelAsked, paired, coarsened, coarsenedAsked, endsAt, mergeOf, levelStep, growOf, Lent, Input, patternIn, meshIn, symmetricOf, buildOf}
-use Rattle.hierarchy.proofs.Accepted.{coarsened-is, onward, ends-zero, merge-keeps, fixedIn, chargeIn}
+use Rattle.hierarchy.proofs.Accepted.{coarsened-is, onward, grow-is, merge-keeps, fixedIn, chargeIn}
 use Rattle.hierarchy.proofs.Proper.{valid-range}
 use Rattle.build.specs.Asking.{arraysAsked, ArraysFit}
 use Rattle.build.proofs.questions.Passing.{arrays-fit}
@@ -149,11 +148,11 @@ module _ (o : MultigridOptions) (given : Bool) (stores : Charge) (w v rows most 
   unfolding growOf
   grow-spares zero level stage used m f short room =
       then-spares (diagonalsAsked level (m .pattern)) (diagonals-spare level (m .pattern)) (λ _ _.
-      then-spares (kernelAsked level m) (kernel-spares level m) (λ c _.
-      cond-spares (endsAt o 0 (m .pattern)) (last-spares o level m c) (λ e. absurd (not-both (ends-zero o (m .pattern)) e))))
+      then-spares (kernelAsked level m) (kernel-spares level m) (λ c _. last-spares o level m c))
   grow-spares (suc more) level stage used m f short room =
-      step-spares more (growOf o given stores more (level + 1))
-      (λ stage used m f short room. grow-spares more (level + 1) stage used m f short room) level stage used m f short room
+      subst (λ (out : Outcome (List Level)). Spared 9 out) (sym (grow-is o given stores (suc more) level stage used m))
+      (step-spares more (growOf o given stores more (level + 1))
+      (λ stage used m f short room. grow-spares more (level + 1) stage used m f short room) level stage used m f short room)
 
 -- ---- the build
 

@@ -37,7 +37,7 @@ use Rattle.update.specs.Shadow.{imageOf, SumOk, Summed, With, ShadowOk}
 use Rattle.update.proofs.shadow.Moving.{shapes-are, view-stays}
 use Rattle.update.proofs.shadow.Shadowing.{shadow-end, sums-ready, with-sums}
 use Rattle.solver.specs.declared.answers.Updated.{Updated}
-use Rattle.update.specs.Updated.{updatedAt, answerOf, hierarchyOf, UpdateDone}
+use Rattle.update.specs.Updated.{updatedAt, updatedAnswer, hierarchyOf, UpdateDone}
 use Rattle.update.specs.Steps.{CommitOk, Committed, AttemptOk, attemptOf, Attempted, toldOf, UpdateOk}
 
 -- ---- the update
@@ -221,7 +221,7 @@ pub attempt-ready : {h : Handle} {w : List ℕ} {size : ℕ} → UpdateOk h w si
 attempt-ready ok fits = record { some = ok .some; few = ok .few; walk = ok .walk; room = ok .room; fits = fits }
 
 -- The answer is that of the outcome.
-answer-is : (out : Outcome Hierarchy) → toldOf (verdictOf out) ≡ answerOf out
+answer-is : (out : Outcome Hierarchy) → toldOf (verdictOf out) ≡ updatedAnswer out
 answer-is (accepted k) = refl
 answer-is (refused q) = refl
 
