@@ -17,6 +17,8 @@
 #ifndef MULTIGRID_H
 #define MULTIGRID_H
 
+#define MULTIGRID_VERSION "0.1.0"
+
 #include <stddef.h>
 #include <stdint.h>
 
