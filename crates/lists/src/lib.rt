@@ -2,7 +2,9 @@
 // calls leave in the stores.
 ghost use Prim.Native.Nat.{_≤_};
 
+pub mod calls;
 pub mod kinds;
+pub mod lent;
 pub mod reading;
 pub mod rebuild;
 pub mod stores;

@@ -1,4 +1,5 @@
 // One build of a list: its arguments, the call, and its answer.
+use crate::calls;
 use crate::least;
 use crate::reading;
 use options::MultigridOptions;
@@ -112,54 +113,7 @@ fn read(
     sized(text, at, s)
 }
 
-// The build that pairs by values. Each call has a function of its own, so that the choice between them stays small.
-fn plain(
-    rows: usize,
-    offsets: &[u32],
-    columns: &[u32],
-    values: &[f64],
-    options: MultigridOptions,
-    words: &mut [u32],
-    floats: &mut [f64],
-    statistics: &mut [u64],
-) -> Built {
-    multigrid::new(
-        rows,
-        offsets,
-        columns,
-        values,
-        options,
-        words,
-        floats,
-        statistics,
-    )
-}
-
-// The build that pairs by weights.
-fn weighted(
-    rows: usize,
-    offsets: &[u32],
-    columns: &[u32],
-    values: &[f64],
-    weights: &[f64],
-    options: MultigridOptions,
-    words: &mut [u32],
-    floats: &mut [f64],
-    statistics: &mut [u64],
-) -> Built {
-    multigrid::new_with_face_weights(
-        rows,
-        offsets,
-        columns,
-        values,
-        weights,
-        options,
-        words,
-        floats,
-        statistics,
-    )
-}
-
+// The build that pairs by weights where they are given, else the one that pairs by values.
 fn call(
     rows: usize,
     offsets: &[u32],
@@ -173,7 +127,7 @@ fn call(
     statistics: &mut [u64],
 ) -> Built {
     if given {
-        weighted(
+        calls::new_with_face_weights(
             rows,
             offsets,
             columns,
@@ -185,7 +139,7 @@ fn call(
             statistics,
         )
     } else {
-        plain(
+        calls::new(
             rows,
             offsets,
             columns,

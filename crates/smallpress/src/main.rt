@@ -1,7 +1,7 @@
 // Document 01's small press: the matrix 4, -2; -2, 2 with the right-hand side 2, 0, solved from zero. It writes the levels and rows, the
-// report, the solution and the statistics, floats by their bits.
+// report, the solution and the statistics, floats by their bits. The statistics are held as numbers, four to a record.
 use libc::STDOUT_FILENO;
-use multigrid::Counted;
+use lists::calls;
 use options::Handle;
 use options::MultigridCoarseSolver;
 use options::MultigridOptions;
@@ -9,6 +9,7 @@ use options::MultigridResidualNorm;
 use options::MultigridSmoother;
 use refusal::Refusal;
 use solver::Built;
+use solver::Counted;
 use solver::LinearSolveReport;
 use solver::LinearSolverOptions;
 use solver::LinearSolverStatus;
@@ -141,12 +142,12 @@ fn press(handle: Handle, words: &[u32], floats: &mut [f64], statistics: &mut [u6
         relative_tolerance: 0.5,
         max_iterations: 5,
     };
-    match multigrid::solve(handle, words, floats, statistics, &rhs, &mut x, options) {
+    match calls::solve(handle, words, floats, statistics, &rhs, &mut x, options) {
         Solved::Report(r) => report(r),
         Solved::Refused(q) => refused(q),
     }
     solution(&x, 2);
-    match multigrid::statistics(handle, words, floats, statistics) {
+    match calls::statistics(handle, words, floats, statistics) {
         Counted::Levels(levels) => counters(statistics, levels),
         Counted::Refused(q) => refused(q),
     }
@@ -159,7 +160,7 @@ fn main() {
     let mut words = [0u32; 178];
     let mut floats = [0.0; 212];
     let mut statistics = [0u64; 256];
-    match multigrid::new(
+    match calls::new(
         2,
         &offsets,
         &columns,

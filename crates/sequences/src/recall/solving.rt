@@ -1,5 +1,6 @@
 // A solve of a list: its arguments, the call, and its answer with what it leaves beside those that are due.
 use crate::recall::Agreed;
+use lists::calls;
 use lists::least;
 use lists::reading;
 use lists::stores;
@@ -107,7 +108,7 @@ fn run_solve(
     let a = least(s.rhs, rhs.len());
     let b = least(s.start, x.len());
     let options = s.options;
-    multigrid::solve(
+    calls::solve(
         handle,
         words,
         floats,

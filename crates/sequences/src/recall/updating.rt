@@ -1,5 +1,6 @@
 // An update of a list: its arguments, the call, and its answer beside the one that is due.
 use crate::recall::Agreed;
+use lists::calls;
 use lists::least;
 use lists::reading;
 use options::Handle;
@@ -71,7 +72,7 @@ fn run_update(
     let a = least(u.offsets, offsets.len());
     let b = least(u.columns, columns.len());
     let c = least(u.values, values.len());
-    multigrid::update_values(
+    calls::update_values(
         handle,
         &offsets[..a],
         &columns[..b],
