@@ -3,7 +3,6 @@ use mathlib.Core.Path.{_≡_}
 use mathlib.Core.List.{List, [], _∷_}
 use Prim.Native.Nat.{ℕ, _+_, _≤_}
 use lib.ListN.{length}
-use lib.Ieee.{Float}
 use Rattle.store.specs.Region.{idx, part, Wrote, Kept}
 use Rattle.faces.specs.Faces.{coupledCountOf, coupledRowsOf}
 use Rattle.faces.specs.Contract.{patternAt, CoupledOk}

@@ -10,7 +10,7 @@ use lib.Dec.{eqb, leb}
 use lib.IntN.{ℤ, pos, negsuc, natAbs}
 use lib.ListN.{length, getD, length-map}
 use borrow.Author.Tests.{eqb-true, eq-eqb, leb-true}
-use lib.Ieee.{Float, nan, binary64, ofBits, ofInt, add, sub, mul, div, lt, le, eq}
+use lib.Ieee.{Float, binary64, ofBits, ofInt, add, sub, mul, div, lt, le, eq}
 use Rattle.float.specs.Float.{isFinite, absOf}
 use Rattle.float.specs.Sqrt.{sqrtOf}
 use Rattle.store.specs.Loop.{iter, for}

@@ -3,18 +3,16 @@
 -- Assumes nothing.
 use mathlib.Core.Path.{_≡_, refl, sym, ap, _∙_, subst}
 use mathlib.Core.Bool.{Bool, not, cond}
-use mathlib.Core.List.{List}
-use Prim.Native.Nat.{ℕ, _+_, _<_}
+use Prim.Native.Nat.{ℕ, _+_}
 use lib.IntN.{ℤ}
-use lib.Ieee.{Float}
 use Rattle.store.specs.Region.{at, idx}
 use Rattle.options.specs.declared.options.MultigridOptions.{MultigridOptions}
 use Rattle.refusal.specs.Outcome.{accepted}
 use Rattle.aggregation.specs.Pairs.{Weighted, weighted, strengthsOf}
 use Rattle.galerkin.specs.Whole.{Whole}
 use Rattle.galerkin.specs.Product.{galerkinProduct}
-use Rattle.pattern.specs.Pattern.{Pattern, entries, rowOf, columnOf, coarse, Maps, composeOf}
-use Rattle.galerkin_theorem.specs.Theorem.{WholeValues, fineMatrix, coarseMatrix, Exactly}
+use Rattle.pattern.specs.Pattern.{Pattern, rowOf, columnOf, coarse, Maps}
+use Rattle.galerkin_theorem.specs.Theorem.{WholeValues, fineMatrix, coarseMatrix}
 use Rattle.hierarchy.specs.Build.{Mesh, Merged, merged, even, paired, coarsened, mergeOf}
 use Rattle.hierarchy.specs.Proper.{Proper}
 use Rattle.hierarchy.proofs.Twice.{compose-maps}
@@ -22,7 +20,7 @@ use Rattle.hierarchy.proofs.Accepted.{joinedBy, merge-keeps}
 use Rattle.hierarchy.proofs.Proper.{coarse-proper, valid-range, paired-maps, paired-onto}
 use Rattle.galerkin_levels.specs.Levels.{Matrix, MergedIs}
 use Rattle.galerkin_levels.proofs.Dense.{dense-at, dense-none}
-use Rattle.galerkin_levels.proofs.Down.{valueIn, coarse-whole, coarse-dense}
+use Rattle.galerkin_levels.proofs.Down.{coarse-whole, coarse-dense}
 use Rattle.galerkin_levels.proofs.Finest.{product-twice}
 
 -- what `pairs` reads of a matrix

@@ -17,8 +17,7 @@ use Rattle.vector.specs.Finite.{allFinite}
 use Rattle.cholesky.specs.Factor.{choleskyOf}
 use Rattle.coefficients.specs.Update.{entryOf, Coefficients, diagonalAsked, kernelUpdateOf}
 use Rattle.galerkin.specs.Product.{galerkinProduct}
-use Rattle.pattern.specs.Pattern.{Pattern, entries, coarse, Maps}
-use Rattle.faces.specs.Faces.{uppersOf, diagonalsOf}
+use Rattle.pattern.specs.Pattern.{Pattern, entries, coarse}
 use Rattle.galerkin_theorem.specs.Theorem.{WholeValues, fineMatrix, coarseMatrix}
 use Rattle.hierarchy.specs.Level.{Shape, Numbers, Level, kernelOf, csrOf}
 use Rattle.hierarchy.specs.Refresh.{coefficientsOf, smootherOf, lastNumbers, innerNumbers, numbersOf, coarseValues, refreshOf}

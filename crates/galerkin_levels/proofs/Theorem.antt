@@ -2,7 +2,7 @@
 -- every level of an accepted build, and of an accepted update, is exactly the Galerkin product of the level above, and of the finest.
 -- Nothing else is asked: questions 2, 3, 10 and 11 of the build gave the rest.
 -- Assumes nothing.
-use mathlib.Core.Path.{_≡_, refl, sym, ap, _∙_, subst}
+use mathlib.Core.Path.{_≡_, sym, ap, _∙_, subst}
 use mathlib.Core.List.{List, [], _∷_}
 use Prim.Native.Nat.{ℕ}
 use native.Mathlib.Omega.{arith}

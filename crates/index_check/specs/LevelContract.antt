@@ -10,7 +10,7 @@ use Rattle.hierarchy.specs.Level.{Shape}
 use Rattle.layout.specs.declared.Place.{Place}
 use Rattle.layout.specs.Layout.{rowsAt, coupledAt, entriesAt, shapeAt, wordsEnd}
 use Rattle.index_check.specs.declared.tables.Targets.{Targets}
-use Rattle.index_check.specs.Sound.{allBelow, headSound, headFits, arraysSound, rowPlaced}
+use Rattle.index_check.specs.Sound.{allBelow, headSound, headFits, rowPlaced}
 
 -- ---- the head
 

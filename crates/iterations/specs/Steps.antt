@@ -17,13 +17,13 @@ use Rattle.acceleration.specs.Directions.{Pair}
 use Rattle.acceleration.specs.Gcr.{Corrections, correctOf}
 use Rattle.acceleration.specs.DirectionsContract.{memoryAt}
 use Rattle.acceleration.specs.AccelerationContract.{correctedOf}
-use Rattle.layout.specs.Layout.{rowsAt, entriesAt, imageEnd, locate, viewOf}
+use Rattle.layout.specs.Layout.{rowsAt, entriesAt, imageEnd, locate}
 use Rattle.layout.specs.Parts.{kernelIn}
 use Rattle.index_check.specs.declared.sound.Walk.{Walk}
 use Rattle.index_check.specs.Sound.{walkOf, scratchStart, scratchEnd, cycleStart}
 use Rattle.iterations.specs.declared.stepping.Regions.{Regions}
 use Rattle.iterations.specs.declared.stepping.Step.{Step}
-use Rattle.iterations.specs.Iteration.{System, State, systemOf, trueResidualOf, measuredOf, movedOf, stepOf}
+use Rattle.iterations.specs.Iteration.{System, State, trueResidualOf, measuredOf, movedOf, stepOf}
 use Rattle.iterations.specs.System.{systemAt}
 
 -- ---- places

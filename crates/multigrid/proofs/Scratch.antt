@@ -3,10 +3,10 @@
 -- refuses the one it refuses the other.
 -- Assumes nothing.
 use mathlib.Core.Path.{_≡_, refl, sym, ap, _∙_}
-use mathlib.Core.Bool.{Bool, true, false}
+use mathlib.Core.Bool.{true, false}
 use mathlib.Core.List.{List}
 use mathlib.Core.Logic.{_⊎_, inl, inr}
-use Prim.Native.Nat.{ℕ, _*_, _≤_, _<_}
+use Prim.Native.Nat.{ℕ, _≤_, _<_}
 use native.Mathlib.Omega.{arith}
 use lib.Dec.{leb}
 use lib.ListN.{length, getD, take, length-take}
@@ -23,11 +23,11 @@ use Rattle.refusal.specs.Refusal.{unsoundStores}
 use Rattle.refusal.specs.Outcome.{Outcome, accepted, refused, ask}
 use Rattle.refusal.proofs.Outcome.{ask-yes, ask-no}
 use Rattle.hierarchy.specs.Level.{Hierarchy}
-use Rattle.layout.specs.Layout.{wordsTo, imageEnd, rowsAt, viewOf}
-use Rattle.index_check.specs.Sound.{handleSound, scratchStart, soundOf}
+use Rattle.layout.specs.Layout.{wordsTo, viewOf}
+use Rattle.index_check.specs.Sound.{handleSound, soundOf}
 use Rattle.index_check.proofs.sound.Question.{handle-few}
 use Rattle.iterations.specs.Iteration.{systemOf}
-use Rattle.iterations.specs.Iterate.{Solution, answerOf}
+use Rattle.iterations.specs.Iterate.{answerOf}
 use Rattle.solve.specs.Solve.{solveOf}
 use Rattle.solve.specs.Solved.{solvedAt, solutionOf}
 use Rattle.solver.specs.declared.answers.Solved.{Solved}
@@ -38,8 +38,7 @@ use Rattle.update.specs.Updated.{updatedAt, hierarchyOf}
 use Rattle.update.specs.Updated as updating
 use Rattle.multigrid.specs.UpdatingCall.{updatedOf, UpdateCall}
 use Rattle.multigrid.specs.SolvingCall.{solvedOf, recordsOf, SolveCall}
-use Rattle.multigrid.specs.CountingCall.{countedOf}
-use Rattle.multigrid.specs.Scratch.{scratchWord, valueAt, scratchFloat, Agree, Unread}
+use Rattle.multigrid.specs.Scratch.{valueAt, scratchFloat, Agree, Unread}
 use Rattle.multigrid.proofs.ScratchWords.{sound-told, view-told, image-end-told}
 use Rattle.multigrid.proofs.ScratchFloats.{neither-r, view-agrees, agrees-view}
 

@@ -2,20 +2,18 @@
 -- levels. This needs no level to lie in the store: what lies past its end reads as zero in both.
 -- Assumes nothing.
 use mathlib.Core.Path.{_≡_, refl, sym, ap, _∙_}
-use mathlib.Core.Bool.{Bool, true, false}
+use mathlib.Core.Bool.{true, false}
 use mathlib.Core.List.{List}
 use mathlib.Core.Logic.{_⊎_, inl, inr}
 use Prim.Native.Nat.{ℕ, zero, suc, _+_, _*_, _≤_}
 use native.Mathlib.Omega.{arith}
-use lib.ListN.{length}
 use lib.Ieee.{Float}
-use Rattle.store.specs.Region.{part, Kept}
+use Rattle.store.specs.Region.{Kept}
 use Rattle.pattern.proofs.pattern.Number.{bool?}
 use Rattle.options.specs.declared.options.Handle.{Handle}
-use Rattle.hierarchy.specs.Level.{Hierarchy}
-use Rattle.layout.specs.Layout.{rowsAt, entriesAt, levelAt, wordsEnd, floatsEnd, levelsAt, wordsTo, imageEnd, viewOf}
+use Rattle.layout.specs.Layout.{rowsAt, levelAt, wordsEnd, floatsEnd, levelsAt, wordsTo, imageEnd, viewOf}
 use Rattle.layout.proofs.Views.{SameWords, words-told, words-to}
-use Rattle.index_check.specs.Sound.{headSound, shapeIn, headFits, headsWalked, targetsOf, sumsOf, levelsWalked, walkOf, isSound, scratchEnd, cycleStart, handleSound, soundOf}
+use Rattle.index_check.specs.Sound.{headSound, headFits, headsWalked, targetsOf, sumsOf, levelsWalked, walkOf, isSound, scratchEnd, cycleStart, handleSound, soundOf}
 use Rattle.index_check.proofs.sound.Question.{handle-few}
 use Rattle.index_check.proofs.sound.Accepts.{walk-accepts}
 use Rattle.update.specs.Shadow.{imageOf}

@@ -28,7 +28,7 @@ use Rattle.build_sound.proofs.Sound.{built-sound}
 use Rattle.iterations.specs.Iteration.{systemOf}
 use Rattle.solver.specs.declared.answers.Solved.{Solved}
 use Rattle.solver.specs.declared.statistics.MultigridLevelStatistics.{MultigridLevelStatistics}
-use Rattle.iterations.specs.Iterate.{Solution, answerOf}
+use Rattle.iterations.specs.Iterate.{answerOf}
 use Rattle.solve.specs.Solve.{solveOf}
 use Rattle.solve.specs.Solved.{solvedAt, solutionOf}
 use Rattle.solver.specs.declared.answers.Updated.{Updated}

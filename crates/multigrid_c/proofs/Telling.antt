@@ -5,7 +5,6 @@ use mathlib.Core.Bool.{Bool}
 use mathlib.Core.List.{List}
 use Prim.Native.Nat.{ℕ}
 use lib.Ieee.{Float}
-use lib.ListN.{length}
 use Rattle.options.specs.declared.options.Handle.{Handle}
 use Rattle.options.specs.declared.options.MultigridOptions.{MultigridOptions}
 use Rattle.solver.specs.declared.answers.Built.{Built}

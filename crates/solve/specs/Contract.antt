@@ -5,15 +5,13 @@ use Prim.Native.Nat.{ℕ}
 use lib.Ieee.{Float}
 use Rattle.store.specs.Region.{Kept}
 use Rattle.options.specs.declared.options.Handle.{Handle}
-use Rattle.solver.specs.declared.solver.LinearSolverOptions.{LinearSolverOptions}
 use Rattle.refusal.specs.declared.Refusal.{Refusal}
 use Rattle.refusal.specs.Outcome.{Outcome, accepted, refused}
 use Rattle.index_check.specs.Sound.{scratchStart}
-use Rattle.iterations.specs.System.{systemAt}
 use Rattle.solver.specs.declared.answers.Solved.{Solved}
 use Rattle.solver.specs.declared.answers.SolveRun.{SolveRun}
 use Rattle.iterations.specs.Iterate.{Solution, answerOf}
-use Rattle.solve.specs.Solve.{uncounted, solveOf}
+use Rattle.solve.specs.Solve.{uncounted}
 use Rattle.solve.specs.Solved.{solutionOf}
 
 -- on how many of so many levels a solve counted: on none where it is refused

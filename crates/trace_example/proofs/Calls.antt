@@ -12,7 +12,6 @@ use Rattle.float.specs.Float.{zero64}
 use Rattle.store.specs.Region.{lay}
 use Rattle.store.specs.Vector.{filled}
 use Rattle.store.proofs.store.Region.{length-lay}
-use Rattle.store.proofs.store.Vector.{length-tab}
 use Rattle.options.specs.declared.options.Handle.{Handle}
 use Rattle.refusal.specs.Refusal.{unsoundStores}
 use Rattle.refusal.specs.Outcome.{Outcome, accepted, refused}

@@ -12,7 +12,7 @@ use Rattle.store.proofs.store.Region.{kept-self, kept-part}
 use Rattle.options.specs.declared.options.Handle.{Handle}
 use Rattle.matrix.specs.declared.matrix.SymmetricMatrix.{SymmetricMatrix}
 use Rattle.matrix.specs.Kernel.{Kernel, KernelOk, kernelAt}
-use Rattle.layout.specs.Layout.{rowsAt, locate, levelAt, wordsEnd, floatsEnd, levelsAt, wordsTo, imageEnd, viewOf}
+use Rattle.layout.specs.Layout.{rowsAt, locate, levelAt, wordsEnd, floatsEnd, levelsAt, imageEnd, viewOf}
 use Rattle.layout.specs.Parts as parts
 use Rattle.layout.proofs.Views.{floats-to, levels-kept}
 use Rattle.index_check.specs.declared.sound.Walk.{Walk}

@@ -18,7 +18,7 @@ use contract.Lifetimes.{Lfts, Shares}
 use contract.Monad.{Fun}
 use contract.Running.{givenOf, tables, tablesOf}
 use types.Kit.{Given, ‵, raw, _⊛_, ⋆, some, later, use1, use2, use3, pick, await, _$_, _∵_, !, qed, by, move, keep, split, join, fsplit, fjoin, suffices, frame, done}
-use types.Part.{agg, whole}
+use types.Part.{agg}
 use types.SemTy.{cells}
 use types.Share.{arr-parts}
 use types.Tokens.{lft-new, lft-end}
