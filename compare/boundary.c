@@ -103,7 +103,7 @@ static void kernel(void) {
     double f[30] = {2, -1, -1, 2};
     uint64_t place[2] = {7, 7};
 
-    expect(probe_equal_mirrors(w, 17, f, 4, 1, 6, 7) == 1, "probe_equal_mirrors");
+    expect(probe_mirrors_agree(w, 17, f, 4, 1, 6, 7) == 1, "probe_mirrors_agree");
     expect(probe_take_faces(w, 17, given, 4, f, 30, 1, 6, 7, 20) == 1 && f[20] == -4, "probe_take_faces");
     expect(probe_update_given(w, 17, given, 4, f, 30, 2, 5, 7, 0, 3, 4, 4, 4, 6, 0, 0, place, 2) == 0 && f[4] == -4 &&
                f[5] == 8 && f[8] == 0.125 && place[0] == 7,

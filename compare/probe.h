@@ -148,7 +148,7 @@ uint64_t probe_update_given(const uint32_t *w, size_t w_length, const double *gi
 
 /* Whether the values of each face's two entries are finite and equal.
  * Required: upper + faces <= w_length, lower + faces <= w_length, each of these words below values_length. */
-uint8_t probe_equal_mirrors(const uint32_t *w, size_t w_length, const double *values, size_t values_length,
+uint8_t probe_mirrors_agree(const uint32_t *w, size_t w_length, const double *values, size_t values_length,
                             size_t faces, size_t upper, size_t lower);
 
 /* The same, and the value of each face's upper entry at `to`.

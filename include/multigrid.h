@@ -195,7 +195,7 @@ struct multigrid_count multigrid_statistics(struct multigrid_hierarchy hierarchy
 #define MULTIGRID_NOT_CHOLESKY           7
 #define MULTIGRID_NO_ROWS                8
 #define MULTIGRID_STORE_TOO_SMALL        9
-#define MULTIGRID_UNEQUAL_MIRRORS        10
+#define MULTIGRID_NOT_SYMMETRIC          10
 #define MULTIGRID_MISSING_DIAGONAL       11
 #define MULTIGRID_BAD_DIAGONAL           12
 #define MULTIGRID_BAD_RECIPROCAL         13
@@ -241,8 +241,8 @@ static inline const char *multigrid_sentence(uint64_t question) {
         return "there is no row";
     case MULTIGRID_STORE_TOO_SMALL:
         return "the stores or the statistics are too small";
-    case MULTIGRID_UNEQUAL_MIRRORS:
-        return "the matrix is not symmetric, or a value off its diagonal is not finite";
+    case MULTIGRID_NOT_SYMMETRIC:
+        return "an entry off the diagonal has no mirror, differs from it by more than 1e-12, or is not finite";
     case MULTIGRID_MISSING_DIAGONAL:
         return "a diagonal entry is missing";
     case MULTIGRID_BAD_DIAGONAL:

@@ -319,7 +319,7 @@ unsafe extern "C" {
         place: *mut u64,
         place_length: usize,
     ) -> u64;
-    fn probe_equal_mirrors(
+    fn probe_mirrors_agree(
         w: *const u32,
         w_length: usize,
         values: *const f64,

@@ -33,6 +33,10 @@ pub fn compare(report: &mut Report, random: &mut Random, effort: Effort) {
         let (name, problem) = Problem::draw(random);
         one_problem(report, random, &name, &problem, None);
     }
+    for _ in 0..effort.times(4_000, 100_000) {
+        let problem = Problem::with_shaken_mirrors(random);
+        one_problem(report, random, "shaken-mirrors", &problem, None);
+    }
 }
 
 fn one_problem(

@@ -18,10 +18,11 @@ const KINDS: &Names = &[
         "ordinary mixed-signs whole some-zero zero spread tiny huge cancelling \
         exactly-enough a-word-short a-float-short a-record-short \
         spoiled-arrays spoiled-one-weight spoiled-weight-count spoiled-controls spoiled-not-cholesky spoiled-no-rows \
-        spoiled-one-diagonal spoiled-one-value spoiled-one-face spoiled-entry-missing spoiled-small-pivot \
+        shaken-mirrors spoiled-one-diagonal spoiled-one-value spoiled-one-face spoiled-entry-missing spoiled-small-pivot \
         65536-rows 65537-rows rows-that-wrap 1048576-entries 1048577-entries 256-coarsest-cells 257-coarsest-cells \
         257-coupled-rows no-rows no-diagonals row-of-15 small-pivot small-pivot-no-dic 16-before-17 12-on-level-1 \
-        12-on-level-3 12-on-merged 13-on-level-1 16-on-level-1 17-on-level-1 18 \
+        12-on-level-3 12-on-merged mirrors-apart-by-1e-12 mirrors-apart-by-more one-unit-at-8191 one-unit-at-8192 \
+        mirrors-whose-difference-overflows tie-on-one-side 13-on-level-1 16-on-level-1 17-on-level-1 18 \
         path-of-4 path-of-4-word-short path-of-4-float-short path-of-4-record-short nothing-lent \
         oracle-says-what-was-said oracle-steps-and-whole",
     ),
@@ -47,7 +48,7 @@ const KINDS: &Names = &[
     ("library", "exports-and-rust rust-and-header called-from-c"),
     (
         "matrix",
-        "apply residual row_sums_into update update_given equal_mirrors take_faces outside-unchanged",
+        "apply residual row_sums_into update update_given mirrors_agree take_faces outside-unchanged",
     ),
     (
         "measure",
@@ -57,8 +58,8 @@ const KINDS: &Names = &[
     ("oracle", "worked-examples"),
     (
         "sequence",
-        "with-weights without-weights weeks large/AbsoluteL2/plain large/AbsoluteL2/gcr large/NormalizedL1/plain \
-        large/NormalizedL1/gcr hand-13-on-level-1 hand-16-on-level-1 hand-17 hand-17-on-level-1 hand-18 hand-27",
+        "with-weights without-weights shaken-mirrors/with-weights shaken-mirrors/without-weights weeks large/AbsoluteL2/plain large/AbsoluteL2/gcr large/NormalizedL1/plain \
+        large/NormalizedL1/gcr hand-13-on-level-1 hand-16-on-level-1 hand-17 hand-17-on-level-1 hand-18 hand-27 hand-one-level",
     ),
     (
         "smoother",
@@ -119,7 +120,7 @@ const DRAWN: &Names = &[
     ("matrix/apply", "finite not-finite"),
     ("matrix/residual", "finite not-finite"),
     ("matrix/row_sums_into", "finite not-finite"),
-    ("matrix/equal_mirrors", "yes no"),
+    ("matrix/mirrors_agree", "yes no"),
     ("matrix/take_faces", "yes no"),
     (
         "matrix/update",

@@ -2,6 +2,8 @@
 
 use crate::Effort;
 use crate::boundary::kernels::{self, Entries, Refused, SymmetricMatrix};
+use crate::build::expected::TOLERANCE;
+use crate::build::problem::shaken;
 use crate::matrices::container;
 use crate::numbers::{self, DRAWS};
 use crate::pattern::{self, Pattern, Shape};
@@ -59,7 +61,7 @@ fn finite(value: f64) -> f64 {
     if value.is_finite() { value } else { 1.0 }
 }
 
-/// Some entries take any number; at times one mirror alone.
+/// Some entries take any number; at times one mirror alone, at times a little.
 fn disturb(
     random: &mut Random,
     image: &mut CsrMatrix,
@@ -67,7 +69,7 @@ fn disturb(
     faces: &[(usize, usize)],
 ) {
     let values = image.values_mut();
-    match random.below(4) {
+    match random.below(5) {
         0 => {
             let row = random.index(diagonals.len());
             values[diagonals[row]] = random.pick(&[
@@ -87,6 +89,12 @@ fn disturb(
             values[upper] = value;
             if random.below(2) == 0 {
                 values[lower] = random.pick(&[value, -value]);
+            }
+        }
+        2 => {
+            for &(upper, lower) in faces {
+                let side = random.pick(&[upper, lower]);
+                values[side] = shaken(values[side], random);
             }
         }
         _ => {
@@ -147,7 +155,7 @@ fn places(
     (at, words, floats)
 }
 
-/// `is_symmetric`, with no tolerance: by the test alone, and by the one that takes the upper values.
+/// `is_symmetric`, by the test alone, and by the one that takes the upper values.
 fn mirrors(
     report: &mut Report,
     at: &Places,
@@ -157,16 +165,16 @@ fn mirrors(
     image: &CsrMatrix,
 ) {
     let (faces, w, values) = (at.faces.len(), &words.words, image.values());
-    let due = theirs.is_symmetric(image, 0.0);
-    let ours = kernels::equal_mirrors(w, values, faces, at.upper, at.lower);
-    let kind = report.kind("matrix/equal_mirrors");
+    let due = theirs.is_symmetric(image, TOLERANCE);
+    let ours = kernels::mirrors_agree(w, values, faces, at.upper, at.lower);
+    let kind = report.kind("matrix/mirrors_agree");
     report.case(kind, ours == due, || {
         format!("ours {ours} theirs {due} of {values:?}")
     });
     report.answer(if due {
-        "matrix/equal_mirrors/yes"
+        "matrix/mirrors_agree/yes"
     } else {
-        "matrix/equal_mirrors/no"
+        "matrix/mirrors_agree/no"
     });
     // A store of its own, so that the update after it finds no coefficients.
     let mut floats = Store {

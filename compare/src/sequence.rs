@@ -10,7 +10,7 @@ pub mod list;
 use crate::Effort;
 use crate::boundary::kernels::Refused;
 use crate::build::hierarchy::Hierarchy;
-use crate::build::problem::{Lent, Problem, Stores, noisy};
+use crate::build::problem::{Lent, Problem, Stores, noisy, shake};
 use crate::csr::Arrays;
 use crate::numbers::BLOCK;
 use crate::random::Random;
@@ -28,11 +28,20 @@ pub fn compare(report: &mut Report, random: &mut Random, effort: Effort) {
     }
     report.set_hand_made(false);
     for _ in 0..effort.times(6_000, 100_000) {
-        let problem = accepted(random);
+        let problem = accepted(random, any_problem);
         let calls = draw_calls(random, &problem);
         let name = match problem.weights {
             Some(_) => "with-weights",
             None => "without-weights",
+        };
+        one_sequence(report, random, name, &problem, calls);
+    }
+    for _ in 0..effort.times(1_000, 50_000) {
+        let problem = accepted(random, Problem::with_shaken_mirrors);
+        let calls = draw_calls(random, &problem);
+        let name = match problem.weights {
+            Some(_) => "shaken-mirrors/with-weights",
+            None => "shaken-mirrors/without-weights",
         };
         one_sequence(report, random, name, &problem, calls);
     }
@@ -84,7 +93,7 @@ fn large(report: &mut Report, random: &mut Random, turn: u64) {
 /// One hierarchy, refreshed and solved with for long: the last answer is still that of a fresh build.
 fn weeks(report: &mut Report, random: &mut Random, effort: Effort) {
     let problem = loop {
-        let problem = accepted(random);
+        let problem = accepted(random, any_problem);
         if problem.weights.is_some() && problem.arrays.rows > 20 {
             break problem;
         }
@@ -97,10 +106,14 @@ fn weeks(report: &mut Report, random: &mut Random, effort: Effort) {
     one_sequence(report, random, "weeks", &problem, calls);
 }
 
-/// A problem that builds.
-fn accepted(random: &mut Random) -> Problem {
+fn any_problem(random: &mut Random) -> Problem {
+    Problem::draw(random).1
+}
+
+/// A problem that builds, of those drawn so.
+fn accepted(random: &mut Random, draw: fn(&mut Random) -> Problem) -> Problem {
     loop {
-        let (_, problem) = Problem::draw(random);
+        let problem = draw(random);
         if crate::build::expected::build(&problem).answer.is_ok() {
             return problem;
         }
@@ -146,6 +159,9 @@ fn spoiled_values(random: &mut Random, problem: &Problem) -> Arrays {
         *value *= 1.0 + near * random.unit();
     }
     mirror(&mut arrays);
+    if random.below(4) == 0 {
+        shake(&mut arrays, random);
+    }
     match random.below(12) {
         0 => {
             let (_, damage) = random.pick(&crate::csr::DAMAGES);

@@ -1,6 +1,7 @@
 //! Document 01's worked examples, answered by the oracle: they show that the Rust compiles to what the
 //! document says of it, and that each of its steps can be called alone.
 
+use crate::build::expected::TOLERANCE;
 use crate::report::Report;
 use oracle::parts::{self, Acceleration, Hierarchy, Kernel, Terminal};
 use oracle::{
@@ -110,15 +111,18 @@ fn questions(report: &mut Report) {
     );
     let unsorted = CsrMatrix::new(2, 2, vec![0, 2, 2], vec![1, 0], vec![1.0; 2]).is_ok();
     expect(report, "columns that fall", unsorted, false);
-    let unequal = CsrMatrix::new(
-        2,
-        2,
-        vec![0, 1, 2],
-        vec![1, 0],
-        vec![1.0, 1.0 + f64::EPSILON],
+    let apart = |difference: f64| {
+        let values = vec![1.0, 1.0 + difference];
+        let unlike = CsrMatrix::new(2, 2, vec![0, 1, 2], vec![1, 0], values);
+        unlike.map(|matrix| matrix.is_symmetric(TOLERANCE))
+    };
+    expect(
+        report,
+        "mirrors apart by one bit",
+        apart(f64::EPSILON),
+        Ok(true),
     );
-    let symmetric = unequal.map(|matrix| matrix.is_symmetric(1.0));
-    expect(report, "mirrors apart by one bit", symmetric, Ok(false));
+    expect(report, "mirrors apart by 2e-12", apart(2e-12), Ok(false));
     let huge = path(2, f64::MAX);
     let formed = || parts::galerkin(&huge, &[0, 0], 1).is_ok();
     expect(

@@ -90,11 +90,11 @@ class StoreTooSmall(Refusal):
     placed = False
 
 
-class UnequalMirrors(Refusal):
-    """The matrix is not symmetric, or a value off its diagonal is not finite."""
+class NotSymmetric(Refusal):
+    """An entry off the diagonal has no mirror, differs from it by more than 1e-12, or is not finite."""
 
     number = 10
-    sentence = "the matrix is not symmetric, or a value off its diagonal is not finite"
+    sentence = "an entry off the diagonal has no mirror, differs from it by more than 1e-12, or is not finite"
     placed = False
 
 
@@ -277,7 +277,7 @@ REFUSALS = {
     7: NotCholesky,
     8: NoRows,
     9: StoreTooSmall,
-    10: UnequalMirrors,
+    10: NotSymmetric,
     11: MissingDiagonal,
     12: BadDiagonal,
     13: BadReciprocal,

@@ -151,7 +151,7 @@ class Solves(unittest.TestCase):
             refreshed.update(values)
             fresh = Multigrid(offsets, columns, values, weights)
             self.assertEqual(bits(refreshed.solve(rhs).x), bits(fresh.solve(rhs).x))
-            with self.assertRaises(refusals.UnequalMirrors):
+            with self.assertRaises(refusals.NotSymmetric):
                 refreshed.update([*values[:1], values[1] + 1, *values[2:]])
 
     def test_a_copy_and_a_saved_one_solve_alike(self):

@@ -38,8 +38,8 @@ pub enum Refusal {
     NoRows,
     /// The stores or the statistics are too small.
     StoreTooSmall,
-    /// The matrix is not symmetric, or a value off its diagonal is not finite.
-    UnequalMirrors,
+    /// An entry off the diagonal has no mirror, differs from it by more than 1e-12, or is not finite.
+    NotSymmetric,
     /// A diagonal entry is missing.
     MissingDiagonal {
         /// Of the matrix.
@@ -132,7 +132,7 @@ impl Refusal {
             7 => Self::NotCholesky,
             8 => Self::NoRows,
             9 => Self::StoreTooSmall,
-            10 => Self::UnequalMirrors,
+            10 => Self::NotSymmetric,
             11 => Self::MissingDiagonal { level, row },
             12 => Self::BadDiagonal { level, row },
             13 => Self::BadReciprocal { level, row },
@@ -170,7 +170,7 @@ impl Refusal {
             Self::NotCholesky => 7,
             Self::NoRows => 8,
             Self::StoreTooSmall => 9,
-            Self::UnequalMirrors => 10,
+            Self::NotSymmetric => 10,
             Self::MissingDiagonal { .. } => 11,
             Self::BadDiagonal { .. } => 12,
             Self::BadReciprocal { .. } => 13,

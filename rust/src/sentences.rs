@@ -11,7 +11,7 @@ pub(crate) const SENTENCES: [&str; 32] = [
     "the coarse solver is not Cholesky",
     "there is no row",
     "the stores or the statistics are too small",
-    "the matrix is not symmetric, or a value off its diagonal is not finite",
+    "an entry off the diagonal has no mirror, differs from it by more than 1e-12, or is not finite",
     "a diagonal entry is missing",
     "a diagonal is not finite or not above zero",
     "the reciprocal of a diagonal is not finite",

@@ -84,19 +84,21 @@ impl CsrMatrix {
             .map(|position| self.values[start + position])
     }
 
-    /// Question 10. It wants equal numbers, so the tolerance that the Rust hands over is not used.
-    pub fn is_symmetric(&self, _tolerance: f64) -> bool {
+    /// Question 10, with the tolerance that the Rust hands over.
+    pub fn is_symmetric(&self, tolerance: f64) -> bool {
         (0..self.nrows()).all(|row| {
             (self.row_offsets[row]..self.row_offsets[row + 1]).all(|entry| {
                 let column = self.column_indices[entry];
-                column == row || self.mirrors(row, column, self.values[entry])
+                column == row || self.mirrors(row, column, self.values[entry], tolerance)
             })
         })
     }
 
-    fn mirrors(&self, row: usize, column: usize, value: f64) -> bool {
+    fn mirrors(&self, row: usize, column: usize, value: f64, tolerance: f64) -> bool {
         let mirror = self.get(column, row);
-        mirror.is_some_and(|mirror| value.is_finite() && mirror.is_finite() && value == mirror)
+        mirror.is_some_and(|mirror| {
+            value.is_finite() && mirror.is_finite() && (value - mirror).abs() <= tolerance
+        })
     }
 
     /// Adds each row's products in entry order, from plus zero.

@@ -1,7 +1,7 @@
 //! The kernel of a level, of `matrix` and `values`.
 
 use super::{
-    probe_apply, probe_equal_mirrors, probe_residual, probe_row_sums_into, probe_take_faces,
+    probe_apply, probe_mirrors_agree, probe_residual, probe_row_sums_into, probe_take_faces,
     probe_update, probe_update_given, require_below, require_region, yes,
 };
 
@@ -243,11 +243,11 @@ fn require_faces(w: &[u32], count: usize, faces: usize, upper: usize, lower: usi
 }
 
 /// Whether the values of each face's two entries are finite and equal.
-pub fn equal_mirrors(w: &[u32], values: &[f64], faces: usize, upper: usize, lower: usize) -> bool {
+pub fn mirrors_agree(w: &[u32], values: &[f64], faces: usize, upper: usize, lower: usize) -> bool {
     require_faces(w, values.len(), faces, upper, lower);
     // SAFETY: the pointers are slices' own, with their lengths, and what is required was tested just now.
     yes(unsafe {
-        probe_equal_mirrors(
+        probe_mirrors_agree(
             w.as_ptr(),
             w.len(),
             values.as_ptr(),

@@ -60,6 +60,9 @@ pub fn build(problem: &Problem) -> Expected {
     Expected { answer, charges }
 }
 
+/// The tolerance of matrix.rs:17 and of mod.rs, where they test symmetry.
+pub const TOLERANCE: f64 = 1e-12;
+
 fn attempt(problem: &Problem, charges: &mut Vec<Charge>) -> Asked<Hierarchy> {
     let options = &problem.options;
     let matrix = problem.arrays.container().map_err(unplaced)?;
@@ -77,7 +80,7 @@ fn attempt(problem: &Problem, charges: &mut Vec<Charge>) -> Asked<Hierarchy> {
     charge(charges, fixed, &problem.lent)?;
     ask(options.max_levels <= problem.lent.statistics, 9)?;
     charge(charges, fixed.and_level(rows, entries), &problem.lent)?;
-    ask(matrix.is_symmetric(0.0), 10)?;
+    ask(matrix.is_symmetric(TOLERANCE), 10)?;
     let (levels, kernel) = grow(problem, matrix, charges)?;
     let mut sums = vec![0.0; rows];
     if options.residual_norm == MultigridResidualNorm::NormalizedL1 {

@@ -95,6 +95,7 @@ fn without_entries(rows: usize) -> Arrays {
 pub fn problems() -> Vec<(&'static str, Problem, Said)> {
     let mut problems = limits();
     problems.extend(places());
+    problems.extend(mirrors());
     problems.extend(stores());
     problems
 }
@@ -171,6 +172,47 @@ fn limits() -> Vec<(&'static str, Problem, Said)> {
             "no-diagonals",
             problem(without_entries(3), controls()),
             Err((11, 0, 0)),
+        ),
+    ]
+}
+
+/// Question 10: how far the two sides of a face may be apart.
+fn mirrors() -> Vec<(&'static str, Problem, Said)> {
+    let pair = |upper: f64, lower: f64| {
+        let own = 2.0 * upper.abs().clamp(1.0, 1e300);
+        Arrays {
+            rows: 2,
+            offsets: vec![0, 2, 4],
+            columns: vec![0, 1, 0, 1],
+            values: vec![own, upper, lower, own],
+        }
+    };
+    let asked = |name, arrays, passes| {
+        let said = if passes { Ok(1) } else { Err((10, 0, 0)) };
+        (name, problem(arrays, controls()), said)
+    };
+    let most = expected::TOLERANCE;
+    let unit = |value: f64| pair(value, value.next_up());
+    // Row 0 finds its two neighbours equally strong, and takes the first; from row 2 its own face is the stronger.
+    let tie = small([
+        [4.0, -1.0, -1.0],
+        [-1.0, 4.0, 0.0],
+        [-1.0 - f64::EPSILON, 0.0, 4.0],
+    ]);
+    vec![
+        asked("mirrors-apart-by-1e-12", pair(most, 0.0), true),
+        asked("mirrors-apart-by-more", pair(most.next_up(), 0.0), false),
+        asked("one-unit-at-8191", unit(8191.0), true),
+        asked("one-unit-at-8192", unit(8192.0), false),
+        asked(
+            "mirrors-whose-difference-overflows",
+            pair(f64::MAX, f64::MIN),
+            false,
+        ),
+        (
+            "tie-on-one-side",
+            problem(tie, steep(MultigridSmoother::GaussSeidel)),
+            Ok(2),
         ),
     ]
 }

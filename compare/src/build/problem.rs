@@ -191,6 +191,44 @@ const SPOILS: [(&str, Spoil); 11] = [
     }),
 ];
 
+/// The value moved by units in its last place, or by about what question 10 lets pass.
+pub fn shaken(value: f64, random: &mut Random) -> f64 {
+    match random.below(3) {
+        0 => {
+            let units = random.within(1, 4);
+            f64::from_bits(value.to_bits().wrapping_add(units))
+        }
+        1 => {
+            let units = random.within(1, 4);
+            f64::from_bits(value.to_bits().wrapping_sub(units))
+        }
+        _ => {
+            let most = expected::TOLERANCE;
+            let sizes = [
+                0.5 * most,
+                most.next_down(),
+                most,
+                most,
+                most.next_up(),
+                1.5 * most,
+            ];
+            value + random.signed(random.pick(&sizes))
+        }
+    }
+}
+
+/// The two sides of a face, of some or of all, no longer equal.
+pub fn shake(arrays: &mut Arrays, random: &mut Random) {
+    let share = random.pick(&[1, 1, 2, 8]);
+    for row in 0..arrays.rows {
+        for entry in arrays.offsets[row] as usize..arrays.offsets[row + 1] as usize {
+            if arrays.columns[entry] as usize != row && random.below(2 * share) == 0 {
+                arrays.values[entry] = shaken(arrays.values[entry], random);
+            }
+        }
+    }
+}
+
 /// Two rows more, coupled with each other alone: the pivot of the second is 2^-1052, and its reciprocal infinite.
 pub fn small_pivot(arrays: &mut Arrays) {
     let (row, entries) = (arrays.rows as u32, arrays.columns.len() as u32);
@@ -227,6 +265,14 @@ impl Problem {
             name = lent.to_string();
         }
         (name, problem)
+    }
+
+    /// A sound problem, but that the two sides of its faces differ a little.
+    pub fn with_shaken_mirrors(random: &mut Random) -> Self {
+        let (_, mut problem) = Self::sound(random);
+        shake(&mut problem.arrays, random);
+        problem.lend(random);
+        problem
     }
 
     /// More rows than a block of `dot` has, values with which a build is accepted, and what it asks for lent.

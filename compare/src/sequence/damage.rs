@@ -2,7 +2,7 @@
 //! changed. Every call answers. Refused by 19, a call leaves every word, float and record as it was; refused by another
 //! question, all but scratch. What they read and write is watched from outside (valgrind).
 
-use super::{Call, accepted, draw_calls};
+use super::{Call, accepted, any_problem, draw_calls};
 use crate::Effort;
 use crate::build::hierarchy::Hierarchy;
 use crate::build::problem::{Stores, noisy};
@@ -15,7 +15,7 @@ use multigrid::lent::{self, Handle};
 pub fn compare(report: &mut Report, random: &mut Random, effort: Effort) {
     let kind = report.kind("damage/stores");
     for _ in 0..effort.times(6_000, 100_000) {
-        let problem = accepted(random);
+        let problem = accepted(random, any_problem);
         let calls = draw_calls(random, &problem);
         let mut stores = noisy(random, &problem.lent);
         let Ok(mut handle) = crate::build::library::handle(&problem, &mut stores) else {

@@ -111,7 +111,7 @@ pub fn update(
         ..arrays.clone()
     };
     let matrix = matrix.container().map_err(|number| (number, 0, 0))?;
-    if !matrix.is_symmetric(0.0) {
+    if !matrix.is_symmetric(expected::TOLERANCE) {
         return Err((10, 0, 0));
     }
     expected::refresh(&problem.options, hierarchy, matrix)

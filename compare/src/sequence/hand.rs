@@ -17,7 +17,7 @@ pub fn listed() -> Vec<Sequence> {
 }
 
 pub fn sequences() -> Vec<Sequence> {
-    [listed(), refused_below()].concat()
+    [listed(), refused_below(), vec![one_level()]].concat()
 }
 
 /// The stores that its build asks for.
@@ -131,6 +131,30 @@ fn refreshed(
         lent: Lent::PLENTY,
     });
     (name, problem, calls)
+}
+
+/// One level, whose factor is made of the lower values: its two sides differ, and differ otherwise after the update.
+fn one_level() -> Sequence {
+    let sides = |lower: f64| small([[4.0, -2.0], [lower, 2.0]]);
+    let solve = Call::Solve {
+        rhs: vec![2.0, 1.0],
+        x: vec![0.0; 2],
+        options: LinearSolverOptions::default(),
+    };
+    let calls = vec![
+        solve.clone(),
+        Call::Update(sides(-2.0 + 1e-12)),
+        solve.clone(),
+        Call::Update(sides(-2.0 - 2e-12)),
+        solve,
+    ];
+    let problem = lent(Problem {
+        arrays: sides(-2.0 - 1e-13),
+        weights: Some(vec![0.0, 1.0, 1.0, 0.0]),
+        options: cholesky(),
+        lent: Lent::PLENTY,
+    });
+    ("hand-one-level", problem, calls)
 }
 
 /// The builds that are refused on level 1, as updates of one that is not; and 18, of the values of that level.

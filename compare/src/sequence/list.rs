@@ -13,7 +13,7 @@
 //!   residuals (zeros where it is refused), and the checksums of the solution and of the statistics after it: the sum, modulo 2^64, of
 //!   the sums of the first numbers, one for each number.
 
-use super::{Call, accepted, class, draw_calls, expected, hand, outcome, theirs};
+use super::{Call, accepted, any_problem, class, draw_calls, expected, hand, outcome, theirs};
 use crate::build::list::{arguments, fits, line, rising};
 use crate::build::problem::Problem;
 use crate::csr::Arrays;
@@ -34,7 +34,7 @@ pub fn write(random: &mut Random, each: usize) -> String {
     let by_hand = by_hand.map(|(_, problem, calls)| (problem, calls));
     let drawn: Vec<(Problem, Vec<Call>)> = (0..DRAWN)
         .map(|_| {
-            let problem = accepted(random);
+            let problem = accepted(random, any_problem);
             let calls = draw_calls(random, &problem);
             (problem, calls)
         })

@@ -16,11 +16,11 @@ use Rattle.store.proofs.store.Vector.{length-tab}
 use Rattle.options.specs.declared.options.MultigridOptions.{MultigridOptions}
 use Rattle.options.specs.declared.options.Handle.{Handle}
 use Rattle.refusal.specs.declared.Refusal.{Refusal}
-use Rattle.refusal.specs.Refusal.{unequalMirrors}
+use Rattle.refusal.specs.Refusal.{notSymmetric}
 use Rattle.refusal.specs.declared.Verdict.{Verdict}
 use Rattle.refusal.specs.Outcome.{Outcome, accepted, refused, ask, _>>=_}
 use Rattle.refusal.proofs.Outcome.{accepted-one}
-use Rattle.coefficients.specs.Mirrors.{mirrorsEqual}
+use Rattle.coefficients.specs.Mirrors.{mirrorsAgree}
 use Rattle.pattern.specs.Pattern.{Pattern, entries, Valid, Rising, Mirrored}
 use Rattle.faces.specs.Faces.{facesOf, uppersOf, lowersOf, mirroredOf}
 use Rattle.faces.proofs.faces.Laws.{mirrored-is}
@@ -149,7 +149,7 @@ levels-of o ls = depth.levels-kept o ls
 
 mirrors-of : (p : Pattern) (values : List Float) → symmetricOf p values ≡ true → mirroredOf p ≡ true
 unfolding symmetricOf
-mirrors-of p values e = both-l (mirroredOf p) (mirrorsEqual (facesOf p) (uppersOf p) (lowersOf p) values) e
+mirrors-of p values e = both-l (mirroredOf p) (mirrorsAgree (facesOf p) (uppersOf p) (lowersOf p) values) e
 
 meshes : {p q : Pattern} {a b c d : List Float} → p ≡ q → a ≡ b → c ≡ d
     → _≡_ {A = Mesh} (record { pattern = p; values = a; weights = c }) (record { pattern = q; values = b; weights = d })
@@ -297,18 +297,18 @@ module _ {words floats : ℕ} {x : Input} {t : Workspace} (fit : Fitting words f
           (andLevel (patternIn x) (fixedCharge (x .options) (x .rows) (length (x .columns)))) (meshIn x)
       grow-is = grow-same (x .options) (x .given) (x .options .«max_levels» - 1) stores-is used-is mesh-is
 
-      pub begun-asymmetric : r ≡ false → Begun w y F G x (Built.Refused unequalMirrors)
+      pub begun-asymmetric : r ≡ false → Begun w y F G x (Built.Refused notSymmetric)
       unfolding restOf
       begun-asymmetric fails =
           refusing (restOf (charge (length w) (length F)) x)
-          (ask-no (symmetricOf (patternIn x) (x .values)) unequalMirrors _ (sym answer-is ∙ fails))
+          (ask-no (symmetricOf (patternIn x) (x .values)) notSymmetric _ (sym answer-is ∙ fails))
           (asked .words .size ∙ load .wordsize) (load .floatsize)
 
       rest-is : r ≡ true → restOf (charge (length w) (length F)) x
           ≡ _>>=_ (growAt (x .options) (x .given) y G t (finestOf (x .options) t)) (λ ls. accepted (withSums (x .options) ls))
       unfolding restOf
       rest-is holds =
-          ask-yes (symmetricOf (patternIn x) (x .values)) unequalMirrors _ (sym answer-is ∙ holds)
+          ask-yes (symmetricOf (patternIn x) (x .values)) notSymmetric _ (sym answer-is ∙ holds)
           ∙ ap (λ (out : Outcome (List Level)). _>>=_ out (λ ls. accepted (withSums (x .options) ls))) (sym grow-is)
 
       pub begun-levels : r ≡ true → {v : List ℕ} {H : List Float} {b : Built} → LevelsDone y v G H (x .options) (x .given) t b

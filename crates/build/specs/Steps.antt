@@ -9,7 +9,7 @@ use Rattle.float.specs.Float.{zero64}
 use Rattle.store.specs.Vector.{filled}
 use Rattle.options.specs.declared.options.MultigridOptions.{MultigridOptions}
 use Rattle.refusal.specs.declared.Refusal.{Refusal}
-use Rattle.refusal.specs.Refusal.{unequalMirrors}
+use Rattle.refusal.specs.Refusal.{notSymmetric}
 use Rattle.refusal.specs.Outcome.{Outcome, accepted, refused, ask, _>>=_, _>>_}
 use Rattle.hierarchy.specs.Level.{Level, Hierarchy}
 use Rattle.hierarchy.specs.Refresh.{withSums}
@@ -29,7 +29,7 @@ pub use Rattle.build.specs.Asking.{inputOf}
 unfoldable pub restOf : Charge → Input → Outcome Hierarchy
 restOf stores x = do
   let fixed = fixedCharge (x .options) (x .rows) (length (x .columns))
-  ask (symmetricOf (patternIn x) (x .values)) unequalMirrors
+  ask (symmetricOf (patternIn x) (x .values)) notSymmetric
   levels ← growOf (x .options) (x .given) stores (x .options .«max_levels» - 1) 0 0 (andLevel (patternIn x) fixed) (meshIn x)
   accepted (withSums (x .options) levels)
 

@@ -43,7 +43,7 @@ pub fn symmetric(w: &mut [u32], values: &[f64], t: Workspace) -> bool
     let s = faces_of(t, faces);
     faces::fill_faces(w, s);
     if mirrors::mirrors(w, s) {
-        return coefficients::equal_mirrors(w, values, faces, t.uppers, t.lowers);
+        return coefficients::mirrors_agree(w, values, faces, t.uppers, t.lowers);
     }
     false
 }

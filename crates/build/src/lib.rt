@@ -60,7 +60,7 @@ fn begin(
     if finest::symmetric(w, values, t) {
         return levels(w, f, o, given, t);
     }
-    Built::Refused(refusal::UNEQUAL_MIRRORS)
+    Built::Refused(refusal::NOT_SYMMETRIC)
 }
 
 // The whole build; where it refuses nothing is said of what the stores hold.

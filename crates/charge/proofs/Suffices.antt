@@ -10,7 +10,7 @@ use native.Mathlib.Omega.{arith}
 use lib.Dec.{eqb, leb}
 use borrow.Author.Tests.{le-leb}
 use Rattle.refusal.specs.declared.Verdict.{Verdict}
-use Rattle.refusal.specs.Refusal.{noRows, storeTooSmall, unequalMirrors}
+use Rattle.refusal.specs.Refusal.{noRows, storeTooSmall, notSymmetric}
 use Rattle.refusal.specs.Outcome.{Outcome, accepted, passed, verdictOf}
 use Rattle.options.specs.declared.options.MultigridOptions.{MultigridOptions}
 use Rattle.options.specs.Options.{controlsAsked}
@@ -247,7 +247,7 @@ suffices l x lends = chain .is
         ask-spares (leb 1 (x .rows)) noRows refl (
         holds-spares (holds (l .stores) (fixedIn x) && leb (o .«max_levels») (l .records)) storeTooSmall (roomy l x lends fit) (
         holds-spares (holds (l .stores) (chargeIn x)) storeTooSmall (finest-paid l x lends fit) (
-        ask-spares (symmetricOf p (x .values)) unequalMirrors refl (
+        ask-spares (symmetricOf p (x .values)) notSymmetric refl (
         then-spares (growOf o (x .given) (l .stores) (o .«max_levels» - 1) 0 0 (chargeIn x) (meshIn x))
         (grow-spares o (x .given) (l .stores) (5 * x .rows + 4 * entries p + 8) (20 * x .rows + 4 * entries p) (x .rows) (entries p)
         (record { words = omega arith; floats = omega arith }) (o .«max_levels» - 1) 0 0 (chargeIn x) (meshIn x)

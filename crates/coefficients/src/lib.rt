@@ -2,7 +2,7 @@
 pub mod mirrors;
 pub mod values;
 
-pub use mirrors::equal_mirrors;
+pub use mirrors::mirrors_agree;
 pub use mirrors::take_faces;
 pub use values::Entries;
 pub use values::pick_given;

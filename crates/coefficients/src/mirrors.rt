@@ -3,19 +3,19 @@ ghost use mathlib.Core.Path.{_≡_};
 ghost use Prim.Native.Nat.{_+_, _≤_};
 ghost use lib.ListN.{length};
 ghost use Rattle.store.specs.Region.{part};
-ghost use Rattle.coefficients.specs.Mirrors.{mirrorsAgree, mirrorsEqual, MirrorsOk, Taken};
+ghost use Rattle.coefficients.specs.Mirrors.{pairAgrees, mirrorsAgree, MirrorsOk, Taken};
 
-// Both finite, and equal as numbers: what equals a finite number is finite.
-fn mirrors_agree(a: f64, b: f64) -> bool
-    ensures { λ r. ⌜ r ≡ mirrorsAgree a b ⌝ }
+// Both finite, and apart by at most 1e-12. Where one is a NaN or infinite, so is the difference, and the comparison fails: it tells all three.
+fn pair_agrees(a: f64, b: f64) -> bool
+    ensures { λ r. ⌜ r ≡ pairAgrees a b ⌝ }
 {
-    float::is_finite(a) & (a == b)
+    float::abs(a - b) <= 1.0e-12
 }
 
 // Whether the values at each face's two positions agree. No branch leaves the loop: a symmetric image passes as a whole.
-pub fn equal_mirrors(w: &[u32], values: &[f64], faces: usize, upper: usize, lower: usize) -> bool
+pub fn mirrors_agree(w: &[u32], values: &[f64], faces: usize, upper: usize, lower: usize) -> bool
     requires { ⌜ MirrorsOk (now w) (length (now values)) faces upper lower ⌝ }
-    ensures { λ r. ⌜ r ≡ mirrorsEqual faces (part upper faces (now (w .entry))) (part lower faces (now (w .entry))) (now (values .entry)) ⌝ }
+    ensures { λ r. ⌜ r ≡ mirrorsAgree faces (part upper faces (now (w .entry))) (part lower faces (now (w .entry))) (now (values .entry)) ⌝ }
 {
     let count = values.len();
     let mut ok = true;
@@ -23,7 +23,7 @@ pub fn equal_mirrors(w: &[u32], values: &[f64], faces: usize, upper: usize, lowe
     while face < faces {
         let a = store::index_at(w, upper, face, count);
         let b = store::index_at(w, lower, face, count);
-        ok = ok & mirrors_agree(values[a], values[b]);
+        ok = ok & pair_agrees(values[a], values[b]);
         face += 1;
     }
     ok
@@ -51,7 +51,7 @@ pub fn take_faces(
         let a = store::index_at(w, upper, face, count);
         let b = store::index_at(w, lower, face, count);
         let v = values[a];
-        ok = ok & mirrors_agree(v, values[b]);
+        ok = ok & pair_agrees(v, values[b]);
         f[to + face] = v;
         face += 1;
     }

@@ -11,7 +11,7 @@ use lib.ListN.{length}
 use borrow.Author.Tests.{ne-eqb}
 use Rattle.options.specs.declared.options.MultigridOptions.{MultigridOptions}
 use Rattle.refusal.specs.declared.Refusal.{Refusal}
-use Rattle.refusal.specs.Refusal.{invalidControls, notCholesky, noRows, storeTooSmall, unequalMirrors, tooManyCoupled, badCoarseValue}
+use Rattle.refusal.specs.Refusal.{invalidControls, notCholesky, noRows, storeTooSmall, notSymmetric, tooManyCoupled, badCoarseValue}
 use Rattle.options.specs.Options.{validOf, isCholesky, controlsAsked}
 use Rattle.refusal.specs.Outcome.{Outcome, accepted, refused, passed, ask, _>>=_}
 use Rattle.refusal.proofs.Outcome.{accepted-one}
@@ -305,7 +305,7 @@ build-built l x e =
     let rows = ask-split (leb 1 (x .rows)) noRows _ (c .2) in
     let room = ask-split (holds (l .stores) (fixedIn x) && leb (o .«max_levels») (l .records)) storeTooSmall _ (rows .1) in
     let paid = ask-split (holds (l .stores) (chargeIn x)) storeTooSmall _ (room .1) in
-    let even = ask-split (symmetricOf p (x .values)) unequalMirrors _ (paid .1) in
+    let even = ask-split (symmetricOf p (x .values)) notSymmetric _ (paid .1) in
     let g = then-split (growOf o (x .given) (l .stores) (o .«max_levels» - 1) 0 0 (chargeIn x) (meshIn x)) _ (even .1) in
     record {
       matrix = a .1;

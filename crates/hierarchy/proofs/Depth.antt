@@ -11,7 +11,7 @@ use borrow.Author.Tests.{leb-true, le-leb}
 use Rattle.store.proofs.store.Each.{both-l, both-r}
 use Rattle.options.specs.declared.options.MultigridOptions.{MultigridOptions}
 use Rattle.refusal.specs.declared.Refusal.{Refusal}
-use Rattle.refusal.specs.Refusal.{noRows, storeTooSmall, unequalMirrors}
+use Rattle.refusal.specs.Refusal.{noRows, storeTooSmall, notSymmetric}
 use Rattle.options.specs.Options.{within, validOf, controlsAsked, tolerable}
 use Rattle.refusal.specs.Outcome.{Outcome, accepted, passed, ask, _>>=_}
 use Rattle.pattern.specs.Pattern.{entries}
@@ -173,7 +173,7 @@ build-larger {l} {bigger} big x =
     ask-keeps (room l) (room bigger) storeTooSmall _ _ roomy (
     ask-keeps (holds (l .stores) (chargeIn x)) (holds (bigger .stores) (chargeIn x)) storeTooSmall _ _
     (holds-larger (big .stores) (chargeIn x)) (
-    ask-keeps (symmetricOf p (x .values)) (symmetricOf p (x .values)) unequalMirrors _ _ (λ e. e) (λ e.
+    ask-keeps (symmetricOf p (x .values)) (symmetricOf p (x .values)) notSymmetric _ _ (λ e. e) (λ e.
     let g = then-split (growOf o (x .given) (l .stores) (o .«max_levels» - 1) 0 0 (chargeIn x) (meshIn x)) _ e in
     rw (grow-larger o (x .given) (big .stores) (o .«max_levels» - 1) 0 0 (chargeIn x) (meshIn x) (g .1)) (g .2))))))))
   where

@@ -6,12 +6,12 @@ use lib.Dec.{eqb, leb}
 use lib.ListN.{length}
 use lib.Ieee.{Float}
 use Rattle.options.specs.declared.options.MultigridOptions.{MultigridOptions}
-use Rattle.refusal.specs.Refusal.{noRows, storeTooSmall, unequalMirrors, tooManyCoupled, badCoarseValue}
+use Rattle.refusal.specs.Refusal.{noRows, storeTooSmall, notSymmetric, tooManyCoupled, badCoarseValue}
 use Rattle.options.specs.Options.{controlsAsked}
 use Rattle.refusal.specs.Outcome.{Outcome, accepted, passed, ask, _>>=_, _>>_}
 use Rattle.vector.specs.Finite.{allFinite}
 use Rattle.coefficients.specs.Update.{Coefficients, kernelUpdateOf}
-use Rattle.coefficients.specs.Mirrors.{mirrorsEqual}
+use Rattle.coefficients.specs.Mirrors.{mirrorsAgree}
 use Rattle.aggregation.specs.Pairs.{Pairing, strengthsOf, pairsOf}
 use Rattle.pattern.specs.Pattern.{Pattern, entries, coarse, coarsePositions, composeOf}
 use Rattle.galerkin.specs.Values.{sumsOf, symmetrizeOf, zeroDiagonalOf}
@@ -198,7 +198,7 @@ meshIn x = record { pattern = patternIn x; values = x .values; weights = cond (x
 
 -- question 10: each entry has its mirror, both finite and equal as numbers
 unfoldable pub symmetricOf : Pattern → List Float → Bool
-symmetricOf p values = mirroredOf p && mirrorsEqual (facesOf p) (uppersOf p) (lowersOf p) values
+symmetricOf p values = mirroredOf p && mirrorsAgree (facesOf p) (uppersOf p) (lowersOf p) values
 
 -- the build: a hierarchy, or the first refusal
 unfoldable pub buildOf : Lent → Input → Outcome Hierarchy
@@ -212,7 +212,7 @@ buildOf l x = do
   ask (leb 1 (x .rows)) noRows
   ask (holds (l .stores) fixed && leb (o .«max_levels») (l .records)) storeTooSmall
   ask (holds (l .stores) (andLevel p fixed)) storeTooSmall
-  ask (symmetricOf p (x .values)) unequalMirrors
+  ask (symmetricOf p (x .values)) notSymmetric
   levels ← growOf o (x .given) (l .stores) (o .«max_levels» - 1) 0 0 (andLevel p fixed) (meshIn x)
   accepted (withSums o levels)
 

@@ -7,7 +7,7 @@ ghost use Rattle.store.specs.Region.{at, idx, part, Wrote};
 ghost use Rattle.store.specs.Vector.{tab};
 ghost use Rattle.matrix.specs.Kernel.{kernelAt, applyOf, residualOf, rowSumsOf, KernelOk};
 ghost use Rattle.coefficients.specs.Update.{updateAt, updateWith, UpdateOk, Updated};
-ghost use Rattle.coefficients.specs.Mirrors.{mirrorsEqual, MirrorsOk};
+ghost use Rattle.coefficients.specs.Mirrors.{mirrorsAgree, MirrorsOk};
 ghost use Rattle.probe.specs.Probe.{flag, symmetricOf, entriesOf, Told};
 use coefficients::Entries;
 use matrix::SymmetricMatrix;
@@ -211,7 +211,7 @@ pub extern "C" fn probe_update_given(
 }
 
 #[no_mangle]
-pub extern "C" fn probe_equal_mirrors(
+pub extern "C" fn probe_mirrors_agree(
     w: &[u32],
     values: &[f64],
     faces: usize,
@@ -219,10 +219,10 @@ pub extern "C" fn probe_equal_mirrors(
     lower: usize,
 ) -> u8
     requires { ⌜ MirrorsOk (now w) (length (now values)) faces upper lower ⌝ }
-    ensures { λ r. ⌜ r ≡ flag (mirrorsEqual faces (part upper faces (now (w .entry)))
+    ensures { λ r. ⌜ r ≡ flag (mirrorsAgree faces (part upper faces (now (w .entry)))
         (part lower faces (now (w .entry))) (now (values .entry))) ⌝ }
 {
-    number(coefficients::equal_mirrors(w, values, faces, upper, lower))
+    number(coefficients::mirrors_agree(w, values, faces, upper, lower))
 }
 
 #[no_mangle]
@@ -237,7 +237,7 @@ pub extern "C" fn probe_take_faces(
 ) -> u8
     requires { ⌜ MirrorsOk (now w) (length (now values)) faces upper lower ⌝ }
     requires { ⌜ to + faces ≤ length (now f) ⌝ }
-    ensures { λ r. ⌜ r ≡ flag (mirrorsEqual faces (part upper faces (now (w .entry)))
+    ensures { λ r. ⌜ r ≡ flag (mirrorsAgree faces (part upper faces (now (w .entry)))
         (part lower faces (now (w .entry))) (now (values .entry))) ⌝ }
     ensures { λ _. ⌜ Wrote to faces
         (tab (λ k. at (now (values .entry)) (idx (part upper faces (now (w .entry))) k)) faces)

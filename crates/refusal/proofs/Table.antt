@@ -3,12 +3,12 @@ use mathlib.Core.Path.{_≡_, refl}
 use mathlib.Core.List.{List, [], _∷_}
 use Prim.Native.Nat.{ℕ}
 use Rattle.refusal.specs.declared.Refusal.{Refusal}
-use Rattle.refusal.specs.Refusal.{questionAt, tooLarge, badOffsets, badColumns, weightCount, badWeight, invalidControls, notCholesky, noRows, storeTooSmall, unequalMirrors, missingDiagonal, badDiagonal, badReciprocal, tooManyCoupled, badPivot, badDicPivot, badDicReciprocal, badCoarseValue, unsoundStores, wrongLength, badInput, badNormalization, badResidual, badCoarseSolution, badSmootherOutput, badCorrectionProduct, badCorrectionScale, badDotProduct, zeroImage, badDirection, otherPattern}
+use Rattle.refusal.specs.Refusal.{questionAt, tooLarge, badOffsets, badColumns, weightCount, badWeight, invalidControls, notCholesky, noRows, storeTooSmall, notSymmetric, missingDiagonal, badDiagonal, badReciprocal, tooManyCoupled, badPivot, badDicPivot, badDicReciprocal, badCoarseValue, unsoundStores, wrongLength, badInput, badNormalization, badResidual, badCoarseSolution, badSmootherOutput, badCorrectionProduct, badCorrectionScale, badDotProduct, zeroImage, badDirection, otherPattern}
 
 -- the refusals questionAt level l and row r, in document 01's order
 abbrev table : ℕ → ℕ → List Refusal
 table l r =
-    tooLarge ∷ badOffsets ∷ badColumns ∷ weightCount ∷ badWeight ∷ invalidControls ∷ notCholesky ∷ noRows ∷ storeTooSmall ∷ unequalMirrors ∷ (missingDiagonal l r) ∷ (badDiagonal l r) ∷ (badReciprocal l r) ∷ tooManyCoupled ∷ (badPivot l r) ∷ (badDicPivot l r) ∷ (badDicReciprocal l r) ∷ badCoarseValue ∷ unsoundStores ∷ wrongLength ∷ badInput ∷ badNormalization ∷ badResidual ∷ badCoarseSolution ∷ badSmootherOutput ∷ badCorrectionProduct ∷ badCorrectionScale ∷ badDotProduct ∷ zeroImage ∷ badDirection ∷ otherPattern ∷ []
+    tooLarge ∷ badOffsets ∷ badColumns ∷ weightCount ∷ badWeight ∷ invalidControls ∷ notCholesky ∷ noRows ∷ storeTooSmall ∷ notSymmetric ∷ (missingDiagonal l r) ∷ (badDiagonal l r) ∷ (badReciprocal l r) ∷ tooManyCoupled ∷ (badPivot l r) ∷ (badDicPivot l r) ∷ (badDicReciprocal l r) ∷ badCoarseValue ∷ unsoundStores ∷ wrongLength ∷ badInput ∷ badNormalization ∷ badResidual ∷ badCoarseSolution ∷ badSmootherOutput ∷ badCorrectionProduct ∷ badCorrectionScale ∷ badDotProduct ∷ zeroImage ∷ badDirection ∷ otherPattern ∷ []
 
 -- question n of document 01 is the n-th of them, and the six that name a place carry it
 in-order : (l r : ℕ) → table l r ≡ questionAt 1 0 0 ∷ questionAt 2 0 0 ∷ questionAt 3 0 0 ∷ questionAt 4 0 0 ∷ questionAt 5 0 0 ∷ questionAt 6 0 0 ∷ questionAt 7 0 0 ∷ questionAt 8 0 0 ∷ questionAt 9 0 0 ∷ questionAt 10 0 0 ∷ questionAt 11 l r ∷ questionAt 12 l r ∷ questionAt 13 l r ∷ questionAt 14 0 0 ∷ questionAt 15 l r ∷ questionAt 16 l r ∷ questionAt 17 l r ∷ questionAt 18 0 0 ∷ questionAt 19 0 0 ∷ questionAt 20 0 0 ∷ questionAt 21 0 0 ∷ questionAt 22 0 0 ∷ questionAt 23 0 0 ∷ questionAt 24 0 0 ∷ questionAt 25 0 0 ∷ questionAt 26 0 0 ∷ questionAt 27 0 0 ∷ questionAt 28 0 0 ∷ questionAt 29 0 0 ∷ questionAt 30 0 0 ∷ questionAt 31 0 0 ∷ []

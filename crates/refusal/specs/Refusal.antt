@@ -46,9 +46,9 @@ noRows = question 8
 abbrev pub storeTooSmall : Refusal
 storeTooSmall = question 9
 
--- the matrix is not symmetric, or a value off its diagonal is not finite
-abbrev pub unequalMirrors : Refusal
-unequalMirrors = question 10
+-- an entry off the diagonal has no mirror, differs from it by more than 1e-12, or is not finite
+abbrev pub notSymmetric : Refusal
+notSymmetric = question 10
 
 -- a diagonal entry is missing
 abbrev pub missingDiagonal : ℕ → ℕ → Refusal

@@ -83,7 +83,7 @@ pub const STORE_TOO_SMALL: Refusal = Refusal {
     row: 0,
 };
 
-pub const UNEQUAL_MIRRORS: Refusal = Refusal {
+pub const NOT_SYMMETRIC: Refusal = Refusal {
     number: 10,
     level: 0,
     row: 0,

@@ -6,9 +6,9 @@ use lib.ListN.{length}
 use lib.Ieee.{Float}
 use Rattle.store.specs.Region.{idx, Kept}
 use Rattle.refusal.specs.declared.Verdict.{Verdict}
-use Rattle.refusal.specs.Refusal.{unequalMirrors, otherPattern}
+use Rattle.refusal.specs.Refusal.{notSymmetric, otherPattern}
 use Rattle.refusal.specs.Outcome.{Outcome, passed, ask, verdictOf, _>>=_, _>>_}
-use Rattle.coefficients.specs.Mirrors.{mirrorsEqual}
+use Rattle.coefficients.specs.Mirrors.{mirrorsAgree}
 use Rattle.hierarchy.specs.Level.{Shape}
 use Rattle.layout.specs.declared.Place.{Place}
 use Rattle.layout.specs.Layout.{locate}
@@ -21,7 +21,7 @@ use Rattle.update_levels.specs.Update.{samePattern}
 abbrev pub askedOf : Shape → List ℕ → List ℕ → List Float → Outcome Unit
 askedOf s offsets columns values = do
   ask (samePattern s offsets columns values) otherPattern
-  ask (mirrorsEqual (length (s .uppers)) (s .uppers) (s .lowers) values) unequalMirrors
+  ask (mirrorsAgree (length (s .uppers)) (s .uppers) (s .lowers) values) notSymmetric
   passed
 
 -- The pattern of the level at p lies in the words.

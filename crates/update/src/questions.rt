@@ -66,7 +66,7 @@ pub fn asked(
         if coefficients::take_faces(w, values, f, p.faces, p.uppers, p.lowers, p.coefficients) {
             return Verdict::Passed;
         }
-        return Verdict::Refused(refusal::UNEQUAL_MIRRORS);
+        return Verdict::Refused(refusal::NOT_SYMMETRIC);
     }
     Verdict::Refused(refusal::OTHER_PATTERN)
 }

@@ -8,10 +8,10 @@ use lib.Ieee.{Float}
 use Rattle.store.specs.Region.{idx}
 use Rattle.store.specs.Vector.{each}
 use Rattle.options.specs.declared.options.MultigridOptions.{MultigridOptions}
-use Rattle.refusal.specs.Refusal.{unequalMirrors, badCoarseValue, otherPattern}
+use Rattle.refusal.specs.Refusal.{notSymmetric, badCoarseValue, otherPattern}
 use Rattle.refusal.specs.Outcome.{Outcome, accepted, refused, ask, _>>=_, _>>_}
 use Rattle.vector.specs.Finite.{allFinite}
-use Rattle.coefficients.specs.Mirrors.{mirrorsEqual}
+use Rattle.coefficients.specs.Mirrors.{mirrorsAgree}
 use Rattle.pattern.specs.Pattern.{entries}
 use Rattle.hierarchy.specs.Level.{Shape, Level, Hierarchy}
 use Rattle.hierarchy.specs.Refresh.{numbersOf, coarseValues, withSums}
@@ -49,6 +49,6 @@ module _ (o : MultigridOptions) where
   updateOf [] offsets columns values = refused otherPattern
   updateOf (s ∷ rest) offsets columns values = do
     ask (samePattern s offsets columns values) otherPattern
-    ask (mirrorsEqual (length (s .uppers)) (s .uppers) (s .lowers) values) unequalMirrors
+    ask (mirrorsAgree (length (s .uppers)) (s .uppers) (s .lowers) values) notSymmetric
     levels ← renewOf 0 (s ∷ rest) values
     accepted (withSums o levels)

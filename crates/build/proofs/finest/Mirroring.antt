@@ -9,7 +9,7 @@ use lib.ListN.{length}
 use lib.Ieee.{Float}
 use Rattle.store.specs.Region.{idx, part, Kept}
 use Rattle.store.proofs.store.Region.{getD-part, length-part, wrote-off, kept-wrote, kept-on, kept-less}
-use Rattle.coefficients.specs.Mirrors.{mirrorsEqual}
+use Rattle.coefficients.specs.Mirrors.{mirrorsAgree}
 use Rattle.coefficients.specs.Mirrors as agreeing
 use Rattle.pattern.specs.Pattern.{Pattern, entries}
 use Rattle.faces.specs.Faces.{facesOf, uppersOf, lowersOf, mirroredOf}
@@ -97,7 +97,7 @@ module _ {w : List ℕ} {values : List Float} {t : Workspace} (ok : SymmetricOk 
         pub asymmetric : r ≡ false → SymmetricDone w z values t false
         unfolding symmetricOf
         asymmetric e = record {
-          answer = sym (no (mirroredOf p) (mirrorsEqual (facesOf p) (uppersOf p) (lowersOf p) values) (sym told ∙ e));
+          answer = sym (no (mirroredOf p) (mirrorsAgree (facesOf p) (uppersOf p) (lowersOf p) values) (sym told ∙ e));
           words = last-kept;
         }
           where
@@ -140,12 +140,12 @@ module _ {w : List ℕ} {values : List Float} {t : Workspace} (ok : SymmetricOk 
                     omega arith;
               }
 
-          pub compared : {a : Bool} → a ≡ mirrorsEqual faces (part (t .uppers) faces z) (part (t .lowers) faces z) values
+          pub compared : {a : Bool} → a ≡ mirrorsAgree faces (part (t .uppers) faces z) (part (t .lowers) faces z) values
               → SymmetricDone w z values t a
           unfolding symmetricOf
           compared {a} e = record {
             answer = e ∙ rw (uppers-at, lowers-at, count)
-                (sym (both (mirroredOf p) (mirrorsEqual (facesOf p) (uppersOf p) (lowersOf p) values) (sym told ∙ yes)));
+                (sym (both (mirroredOf p) (mirrorsAgree (facesOf p) (uppersOf p) (lowersOf p) values) (sym told ∙ yes)));
             words = last-kept;
           }
             where

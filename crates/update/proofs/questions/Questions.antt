@@ -14,12 +14,12 @@ use Rattle.store.specs.Region.{at, idx, part, Wrote, Kept}
 use Rattle.store.specs.Vector.{tab, each}
 use Rattle.store.proofs.store.Region.{getD-part, length-part, wrote-at, kept-wrote, kept-self}
 use Rattle.store.proofs.store.Each.{both-l, both-r, each-same}
-use Rattle.refusal.specs.Refusal.{unequalMirrors, otherPattern}
+use Rattle.refusal.specs.Refusal.{notSymmetric, otherPattern}
 use Rattle.refusal.specs.declared.Refusal.{Refusal}
 use Rattle.refusal.specs.declared.Verdict.{Verdict}
 use Rattle.refusal.specs.Outcome.{Outcome, refused, passed, ask, verdictOf}
 use Rattle.refusal.proofs.Outcome.{ask-yes, ask-no}
-use Rattle.coefficients.specs.Mirrors.{mirrorsEqual, MirrorsOk, Taken}
+use Rattle.coefficients.specs.Mirrors.{mirrorsAgree, MirrorsOk, Taken}
 use Rattle.layout.specs.declared.Place.{Place}
 use Rattle.layout.specs.Layout.{entriesAt, locate}
 use Rattle.index_check.specs.Sound.{shapeIn}
@@ -122,20 +122,20 @@ module _ {w : List ℕ} (F : List Float) {image : ℕ} (offsets columns : List �
 
   module _ (told : t ≡ true) {G : List Float} {m : Bool} (took : Taken w values F G (p .faces) (p .uppers) (p .lowers) (p .coefficients) m) where
     -- The answer of question 10 is that of the finest shape.
-    mirrors-are : mirrorsEqual (length (shapeIn w 0 .uppers)) (shapeIn w 0 .uppers) (shapeIn w 0 .lowers) values ≡ m
+    mirrors-are : mirrorsAgree (length (shapeIn w 0 .uppers)) (shapeIn w 0 .uppers) (shapeIn w 0 .lowers) values ≡ m
     mirrors-are =
         let q = locate w 0 0 in
         let inside = ok .inside in
         let l : length (part (q .uppers) (q .faces) w) ≡ q .faces = length-part (q .uppers) (q .faces) w (omega arith) in
-        ap (λ (n : ℕ). mirrorsEqual n (part (q .uppers) (q .faces) w) (part (q .lowers) (q .faces) w) values) l ∙ sym (rw is at (took .agree))
+        ap (λ (n : ℕ). mirrorsAgree n (part (q .uppers) (q .faces) w) (part (q .lowers) (q .faces) w) values) l ∙ sym (rw is at (took .agree))
 
     -- Once 31 has passed, 10 is asked.
-    on : wanted ≡ ask m unequalMirrors passed
+    on : wanted ≡ ask m notSymmetric passed
     on =
         let s = shapeIn w 0 in
         ask-yes (samePattern s offsets columns values) otherPattern
-        (ask (mirrorsEqual (length (s .uppers)) (s .uppers) (s .lowers) values) unequalMirrors passed) (sym same-is ∙ told)
-        ∙ ap (λ (b : Bool). ask b unequalMirrors passed) mirrors-are
+        (ask (mirrorsAgree (length (s .uppers)) (s .uppers) (s .lowers) values) notSymmetric passed) (sym same-is ∙ told)
+        ∙ ap (λ (b : Bool). ask b notSymmetric passed) mirrors-are
 
     -- The values stand where the coefficients are, and nothing below the shadow changed.
     there : FacesReady w values G (locate w 0 image)
@@ -148,14 +148,14 @@ module _ {w : List ℕ} (F : List Float) {image : ℕ} (offsets columns : List �
     under = kept-wrote (took .wrote) (rw is (omega arith))
 
     -- Question 10 refuses.
-    pub asked-unequal : m ≡ false → Asked w F G offsets columns values image (Verdict.Refused unequalMirrors)
-    asked-unequal fails =
-        record { answer = sym (ap verdictOf (on ∙ ask-no m unequalMirrors passed fails)); taken = λ y. no-pass y; kept = under }
+    pub asked-asymmetric : m ≡ false → Asked w F G offsets columns values image (Verdict.Refused notSymmetric)
+    asked-asymmetric fails =
+        record { answer = sym (ap verdictOf (on ∙ ask-no m notSymmetric passed fails)); taken = λ y. no-pass y; kept = under }
 
     -- Both pass.
     pub asked-passed : m ≡ true → Asked w F G offsets columns values image Verdict.Passed
     asked-passed holds =
-        record { answer = sym (ap verdictOf (on ∙ ask-yes m unequalMirrors passed holds)); taken = λ _. there; kept = under }
+        record { answer = sym (ap verdictOf (on ∙ ask-yes m notSymmetric passed holds)); taken = λ _. there; kept = under }
 
 -- What the comparison of the pattern requires.
 pub pattern-ready : {w : List ℕ} {size image : ℕ} {p : Place} → AskOk w size image → p ≡ locate w 0 image → PatternOk w p

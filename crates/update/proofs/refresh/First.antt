@@ -7,11 +7,11 @@ use Prim.Native.Nat.{ℕ, _+_}
 use lib.ListN.{length}
 use lib.Ieee.{Float}
 use Rattle.options.specs.declared.options.MultigridOptions.{MultigridOptions}
-use Rattle.refusal.specs.Refusal.{unequalMirrors, badCoarseValue, otherPattern}
+use Rattle.refusal.specs.Refusal.{notSymmetric, badCoarseValue, otherPattern}
 use Rattle.refusal.specs.Outcome.{Outcome, accepted, ask, _>>=_}
 use Rattle.refusal.proofs.Outcome.{ask-yes, then-accepted, accepted-one, never}
 use Rattle.vector.specs.Finite.{allFinite}
-use Rattle.coefficients.specs.Mirrors.{mirrorsEqual}
+use Rattle.coefficients.specs.Mirrors.{mirrorsAgree}
 use Rattle.pattern.specs.Pattern.{entries}
 use Rattle.hierarchy.specs.Level.{Shape, Numbers, Level, Hierarchy}
 use Rattle.hierarchy.specs.First.{shapesIn}
@@ -80,7 +80,7 @@ unfolding updateOf
 update-first o [] offsets columns values e = never refl e
 update-first o (s ∷ rest) offsets columns values e =
     let a = ask-split (samePattern s offsets columns values) otherPattern _ e in
-    let b = ask-split (mirrorsEqual (length (s .uppers)) (s .uppers) (s .lowers) values) unequalMirrors _ (a .1) in
+    let b = ask-split (mirrorsAgree (length (s .uppers)) (s .uppers) (s .lowers) values) notSymmetric _ (a .1) in
     let c = then-split (renewOf o 0 (s ∷ rest) values) (λ ls. accepted (withSums o ls)) (b .1) in
     let d = renew-second o 0 (s ∷ rest) values (c .1) in
     record { levels = c .0; is = sym (accepted-one (c .2)); second = d .made; shapes = d .same }

@@ -13,11 +13,11 @@ use Rattle.options.specs.declared.options.Handle.{Handle}
 use Rattle.options.specs.declared.options.MultigridOptions.{MultigridOptions}
 use Rattle.options.specs.declared.options.MultigridResidualNorm.{MultigridResidualNorm}
 use Rattle.refusal.specs.declared.Refusal.{Refusal}
-use Rattle.refusal.specs.Refusal.{unequalMirrors, otherPattern}
+use Rattle.refusal.specs.Refusal.{notSymmetric, otherPattern}
 use Rattle.refusal.specs.declared.Verdict.{Verdict}
 use Rattle.refusal.specs.Outcome.{Outcome, accepted, refused, passed, ask, verdictOf, isRefused, _>>=_}
 use Rattle.refusal.proofs.Outcome.{then-accepted, then-refused, passes, went-on, never}
-use Rattle.coefficients.specs.Mirrors.{mirrorsEqual}
+use Rattle.coefficients.specs.Mirrors.{mirrorsAgree}
 use Rattle.hierarchy.specs.Level.{Shape, Level, Hierarchy}
 use Rattle.hierarchy.specs.Refresh.{withSums}
 use Rattle.hierarchy.proofs.Accepted.{ask-split}
@@ -110,7 +110,7 @@ module _ {levels : ℕ} {w : List ℕ} {size : ℕ} (ok : AttemptOk levels w siz
           let s = shapeIn w 0 in
           many-values offsets columns values ask-ready
           (ask-split (samePattern s offsets columns values) otherPattern
-          (ask (mirrorsEqual (length (s .uppers)) (s .uppers) (s .lowers) values) unequalMirrors passed)
+          (ask (mirrorsAgree (length (s .uppers)) (s .uppers) (s .lowers) values) notSymmetric passed)
           (passes (askedOf s offsets columns values) (told .answer) (went-on v pass)) .0)
 
       -- The coefficients of the finest level stand in the shadow.
@@ -158,8 +158,8 @@ module _ {levels : ℕ} {w : List ℕ} (F : List Float) (ok : AttemptOk levels w
       let s = shapeIn w 0 in
       let some = shapes-some levels w 0 (ok .some) in
       ap (λ (l : List Shape). updateOf o l offsets columns values) (shapes-are levels w F 0 0 ∙ some)
-      ∙ asks-then (samePattern s offsets columns values) (mirrorsEqual (length (s .uppers)) (s .uppers) (s .lowers) values)
-      otherPattern unequalMirrors (_>>=_ (renewOf o 0 (s ∷ shapesAt (levels - 1) w (wordsEnd w 0)) values) (λ ls. accepted (withSums o ls)))
+      ∙ asks-then (samePattern s offsets columns values) (mirrorsAgree (length (s .uppers)) (s .uppers) (s .lowers) values)
+      otherPattern notSymmetric (_>>=_ (renewOf o 0 (s ∷ shapesAt (levels - 1) w (wordsEnd w 0)) values) (λ ls. accepted (withSums o ls)))
       ∙ ap (λ (l : List Shape). _>>=_ asked (λ _. _>>=_ (renewOf o 0 l values) (λ ls. accepted (withSums o ls)))) (sym some)
 
   -- What a refusal leaves.

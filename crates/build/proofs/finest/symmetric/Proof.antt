@@ -14,11 +14,11 @@ fill-faces-requires c κs = rw (c .before .faces-of2 .ensures) (fill-ok (c .befo
 mirrors-requires : tie.Need-mirrors-requires
 mirrors-requires c κs = rw (c .before .before .before .before .before .faces-of2 .ensures) (mirrors-ok (c .before .before .before .before .before .before .before .before .before .before .before .before .before .pre) (rw (c .before .before .before .before .before .before .before .before .before .faces-of .ensures) at (c .before .before .before .before .before .before .before .before .face-offsets .ensures)) (rw (c .before .before .before .before .before .faces-of2 .ensures) at (c .before .before .before .fill-faces .ensures)))
 
-equal-mirrors-requires : tie.Need-equal-mirrors-requires
-equal-mirrors-requires c κs = values-ok (c .before .before .before .before .before .before .before .before .before .before .before .before .before .before .before .before .before .before .pre) (rw (c .before .before .before .before .before .before .before .before .before .before .before .before .before .before .faces-of .ensures) at (c .before .before .before .before .before .before .before .before .before .before .before .before .before .face-offsets .ensures)) (rw (c .before .before .before .before .before .before .before .before .before .before .faces-of2 .ensures) at (c .before .before .before .before .before .before .before .before .fill-faces .ensures)) (rw (c .before .before .before .before .before .before .before .before .before .before .faces-of2 .ensures) at (c .before .before .before .before .mirrors .ensures)) (c .before .if1 .taken)
+mirrors-agree-requires : tie.Need-mirrors-agree-requires
+mirrors-agree-requires c κs = values-ok (c .before .before .before .before .before .before .before .before .before .before .before .before .before .before .before .before .before .before .pre) (rw (c .before .before .before .before .before .before .before .before .before .before .before .before .before .before .faces-of .ensures) at (c .before .before .before .before .before .before .before .before .before .before .before .before .before .face-offsets .ensures)) (rw (c .before .before .before .before .before .before .before .before .before .before .faces-of2 .ensures) at (c .before .before .before .before .before .before .before .before .fill-faces .ensures)) (rw (c .before .before .before .before .before .before .before .before .before .before .faces-of2 .ensures) at (c .before .before .before .before .mirrors .ensures)) (c .before .if1 .taken)
 
 returns : tie.Need-returns
-returns c = compared (c .before .before .before .before .before .before .before .before .before .before .before .before .before .before .before .before .before .before .before .pre) (rw (c .before .before .before .before .before .before .before .before .before .before .before .before .before .before .before .faces-of .ensures) at (c .before .before .before .before .before .before .before .before .before .before .before .before .before .before .face-offsets .ensures)) (rw (c .before .before .before .before .before .before .before .before .before .before .before .faces-of2 .ensures) at (c .before .before .before .before .before .before .before .before .before .fill-faces .ensures)) (rw (c .before .before .before .before .before .before .before .before .before .before .before .faces-of2 .ensures) at (c .before .before .before .before .before .mirrors .ensures)) (c .before .before .if1 .taken) (c .equal-mirrors .ensures)
+returns c = compared (c .before .before .before .before .before .before .before .before .before .before .before .before .before .before .before .before .before .before .before .pre) (rw (c .before .before .before .before .before .before .before .before .before .before .before .before .before .before .before .faces-of .ensures) at (c .before .before .before .before .before .before .before .before .before .before .before .before .before .before .face-offsets .ensures)) (rw (c .before .before .before .before .before .before .before .before .before .before .before .faces-of2 .ensures) at (c .before .before .before .before .before .before .before .before .before .fill-faces .ensures)) (rw (c .before .before .before .before .before .before .before .before .before .before .before .faces-of2 .ensures) at (c .before .before .before .before .before .mirrors .ensures)) (c .before .before .if1 .taken) (c .mirrors-agree .ensures)
 
 returns-2 : tie.Need-returns-2
 returns-2 c = asymmetric (c .before .before .before .before .before .before .before .before .before .before .before .before .before .before .before .before .before .pre) (rw (c .before .before .before .before .before .before .before .before .before .before .before .before .before .faces-of .ensures) at (c .before .before .before .before .before .before .before .before .before .before .before .before .face-offsets .ensures)) (rw (c .before .before .before .before .before .before .before .before .before .faces-of2 .ensures) at (c .before .before .before .before .before .before .before .fill-faces .ensures)) (rw (c .before .before .before .before .before .before .before .before .before .faces-of2 .ensures) at (c .before .before .before .mirrors .ensures)) (c .if1 .left)
@@ -32,7 +32,7 @@ symmetric-spec =
     (λ c κs. search needs)
     fill-faces-requires
     mirrors-requires
-    equal-mirrors-requires
+    mirrors-agree-requires
     (λ c. search needs)
     returns
     (λ c. search needs)

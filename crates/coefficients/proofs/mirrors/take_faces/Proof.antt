@@ -30,7 +30,7 @@ loop-again c =
     let at-upper = at-lower .before in
     let at-loop = at-upper .before .before in (
       simp length-set (at-loop .loop .inv .0),
-      taking-on (at-loop .loop .inv .1) (at-upper .before .loop-test .taken) (at-upper .index-at .ensures .0) (at-lower .index-at2 .ensures .0) (c .mirrors-agree .ensures),
+      taking-on (at-loop .loop .inv .1) (at-upper .before .loop-test .taken) (at-upper .index-at .ensures .0) (at-lower .index-at2 .ensures .0) (c .pair-agrees .ensures),
     )
 
 returns : tie.Need-returns Inv-loop μ-loop

@@ -1,6 +1,6 @@
 -- `questions::asked` meets its contract: question 31, then 10.
 -- Assumes nothing.
-use Rattle.update.proofs.questions.Questions.{pattern-ready, mirrors-ready, asked-other, asked-unequal, asked-passed}
+use Rattle.update.proofs.questions.Questions.{pattern-ready, mirrors-ready, asked-other, asked-asymmetric, asked-passed}
 use borrow.Author.Needs.{needs}
 use Rattle.update.proofs.questions.asked.Statement.{statement}
 use Rattle.update.proofs.questions.asked.Tie as tie
@@ -32,7 +32,7 @@ returns-2 c =
     let at-take = c .before .before .before in
     let at-same = at-take .before .before .before in
     let start = at-same .before .before .before .before .before .before .before in
-    asked-unequal (start .args .f .now) (start .args .offsets .now) (start .args .columns .now) (start .args .values .now) (start .pre)
+    asked-asymmetric (start .args .f .now) (start .args .offsets .now) (start .args .columns .now) (start .args .values .now) (start .pre)
     (at-same .before .place-at .ensures) (at-same .same-pattern .ensures) (at-take .before .before .if1 .taken)
     (at-take .take-faces .ensures) (c .if2 .left)
 
