@@ -36,11 +36,20 @@ const DRAWN: u64 = 100_000;
 /// The list with `each` builds of every kind of answer, or as many as were found.
 pub fn write(random: &mut Random, each: usize) -> String {
     let by_hand = hand::problems().into_iter().map(|(_, problem, _)| problem);
-    let drawn = (0..DRAWN).map(|_| Problem::draw(random).1);
+    let drawn: Vec<Problem> = (0..DRAWN).map(|_| Problem::draw(random).1).collect();
+    let shaken: Vec<Problem> = (0..DRAWN / 10)
+        .map(|_| Problem::with_shaken_mirrors(random))
+        .collect();
+    let others = by_hand.chain(drawn).map(|problem| ("", problem));
+    let shaken = shaken
+        .into_iter()
+        .map(|problem| ("shaken mirrors: ", problem));
     let mut found: BTreeMap<String, Vec<String>> = BTreeMap::new();
-    for problem in by_hand.chain(drawn).filter(fits) {
+    for (kind, problem) in others.chain(shaken).filter(|(_, problem)| fits(problem)) {
         let due = expected::build(&problem).answer;
-        let kind = found.entry(class(told(&due))).or_default();
+        let kind = found
+            .entry(format!("{kind}{}", class(told(&due))))
+            .or_default();
         if kind.len() < each {
             kind.push(one_build(&problem));
         }

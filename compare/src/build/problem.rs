@@ -212,7 +212,8 @@ pub fn shaken(value: f64, random: &mut Random) -> f64 {
                 most.next_up(),
                 1.5 * most,
             ];
-            value + random.signed(random.pick(&sizes))
+            let size = random.pick(&sizes);
+            value + random.signed(size)
         }
     }
 }

@@ -32,21 +32,29 @@ const MOST: usize = 60_000;
 pub fn write(random: &mut Random, each: usize) -> String {
     let by_hand = hand::listed().into_iter();
     let by_hand = by_hand.map(|(_, problem, calls)| (problem, calls));
-    let drawn: Vec<(Problem, Vec<Call>)> = (0..DRAWN)
-        .map(|_| {
-            let problem = accepted(random, any_problem);
+    let mut draw = |times: u64, draw: fn(&mut Random) -> Problem| -> Vec<(Problem, Vec<Call>)> {
+        let one = |_| {
+            let problem = accepted(random, draw);
             let calls = draw_calls(random, &problem);
             (problem, calls)
-        })
-        .collect();
+        };
+        (0..times).map(one).collect()
+    };
+    let drawn = draw(DRAWN, any_problem);
+    let shaken = draw(DRAWN / 10, Problem::with_shaken_mirrors);
+    let others = by_hand.chain(drawn).map(|sequence| ("", sequence));
+    let shaken = shaken
+        .into_iter()
+        .map(|sequence| ("shaken mirrors: ", sequence));
     let mut met: BTreeMap<String, usize> = BTreeMap::new();
     let mut kept = Vec::new();
-    for (problem, calls) in by_hand.chain(drawn) {
+    for (from, (problem, calls)) in others.chain(shaken) {
         if !fits(&problem) || calls.iter().any(|call| !small(call)) {
             continue;
         }
         let added = u64::from(random.below(40) == 0);
         let (text, kinds) = one_sequence(&problem, &calls, added);
+        let kinds: Vec<String> = kinds.iter().map(|kind| format!("{from}{kind}")).collect();
         let wanted = kinds
             .iter()
             .any(|kind| met.get(kind).copied().unwrap_or(0) < each);
