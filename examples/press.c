@@ -1,5 +1,5 @@
 /* The pressure on a grid of 32 by 32 cells: built once, refreshed for ten steps with stronger coupling each time, and solved.
- * cc -o press examples/press.c target/staticlib/libmultigrid_c.a */
+ * cc -o target/press examples/press.c target/staticlib/libmultigrid_c.a */
 #include "../include/multigrid.h"
 #include <inttypes.h>
 #include <stdio.h>
