@@ -3,13 +3,14 @@
 
 use crate::report::Report;
 
-const RATTLE: [&str; 11] = [
+const RATTLE: [&str; 12] = [
     include_str!("../../crates/meshprobe/src/numbers.rt"),
     include_str!("../../crates/meshprobe/src/controls.rt"),
     include_str!("../../crates/meshprobe/src/vectors.rt"),
     include_str!("../../crates/meshprobe/src/arrays.rt"),
     include_str!("../../crates/meshprobe/src/coarsening.rt"),
     include_str!("../../crates/meshprobe/src/topology.rt"),
+    include_str!("../../crates/load_c/src/lib.rt"),
     include_str!("../../crates/probe/src/kernels.rt"),
     include_str!("../../crates/probe/src/smoothing.rt"),
     include_str!("../../crates/probe/src/terminals.rt"),

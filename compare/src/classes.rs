@@ -45,6 +45,7 @@ const KINDS: &Names = &[
         "galerkin",
         "pattern compose sum_entries sum_given weights question-18 whole-product outside-unchanged",
     ),
+    ("load", "draws-of-seed-1 two-by-two by-hand room drawn"),
     ("library", "exports-and-rust rust-and-header called-from-c"),
     (
         "matrix",
@@ -117,6 +118,7 @@ const DRAWN: &Names = &[
     ("faces/new", "passed refused-10 refused-11"),
     ("galerkin/question-18", "finite not-finite"),
     ("galerkin/weights", "finite not-finite"),
+    ("load", "made refused-35"),
     ("matrix/apply", "finite not-finite"),
     ("matrix/residual", "finite not-finite"),
     ("matrix/row_sums_into", "finite not-finite"),

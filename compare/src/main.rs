@@ -11,6 +11,7 @@ mod cycle;
 mod faces;
 mod float;
 mod galerkin;
+mod load;
 mod matrices;
 mod matrix;
 mod measure;
@@ -65,6 +66,7 @@ const COMPARISONS: &[(&str, Comparison)] = &[
     ("acceleration", acceleration::compare),
     ("csr", csr::compare),
     ("faces", faces::compare),
+    ("load", load::compare),
     ("build", build::compare),
     ("sequence", sequence::compare),
     ("damage", sequence::damage::compare),

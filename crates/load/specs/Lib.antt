@@ -1,0 +1,5 @@
+pub mod Box
+pub mod Draw
+pub mod Load
+pub mod Steps
+pub mod Theorem
