@@ -9,3 +9,4 @@ pub mod Rising
 pub mod Neat
 pub mod Pattern
 pub mod Values
+mod Examples
