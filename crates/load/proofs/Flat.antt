@@ -6,8 +6,9 @@ use Prim.Native.Nat.{ℕ, _+_, _-_, _*_, _/_, _%_}
 use native.Mathlib.Nat.{mod-one}
 use lib.Dec.{eqb, leb, ltb}
 use Rattle.refusal.specs.Outcome.{Outcome, accepted, ask}
+use Rattle.refusal.specs.Refusal.{badLoad}
 use Rattle.load.specs.Box.{Mesh, Axis, axesFrom, along, hasAhead, hasBehind, aheadOf, behindOf, cellsOf, box, allPositive, extentsOk}
-use Rattle.load.specs.Load.{Load, Room, roomOk, loadOn, badLoad, loadOf}
+use Rattle.load.specs.Load.{Load, Room, roomOk, loadOn, loadOf}
 
 -- the axis of an extent of 1 has no face
 no-ahead : (s i : ℕ) → hasAhead (record { stride = s; extent = 1 }) i ≡ false

@@ -9,8 +9,7 @@ use lib.IntN.{ℤ, pos, negℤ}
 use lib.ListN.{length}
 use lib.Ieee.{Float, binary64, ofInt}
 use Rattle.refusal.specs.Outcome.{Outcome, accepted, ask}
-use Rattle.refusal.specs.declared.Refusal.{Refusal}
-use Rattle.refusal.specs.Refusal.{question}
+use Rattle.refusal.specs.Refusal.{badLoad}
 use Rattle.store.specs.Vector.{tab}
 use Rattle.pattern.specs.Pattern.{Pattern, entries, sumTo}
 use Rattle.load.specs.Box.{Mesh, box, extentsOk}
@@ -105,10 +104,6 @@ pub record Room : Type 0 where
 -- whether a load has room: an offset more than cells, and a column and a value for each entry
 unfoldable pub roomOk : Mesh → Room → Bool
 roomOk m room = leb (m .cells + 1) (room .offsets) && leb (startOf m (m .cells)) (room .columns) && leb (startOf m (m .cells)) (room .values)
-
--- a seed, extents or room that no load can be made of
-abbrev pub badLoad : Refusal
-badLoad = question 35
 
 -- the load of a seed on the box of these extents, or refusal 35: a zero seed, a zero extent, more than 65,536 cells, too little room
 abbrev pub loadOf : ℕ → List ℕ → Room → Outcome Load

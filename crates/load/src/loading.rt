@@ -8,14 +8,8 @@ ghost use Rattle.load.specs.Steps.{capped, listOf, AskedOf, Writable, ro
 use crate::cells::Extents;
 use crate::laying::entries_of;
 use crate::laying::lay_cells;
+use refusal::BAD_LOAD;
 use refusal::Refusal;
-
-// A seed, extents or room that no load can be made of.
-pub const BAD_LOAD: Refusal = Refusal {
-    number: 35,
-    level: 0,
-    row: 0,
-};
 
 // The size of a load.
 pub struct Size {

@@ -1,8 +1,8 @@
--- Document 01's refusals, each named for what is wrong. Definitions only.
+-- The refusals of documents 01 and 02, each named for what is wrong. Definitions only.
 use Prim.Native.Nat.{ℕ}
 use Rattle.refusal.specs.declared.Refusal.{Refusal}
 
--- question n, questionAt a level and a row of it
+-- question n, at a level and a row of it
 abbrev pub questionAt : ℕ → ℕ → ℕ → Refusal
 questionAt n l r = record { number = n; level = l; row = r }
 
@@ -133,3 +133,7 @@ badDirection = question 30
 -- offsets or columns are not those of the build, or there are not as many values as columns
 abbrev pub otherPattern : Refusal
 otherPattern = question 31
+
+-- a load's seed or an extent is zero, there are more than 65,536 cells, or the slices are too short
+abbrev pub badLoad : Refusal
+badLoad = question 35

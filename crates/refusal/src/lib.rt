@@ -190,3 +190,9 @@ pub const OTHER_PATTERN: Refusal = Refusal {
     level: 0,
     row: 0,
 };
+
+pub const BAD_LOAD: Refusal = Refusal {
+    number: 35,
+    level: 0,
+    row: 0,
+};
