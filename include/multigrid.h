@@ -217,6 +217,7 @@ struct multigrid_count multigrid_statistics(struct multigrid_hierarchy hierarchy
 #define MULTIGRID_ZERO_IMAGE             29
 #define MULTIGRID_BAD_DIRECTION          30
 #define MULTIGRID_OTHER_PATTERN          31
+#define MULTIGRID_BAD_LOAD               35
 
 /* What is wrong where a call refuses by that question, in words. */
 static inline const char *multigrid_sentence(uint64_t question) {
@@ -285,6 +286,8 @@ static inline const char *multigrid_sentence(uint64_t question) {
         return "a direction of the accelerator is not finite";
     case MULTIGRID_OTHER_PATTERN:
         return "offsets or columns are not those of the build, or there are not as many values as columns";
+    case MULTIGRID_BAD_LOAD:
+        return "a load's seed or an extent is zero, there are more than 65,536 cells, or the slices are too short";
     default:
         return "there is no question of this number";
     }

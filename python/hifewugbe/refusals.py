@@ -266,6 +266,14 @@ class OtherPattern(Refusal):
     placed = False
 
 
+class BadLoad(Refusal):
+    """A load's seed or an extent is zero, there are more than 65,536 cells, or the slices are too short."""
+
+    number = 35
+    sentence = "a load's seed or an extent is zero, there are more than 65,536 cells, or the slices are too short"
+    placed = False
+
+
 # The exceptions by their numbers.
 REFUSALS = {
     1: TooLarge,
@@ -299,6 +307,7 @@ REFUSALS = {
     29: ZeroImage,
     30: BadDirection,
     31: OtherPattern,
+    35: BadLoad,
 }
 
 

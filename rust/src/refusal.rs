@@ -112,6 +112,8 @@ pub enum Refusal {
     BadDirection,
     /// Offsets or columns are not those of the build, or there are not as many values as columns.
     OtherPattern,
+    /// A load's seed or an extent is zero, there are more than 65,536 cells, or the slices are too short.
+    BadLoad,
     /// There is no memory for the stores: no question of the library, which allocates nothing, but of this wrapper.
     OutOfMemory {
         /// Of all three stores.
@@ -154,6 +156,7 @@ impl Refusal {
             29 => Self::ZeroImage,
             30 => Self::BadDirection,
             31 => Self::OtherPattern,
+            35 => Self::BadLoad,
             _ => return None,
         })
     }
@@ -192,6 +195,7 @@ impl Refusal {
             Self::ZeroImage => 29,
             Self::BadDirection => 30,
             Self::OtherPattern => 31,
+            Self::BadLoad => 35,
             Self::OutOfMemory { .. } => 0,
         }
     }
@@ -223,7 +227,11 @@ impl Refusal {
     pub fn sentence(self) -> &'static str {
         match self {
             Self::OutOfMemory { .. } => "there is no memory for the stores",
-            _ => SENTENCES[self.number() as usize],
+            _ => {
+                let number = self.number();
+                let found = SENTENCES.iter().find(|(question, _)| *question == number);
+                found.map_or("", |(_, sentence)| sentence)
+            }
         }
     }
 }
