@@ -118,26 +118,27 @@ module _ (seed : ℕ) (m : Mesh) where
       starts-small zero = omega arith
       starts-small (suc i) = omega (arith, starts-small i, length-append (m .behind i) (i ∷ m .ahead i), lean .behind i, lean .ahead i)
 
+      -- Each value is its whole number as a float.
+      pub value-is : (e : ℕ) → e < entries (patternOf m) → at (valuesOf seed m) e ≡ ofInt binary64 (wholeAt seed m e)
+      unfolding valuesOf wholesOf
+      value-is e h =
+          let lw : length (wholesOf seed m) ≡ startOf m (m .cells) = length-joined (wholesIn seed m) (m .cells) ∙ starts-alike seed m (m .cells) in
+          let lm : length (map (ofInt binary64) (wholesOf seed m)) ≡ length (wholesOf seed m) = length-map (wholesOf seed m) (ofInt binary64) in
+          let b : e < length (map (ofInt binary64) (wholesOf seed m)) = omega (arith, entries-are neat) in
+          getD-in (map (ofInt binary64) (wholesOf seed m)) e nan (ofInt binary64 (pos 0)) b ∙ List·getD-map (ofInt binary64) (wholesOf seed m) e (pos 0)
+
+      -- There are at most 33 × 65,536 entries.
+      pub entries-small : entries (patternOf m) ≤ 2162688
+      entries-small = omega (arith, entries-are neat, starts-small (m .cells), lean .few)
+
       -- The values are whole, mirrors are equal, and absolute values sum to at most 2^53: the Galerkin theorem speaks of every level.
       pub load-whole : WholeValues (patternOf m) (valuesOf seed m) (wholeAt seed m)
-      unfolding valuesOf wholesOf
       load-whole = record {
         whole = λ e h.
-            let lw : length (wholesOf seed m) ≡ startOf m (m .cells) = length-joined (wholesIn seed m) (m .cells) ∙ starts-alike seed m (m .cells) in
-            let lm : length (map (ofInt binary64) (wholesOf seed m)) ≡ length (wholesOf seed m) = length-map (wholesOf seed m) (ofInt binary64) in
-            let b : e < length (map (ofInt binary64) (wholesOf seed m)) = omega (arith, entries-are neat) in
-            let v : at (valuesOf seed m) e ≡ ofInt binary64 (wholeAt seed m e) =
-            getD-in (map (ofInt binary64) (wholesOf seed m)) e nan (ofInt binary64 (pos 0)) b ∙ List·getD-map (ofInt binary64) (wholesOf seed m) e (pos 0) in
-            subst (λ (x : Float). Whole x (wholeAt seed m e)) (sym v) (ofInt-whole (wholeAt seed m e) (omega (arith, whole-small e h)));
+            subst (λ (x : Float). Whole x (wholeAt seed m e)) (sym (value-is e h)) (ofInt-whole (wholeAt seed m e) (omega (arith, whole-small e h)));
         symmetric = λ e d h l row column.
             whole-is d l ∙ rw (row, column) (entry-both (columnOf (patternOf m) e) (rowOf (patternOf m) e)) ∙ sym (whole-is e h);
-        small = omega (
-          arith,
-          sizes-small (entries (patternOf m)) 32769 (wholeAt seed m) whole-small,
-          entries-are neat,
-          starts-small (m .cells),
-          lean .few,
-        );
+        small = omega (arith, sizes-small (entries (patternOf m)) 32769 (wholeAt seed m) whole-small, entries-small);
       }
 
 -- ---- the box
