@@ -29,10 +29,10 @@ static void loads(void) {
     uint32_t offsets[5], columns[12];
     double values[12];
 
-    expect(multigrid_load(1, 2, 2, offsets, 5, columns, 12, values, 12) == 0 && equal(offsets, due, 5) &&
+    expect(multigrid_load(1, 2, 2, 1, offsets, 5, columns, 12, values, 12) == 0 && equal(offsets, due, 5) &&
                columns[11] == 3 && values[0] == 135 && values[11] == 595 &&
-               multigrid_load(0, 2, 2, offsets, 5, columns, 12, values, 12) == 35 &&
-               multigrid_load(1, 2, 2, offsets, 5, columns, 11, values, 12) == 35,
+               multigrid_load(0, 2, 2, 1, offsets, 5, columns, 12, values, 12) == 35 &&
+               multigrid_load(1, 2, 2, 1, offsets, 5, columns, 11, values, 12) == 35,
            "multigrid_load");
 }
 

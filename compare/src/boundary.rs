@@ -50,6 +50,7 @@ unsafe extern "C" {
         seed: u64,
         width: u64,
         height: u64,
+        depth: u64,
         offsets: *mut u32,
         offsets_length: usize,
         columns: *mut u32,

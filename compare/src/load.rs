@@ -132,6 +132,20 @@ pub fn compare(report: &mut Report, random: &mut Random, effort: Effort) {
             },
         ]);
         case(report, "load/drawn", seed, &extents, lent);
+        if let [width, height] = extents[..] {
+            case(
+                report,
+                "load/one-cell-deep",
+                seed,
+                &[width, height, 1],
+                lent,
+            );
+            let kind = report.kind("load/flat");
+            let alike = model(seed, &extents) == model(seed, &[width, height, 1]);
+            report.case(kind, alike, || {
+                format!("seed {seed:x}, extents {extents:?}")
+            });
+        }
     }
 }
 
@@ -173,6 +187,26 @@ fn by_hand(report: &mut Report) {
         &[1 << 63, 2],
         &[u64::MAX, u64::MAX],
         &[u64::MAX, 1],
+        &[1, 1, 1],
+        &[1, 1, 9],
+        &[9, 1, 4],
+        &[1, 5, 1],
+        &[2, 2, 2],
+        &[4, 3, 2],
+        &[5, 1, 1],
+        &[40, 40, 40],
+        &[16, 64, 64],
+        &[1, 1, 65_536],
+        &[32, 32, 64],
+        &[32, 33, 64],
+        &[1, 1, 65_537],
+        &[3, 0, 2],
+        &[2, 3, 0],
+        &[1 << 22, 1 << 22, 1 << 22],
+        &[1 << 32, 1 << 32, 1],
+        &[1 << 63, 2, 1],
+        &[65_536, 65_536, 65_536],
+        &[u64::MAX, u64::MAX, u64::MAX],
     ];
     for &extents in boxes {
         for seed in [
@@ -210,6 +244,7 @@ fn by_hand(report: &mut Report) {
 }
 
 fn drawn_extents(random: &mut Random) -> Vec<u64> {
+    let axes = random.within(2, 3);
     let drawn = |_| {
         let extents = [
             1,
@@ -221,7 +256,7 @@ fn drawn_extents(random: &mut Random) -> Vec<u64> {
         ];
         random.pick(&extents)
     };
-    (0..2).map(drawn).collect()
+    (0..axes).map(drawn).collect()
 }
 
 fn case(report: &mut Report, kind: &str, seed: u64, extents: &[u64], lent: Lent) {

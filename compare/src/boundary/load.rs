@@ -2,7 +2,7 @@
 
 use super::multigrid_load;
 
-/// 0 where a load was made, or the number of the refusal.
+/// Of two extents or three; a flat box is one cell deep. 0 where a load was made, or the number of the refusal.
 pub fn load(
     seed: u64,
     extents: &[u64],
@@ -15,6 +15,7 @@ pub fn load(
             seed,
             extents[0],
             extents[1],
+            extents.get(2).copied().unwrap_or(1),
             offsets.as_mut_ptr(),
             offsets.len(),
             columns.as_mut_ptr(),

@@ -115,21 +115,22 @@ fn load_box(
     }
 }
 
-// The load of a seed on a box of width and height in cells.
+// The load of a seed on a box of width, height and depth in cells.
 pub fn load(
     seed: u64,
     width: u64,
     height: u64,
+    depth: u64,
     offsets: &mut [u32],
     columns: &mut [u32],
     values: &mut [f64],
 ) -> Loaded
-    ensures { λ r. ⌜ Loading (loadOf seed (width ∷ height ∷ []) (roomOf (now (offsets .entry)) (now (columns .entry)) (now (values .entry)))) (now (offsets .entry)) (now (offsets .exit)) (now (columns .entry)) (now (columns .exit)) (now (values .entry)) (now (values .exit)) r ⌝ }
+    ensures { λ r. ⌜ Loading (loadOf seed (width ∷ height ∷ depth ∷ []) (roomOf (now (offsets .entry)) (now (columns .entry)) (now (values .entry)))) (now (offsets .entry)) (now (offsets .exit)) (now (columns .entry)) (now (columns .exit)) (now (values .entry)) (now (values .exit)) r ⌝ }
 {
     let e = Extents {
         width: width as usize,
         height: height as usize,
-        depth: 1,
+        depth: depth as usize,
     };
     load_box(seed, e, offsets, columns, values)
 }

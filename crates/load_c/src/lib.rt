@@ -24,11 +24,12 @@ pub extern "C" fn multigrid_load(
     seed: u64,
     width: u64,
     height: u64,
+    depth: u64,
     offsets: &mut [u32],
     columns: &mut [u32],
     values: &mut [f64],
 ) -> u64
-    ensures { λ r. ⌜ Called (loadOf seed (width ∷ height ∷ []) (roomOf (now (offsets .entry)) (now (columns .entry)) (now (values .entry)))) (now (offsets .entry)) (now (offsets .exit)) (now (columns .entry)) (now (columns .exit)) (now (values .entry)) (now (values .exit)) r ⌝ }
+    ensures { λ r. ⌜ Called (loadOf seed (width ∷ height ∷ depth ∷ []) (roomOf (now (offsets .entry)) (now (columns .entry)) (now (values .entry)))) (now (offsets .entry)) (now (offsets .exit)) (now (columns .entry)) (now (columns .exit)) (now (values .entry)) (now (values .exit)) r ⌝ }
 {
-    number(load(seed, width, height, offsets, columns, values))
+    number(load(seed, width, height, depth, offsets, columns, values))
 }
