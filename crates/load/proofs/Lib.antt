@@ -9,4 +9,5 @@ pub mod Rising
 pub mod Neat
 pub mod Pattern
 pub mod Values
+pub mod Sums
 mod Examples
