@@ -7,23 +7,20 @@ use lib.Dec.{eqb, leb}
 use lib.IntN.{ℤ, pos}
 use lib.ListN.{length, getD}
 use lib.Ieee.{Float, binary64, ofInt, neg}
-use Rattle.refusal.specs.Outcome.{Outcome, accepted, refused}
 use Rattle.float.specs.Float.{zero64, sub64}
 use Rattle.store.specs.Region.{at, idx, splice}
 use Rattle.store.specs.Vector.{tab}
-use Rattle.pattern.specs.Pattern.{Pattern, entries}
 use Rattle.load.specs.declared.drawing.Drawn.{Drawn}
 use Rattle.load.specs.declared.drawing.Draws.{Draws}
 use Rattle.load.specs.declared.laying.Mirrors.{Mirrors}
 use Rattle.load.specs.declared.laying.Reached.{Reached}
 use Rattle.load.specs.declared.loading.Asked.{Asked}
-use Rattle.load.specs.declared.loading.Loaded.{Loaded}
 use Rattle.load.specs.declared.cells.Extents.{Extents}
 use Rattle.load.specs.declared.cells.Cell.{Cell}
 use Rattle.load.specs.declared.cells.Faces.{Faces}
 use Rattle.load.specs.Box.{Mesh, Axis, hasAhead, hasBehind, box, cellsOf, extentsOk}
 use Rattle.load.specs.Draw.{nextOf, stateOf, drawnOf}
-use Rattle.load.specs.Load.{joined, drawsBefore, columnsIn, wholesIn, startOf, Load, Room, roomOk}
+use Rattle.load.specs.Load.{joined, drawsBefore, columnsIn, wholesIn, startOf, Room, roomOk}
 
 -- ---- draws
 
@@ -260,24 +257,3 @@ pub record Written (seed : ℕ) (e : Extents) (cells : ℕ) (O O' C C' : List �
   pub sizeO : length O' ≡ length O
   pub sizeC : length C' ≡ length C
   pub sizeF : length F' ≡ length F
-
--- the lengths of slices
-abbrev pub roomOf : List ℕ → List ℕ → List Float → Room
-roomOf O C F = record { offsets = length O; columns = length C; values = length F }
-
--- what a call answers: the rows and entries of the load, or the refusal
-abbrev pub answerOf : Outcome Load → Loaded
-answerOf (accepted l) = Loaded.Made (record { rows = l .pattern .rows; entries = entries (l .pattern) })
-answerOf (refused q) = Loaded.Refused q
-
--- what it leaves of a slice: the load over its start, and the rest as it was
-abbrev pub leavesOf : {A : Type 0} → (Load → List A) → Outcome Load → List A → List A
-leavesOf part (accepted l) F = splice 0 (part l) F
-leavesOf part (refused q) F = F
-
--- A call: its answer, and what it leaves of the three slices.
-pub record Loading (o : Outcome Load) (O O' C C' : List ℕ) (F F' : List Float) (r : Loaded) : Type 0 where
-  pub answer : r ≡ answerOf o
-  pub offsets : O' ≡ leavesOf (λ l. l .pattern .offsets) o O
-  pub columns : C' ≡ leavesOf (λ l. l .pattern .columns) o C
-  pub values : F' ≡ leavesOf (λ l. l .values) o F

@@ -6,7 +6,7 @@ use lib.Ieee.{Float}
 use Rattle.refusal.specs.Outcome.{Outcome}
 use Rattle.load.specs.declared.loading.Loaded.{Loaded}
 use Rattle.load.specs.Load.{Load}
-use Rattle.load.specs.Steps.{Loading}
+use Rattle.load.specs.Call.{Loading}
 use Rattle.load_c.specs.Call.{numberOf, Called}
 
 -- A call of `load`, its answer as a number.

@@ -6,7 +6,7 @@ use lib.Ieee.{Float}
 use Rattle.refusal.specs.Outcome.{Outcome}
 use Rattle.load.specs.declared.loading.Loaded.{Loaded}
 use Rattle.load.specs.Load.{Load}
-use Rattle.load.specs.Steps.{answerOf, leavesOf}
+use Rattle.load.specs.Call.{answerOf, leavesOf}
 
 -- zero where a load was made, or the refusal's number
 abbrev pub numberOf : Loaded → ℕ

@@ -3,7 +3,7 @@
 ghost use mathlib.Core.Path.{_≡_};
 ghost use mathlib.Core.List.{_∷_, []};
 ghost use Rattle.load.specs.Load.{loadOf};
-ghost use Rattle.load.specs.Steps.{roomOf};
+ghost use Rattle.load.specs.Call.{roomOf};
 ghost use Rattle.load_c.specs.Call.{numberOf, Called};
 use load::loading::Loaded;
 use load::loading::load;

@@ -24,7 +24,8 @@ use Rattle.load.specs.declared.loading.Loaded.{Loaded}
 use Rattle.refusal.specs.Refusal.{badLoad}
 use Rattle.load.specs.Box.{Mesh, cellsOf, allPositive, extentsOk}
 use Rattle.load.specs.Load.{joined, columnsIn, wholesIn, startOf, wholesOf, valuesOf, Room, roomOk, loadOf}
-use Rattle.load.specs.Steps.{listOf, meshOf, Few, CellsOk, CellsDone, capped, Writable, AskedOf, Written, roomOf, Loading}
+use Rattle.load.specs.Call.{roomOf, Loading}
+use Rattle.load.specs.Steps.{listOf, meshOf, Few, CellsOk, CellsDone, capped, Writable, AskedOf, Written}
 use Rattle.load.proofs.Lists.{length-joined}
 use Rattle.load.proofs.Rows.{start-small}
 
