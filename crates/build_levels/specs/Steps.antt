@@ -7,27 +7,15 @@ use lib.Ieee.{Float}
 use Rattle.store.specs.Region.{part, Kept}
 use Rattle.options.specs.declared.options.MultigridOptions.{MultigridOptions}
 use Rattle.refusal.specs.Outcome.{Outcome, accepted, _>>=_}
-use Rattle.matrix.specs.Kernel.{kernelAt}
-use Rattle.dic.specs.Dic.{DicOk}
 use Rattle.pattern.specs.Pattern.{entries}
-use Rattle.hierarchy.specs.Refresh.{smootherOf}
 use Rattle.hierarchy.specs.Build.{Mesh, Merged, merged, coarsenedAsked, mergeOf}
 use Rattle.layout.specs.declared.Place.{Place}
-use Rattle.layout.specs.Parts.{kernelIn}
 use Rattle.coarsening.specs.declared.coarsen.Workspace.{Workspace}
 use Rattle.coarsening.specs.CoarsenContract.{meshAt, mergedIn}
 use Rattle.coarsening.specs.declared.merging.Merging.{Merging}
 use Rattle.coarsening.specs.MergingContract.{mergingOf}
 use Rattle.build_level.specs.declared.laying.Frontier.{Frontier}
 use Rattle.build_level.specs.LayingContract.{levelIn}
-
--- the DIC data of the level at p: 16 and 17
-abbrev pub smootherAt : MultigridOptions → ℕ → List ℕ → List Float → Place → Outcome (List Float)
-smootherAt o level w F p = smootherOf o level (kernelAt (kernelIn p) w F)
-
--- What they require.
-abbrev pub SmootherOk : List ℕ → ℕ → Place → Type 0
-SmootherOk w size p = DicOk w size (kernelIn p) (p .dic)
 
 -- the first coarse matrix, 18, and the merged steps from it
 abbrev pub stepsOf : MultigridOptions → Bool → ℕ → ℕ → Mesh → List ℕ → ℕ → Outcome Merged

@@ -2,10 +2,9 @@
 // steps, and the final operator summed afresh from the level.
 ghost use mathlib.Core.Path.{_≡_};
 ghost use lib.ListN.{length};
-ghost use Rattle.dic.specs.Dic.{Settled};
 ghost use Rattle.build_level.specs.LayingContract.{levelIn};
 ghost use Rattle.build_levels.specs.DescentContract.{DescendOk, Descended};
-ghost use Rattle.build_levels.specs.Steps.{SmootherOk, smootherAt, StepsDone};
+ghost use Rattle.build_levels.specs.Steps.{StepsDone};
 use build_level::Frontier;
 use coarsening::Held;
 use coarsening::Merging;
@@ -36,21 +35,6 @@ fn level_in(t: Workspace, p: Place) -> Held
         columns: p.columns,
         values: p.values,
         weights: t.weights,
-    }
-}
-
-// The DIC data of the level, with questions 16 and 17; zeros where the smoother needs none.
-fn smoother_data(w: &[u32], f: &mut [f64], o: MultigridOptions, p: Place, level: u64) -> Verdict
-    requires { ⌜ SmootherOk (now w) (length (now f)) p ⌝ }
-    ensures { λ r. ⌜ Settled (p .dic) (p .rows) (smootherAt o level (now (w .entry)) (now (f .entry)) p) (now (f .entry)) (now (f .exit)) r ⌝ }
-{
-    let kind = o.smoother;
-    if options::needs_dic(kind) {
-        let kernel = layout::kernel_in(p);
-        dic::update_dic_diagonal(w, f, kernel, p.dic, level)
-    } else {
-        store::fill(f, p.dic, p.rows, 0.0);
-        Verdict::Passed
     }
 }
 
@@ -105,7 +89,8 @@ pub fn descend(
     ensures { λ r. ⌜ Descended (now (w .entry)) (now (w .exit)) (now (f .entry)) (now (f .exit)) o given t s p count r ⌝ }
 {
     store::fill_words(w, s.a + 1, 2, 0);
-    let asked = smoother_data(w, f, o, p, s.level);
+    let kind = o.smoother;
+    let asked = layout::smoother_data(w, f, options::needs_dic(kind), p, s.level);
     match asked {
         Verdict::Refused(refusal) => Descending::Refused(refusal),
         Verdict::Passed => {

@@ -63,6 +63,10 @@ module _ (o : MultigridOptions) where
 
 -- ---- for the proofs
 
+-- the DIC data of a kernel where they are needed, else zeros: questions 16 and 17
+abbrev pub smootherUnder : Bool → ℕ → Kernel → Outcome (List Float)
+smootherUnder dic level k = cond dic (dicOf level k) (accepted (filled (k .rows) zero64))
+
 module _ (o : MultigridOptions) where
   -- questions 12 and 13 of a level, and its coefficients
   abbrev pub coefficientsOf : ℕ → Shape → List Float → Outcome Coefficients
@@ -70,7 +74,7 @@ module _ (o : MultigridOptions) where
 
   -- the DIC data of a level that is not the last: questions 16 and 17
   abbrev pub smootherOf : ℕ → Kernel → Outcome (List Float)
-  smootherOf level k = cond (needsDic (o .smoother)) (dicOf level k) (accepted (filled (k .rows) zero64))
+  smootherOf = smootherUnder (needsDic (o .smoother))
 
   -- the levels of the shapes from `level` on, from the values of the first: question 18 of the next level's values before its 12
   unfoldable pub refreshOf : ℕ → List Shape → List Float → Outcome (List Level)

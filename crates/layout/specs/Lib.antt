@@ -3,3 +3,4 @@ pub mod Headers
 pub mod Parts
 pub mod Placed
 pub mod TerminalContract
+pub mod SmootherContract

@@ -8,8 +8,10 @@ use coefficients::Entries;
 use faces::Faces;
 use matrix::SymmetricMatrix;
 
+pub mod smoother;
 pub mod terminal;
 
+pub use smoother::smoother_data;
 pub use terminal::factor;
 pub use terminal::terminal_in;
 

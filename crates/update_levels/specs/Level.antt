@@ -1,20 +1,16 @@
 -- New numbers for one level and the values of the next: what the functions require and ensure. Definitions only.
 use mathlib.Core.Path.{_≡_}
-use mathlib.Core.Bool.{Bool, false, cond}
+use mathlib.Core.Bool.{Bool, false}
 use mathlib.Core.List.{List}
 use Prim.Native.Nat.{ℕ, _+_, _≤_, _<_}
 use lib.ListN.{length}
 use lib.Ieee.{Float}
-use Rattle.float.specs.Float.{zero64}
 use Rattle.store.specs.Region.{idx, part, Kept}
-use Rattle.store.specs.Vector.{filled}
 use Rattle.options.specs.declared.options.MultigridOptions.{MultigridOptions}
 use Rattle.refusal.specs.declared.Verdict.{Verdict}
 use Rattle.refusal.specs.Outcome.{Outcome, accepted, verdictOf, _>>=_, _>>_}
 use Rattle.vector.specs.Finite.{allFinite}
-use Rattle.matrix.specs.Kernel.{Kernel, kernelAt}
 use Rattle.coefficients.specs.Update.{Coefficients, updateWith, FacesTaken, UpdateOk}
-use Rattle.dic.specs.Dic.{dicOf, DicOk}
 use Rattle.cholesky.specs.Triangle.{tri}
 use Rattle.galerkin.specs.Values.{galerkinOf, SumsOk, FacesOk}
 use Rattle.galerkin.specs.Values as galerkin
@@ -75,18 +71,6 @@ abbrev pub coefficientsAsked : ℕ → List ℕ → List Float → Place → Out
 coefficientsAsked level w values p = do
   _ ← diagonalsStand level (bareAt w p)
   updateWith level (kernelIn p) (entriesIn p) w values
-
--- the DIC data of a kernel where they are needed: 16 and 17
-abbrev pub smootherUnder : Bool → ℕ → Kernel → Outcome (List Float)
-smootherUnder dic level k = cond dic (dicOf level k) (accepted (filled (k .rows) zero64))
-
--- the same of the level at p
-abbrev pub smootherAt : Bool → ℕ → List ℕ → List Float → Place → Outcome (List Float)
-smootherAt dic level w F p = smootherUnder dic level (kernelAt (kernelIn p) w F)
-
--- What they require.
-abbrev pub SmootherOk : List ℕ → ℕ → Place → Type 0
-SmootherOk w size p = DicOk w size (kernelIn p) (p .dic)
 
 -- the numbers of a level of shape s: 11, 12 and 13, then 15, or 16 and 17
 abbrev pub levelOf : MultigridOptions → ℕ → Shape → List Float → Outcome Numbers

@@ -1,13 +1,11 @@
 // One level of `update` of hierarchy.rs: new numbers for it, from its values, and the values of the next.
-ghost use mathlib.Core.Path.{_≡_};
 ghost use mathlib.Core.Bool.{false};
 ghost use Prim.Native.Nat.{_≤_};
 ghost use lib.ListN.{length};
 ghost use Rattle.store.specs.Region.{part};
 ghost use Rattle.coefficients.specs.Update.{Updated};
-ghost use Rattle.dic.specs.Dic.{Settled};
 ghost use Rattle.layout.specs.Parts.{kernelIn};
-ghost use Rattle.update_levels.specs.Level.{Under, CoefficientsOk, FacesReady, coefficientsAsked, SmootherOk, smootherAt};
+ghost use Rattle.update_levels.specs.Level.{Under, CoefficientsOk, FacesReady, coefficientsAsked};
 ghost use Rattle.update_levels.specs.Level.{LevelOk, LevelReady, LevelDone, CoarseOk, FirstOk, CoarseDone};
 use crate::diagonals;
 use layout::Place;
@@ -22,18 +20,6 @@ fn coefficients(w: &[u32], f: &mut [f64], p: Place, level: u64) -> Verdict
         return coefficients::update(w, f, layout::kernel_in(p), layout::entries_in(p), level);
     }
     diagonals::rows_stand(w, p, level)
-}
-
-// The DIC data of a level that is not the last, with questions 16 and 17; zeros where the smoother needs none.
-fn smoother_data(w: &[u32], f: &mut [f64], dic: bool, p: Place, level: u64) -> Verdict
-    requires { ⌜ SmootherOk (now w) (length (now f)) p ⌝ }
-    ensures { λ r. ⌜ Settled (p .dic) (p .rows) (smootherAt dic level (now (w .entry)) (now (f .entry)) p) (now (f .entry)) (now (f .exit)) r ⌝ }
-{
-    if dic {
-        return dic::update_dic_diagonal(w, f, layout::kernel_in(p), p.dic, level);
-    }
-    store::fill(f, p.dic, p.rows, 0.0);
-    Verdict::Passed
 }
 
 // The numbers of the level at p, from its values: 11, 12 and 13, then 15 of the last level, or 16 and 17 of another.
@@ -56,7 +42,7 @@ pub fn renew_level(
     if last {
         return layout::factor(w, f, p, coupled, level);
     }
-    smoother_data(w, f, dic, p, level)
+    layout::smoother_data(w, f, dic, p, level)
 }
 
 // The values of the level at t, summed from those of the level at p, then half plus half: question 18.
@@ -107,7 +93,7 @@ pub fn first_level(
     if own.refused() {
         return own;
     }
-    smoother_data(w, f, dic, p, level)
+    layout::smoother_data(w, f, dic, p, level)
 }
 
 // The values of the level at t, summed from those that are given, then half plus half: question 18.

@@ -25,13 +25,14 @@ use Rattle.cholesky.specs.Triangle.{tri}
 use Rattle.pattern.specs.Pattern.{Pattern, entries, coarsePositions, Maps, Onto}
 use Rattle.pattern.proofs.pattern.Coarse.{coarse-few}
 use Rattle.hierarchy.specs.Level.{Shape, Numbers, kernelOf}
-use Rattle.hierarchy.specs.Refresh.{smootherOf, innerNumbers}
+use Rattle.hierarchy.specs.Refresh.{needsDic, smootherOf, innerNumbers}
 use Rattle.hierarchy.specs.Proper.{Proper}
 use Rattle.hierarchy.specs.Build.{Mesh, Merged, innerShape, coarsened, coarsenedAsked}
 use Rattle.layout.specs.declared.Place.{Place}
 use Rattle.layout.specs.Layout.{lastAt, coupledAt, entriesAt, locate, shapeAt, numbersAt, levelAt, wordsEnd, floatsEnd}
 use Rattle.layout.specs.Headers.{headAt, headOf}
 use Rattle.layout.specs.Placed.{Shapes, coefficientsAt}
+use Rattle.layout.specs.SmootherContract.{smootherAt}
 use Rattle.layout.proofs.Places.{located}
 use Rattle.coarsening.specs.declared.coarsen.Held.{Held}
 use Rattle.coarsening.specs.declared.coarsen.Workspace.{Workspace}
@@ -42,7 +43,7 @@ use Rattle.build_level.specs.declared.laying.Frontier.{Frontier}
 use Rattle.build_level.specs.LayingContract.{levelIn}
 use Rattle.build_levels.specs.declared.descent.Descending.{Descending}
 use Rattle.build_levels.specs.DescentContract.{Descent, nextOf, descendingOf, DescendOk, descentAt, Arrived, Descended}
-use Rattle.build_levels.specs.Steps.{smootherAt, stepsOf, stepsAt, StepsDone}
+use Rattle.build_levels.specs.Steps.{stepsOf, stepsAt, StepsDone}
 use Rattle.build_levels.proofs.descent.Ways.{settled-no, settled-yes, merging-no, Made, merging-yes, way-numbers, way-steps, way-afresh}
 use Rattle.build_levels.proofs.descent.Merges.{Led, led}
 use Rattle.build_levels.proofs.descent.Regions.{Same, same-wrote, same-kept, same-on, pattern-same, shapes-same}
@@ -140,8 +141,12 @@ module _ {w w1 : List ℕ} {size : ℕ} {o : MultigridOptions} {t : Workspace} {
 -- ---- the DIC data
 
 module _ {w w1 : List ℕ} {F F1 : List Float} {o : MultigridOptions} {t : Workspace} {s : Frontier} {p : Place} {count : ℕ} {v : Verdict}
-    (ok : DescendOk w (length F) o t s p count) (h : Wrote (s .a + 1) 2 (filled 2 0) w w1)
-    (d : Settled (p .dic) (p .rows) (smootherAt o (s .level) w1 F p) F F1 v) where
+    {needed : Bool} (ok : DescendOk w (length F) o t s p count) (h : Wrote (s .a + 1) 2 (filled 2 0) w w1) (by : needed ≡ needsDic (o .smoother))
+    (stood : Settled (p .dic) (p .rows) (smootherAt needed (s .level) w1 F p) F F1 v) where
+  -- the DIC data as the options ask for them
+  abbrev d : Settled (p .dic) (p .rows) (smootherAt (needsDic (o .smoother)) (s .level) w1 F p) F F1 v
+  d = rw by at stood
+
   -- the level's pattern, its aggregates, and its numbers with the DIC data
   abbrev own : Pattern
   own = patternAt w (levelIn t p)
@@ -179,7 +184,7 @@ module _ {w w1 : List ℕ} {F F1 : List Float} {o : MultigridOptions} {t : Works
   abbrev kernel : Kernel
   kernel = let c = coefficientsAt F p in kernelOf (innerShape own links count) (c .diagonal) (c .inverse) (c .coefficients)
 
-  dic-is : smootherAt o (s .level) w1 F p ≡ smootherOf o (s .level) kernel
+  dic-is : smootherAt (needsDic (o .smoother)) (s .level) w1 F p ≡ smootherOf o (s .level) kernel
   dic-is =
       let c = coefficientsAt F p in
       ap (λ (k : Kernel). smootherOf o (s .level) k) (kernel-is (opened ok h) F links count

@@ -2,27 +2,21 @@
 -- coarse matrix and the merged steps leave.
 -- Assumes nothing.
 use mathlib.Core.Path.{_≡_, sym, ap, subst, _∙_}
-use mathlib.Core.Bool.{Bool, true, false, cond}
+use mathlib.Core.Bool.{Bool, true, false}
 use mathlib.Core.List.{List}
 use Prim.Native.Nat.{ℕ, _+_, _-_, _≤_, _<_}
 use native.Mathlib.Omega.{arith}
 use lib.ListN.{length}
 use lib.Ieee.{Float}
-use Rattle.float.specs.Float.{zero64}
-use Rattle.store.specs.Region.{idx, part, Wrote}
-use Rattle.store.specs.Vector.{filled}
+use Rattle.store.specs.Region.{idx, part}
 use Rattle.store.proofs.store.Region.{getD-part, kept-on, kept-less, kept-part}
 use Rattle.store.proofs.store.Vector.{getD-tab}
 use Rattle.options.specs.declared.options.MultigridOptions.{MultigridOptions}
 use Rattle.refusal.specs.Refusal.{badCoarseValue}
-use Rattle.refusal.specs.declared.Verdict.{Verdict}
 use Rattle.refusal.specs.Outcome.{Outcome, accepted, refused}
 use Rattle.refusal.proofs.Outcome.{ask-yes, ask-no, then-accepted, then-refused}
 use Rattle.vector.specs.Finite.{allFinite}
-use Rattle.matrix.specs.declared.matrix.SymmetricMatrix.{SymmetricMatrix}
 use Rattle.matrix.specs.Kernel.{kernelAt, KernelOk}
-use Rattle.dic.specs.Dic.{dicOf, settled, Settled}
-use Rattle.dic.specs.Dic.{DicOk}
 use Rattle.pattern.specs.Pattern.{Pattern, entries, howMany, Valid}
 use Rattle.pattern.proofs.pattern.Number.{many-mono}
 use Rattle.pattern.proofs.pattern.Row.{offset-mono}
@@ -30,13 +24,13 @@ use Rattle.pattern.proofs.pattern.Coarse.{coarse-few}
 use Rattle.faces.specs.Faces.{above, facesOf, faceOffsetsOf, neighborsOf}
 use Rattle.faces.proofs.faces.Laws.{near, faces-half}
 use Rattle.hierarchy.specs.Level.{kernelOf}
-use Rattle.hierarchy.specs.Refresh.{needsDic}
 use Rattle.hierarchy.specs.Proper.{Proper}
 use Rattle.hierarchy.specs.Build.{Mesh, Merged, merged, innerShape, coarsenedAsked, mergeOf}
 use Rattle.hierarchy.proofs.Proper.{coarse-proper}
 use Rattle.layout.specs.declared.Place.{Place}
 use Rattle.layout.specs.Parts.{kernelIn}
 use Rattle.layout.specs.Placed.{Placed, coefficientsAt}
+use Rattle.layout.specs.SmootherContract.{SmootherOk}
 use Rattle.coarsening.specs.declared.coarsen.Held.{Held}
 use Rattle.coarsening.specs.declared.coarsen.Workspace.{Workspace}
 use Rattle.coarsening.specs.declared.coarsen.Formation.{Formation}
@@ -47,7 +41,7 @@ use Rattle.build_level.specs.declared.laying.Frontier.{Frontier}
 use Rattle.build_level.specs.LayingContract.{levelIn}
 use Rattle.build_level.proofs.laying.Levels as laying
 use Rattle.build_levels.specs.DescentContract.{DescendOk}
-use Rattle.build_levels.specs.Steps.{smootherAt, SmootherOk, stepsAt, StepsDone}
+use Rattle.build_levels.specs.Steps.{stepsAt, StepsDone}
 
 -- No row's faces end behind the last.
 starts-less : {q : Pattern} → Valid q → (i : ℕ) → i ≤ q .rows → idx (faceOffsetsOf q) i ≤ facesOf q
@@ -168,37 +162,6 @@ module _ {w : List ℕ} {size : ℕ} {o : MultigridOptions} {t : Workspace} {s :
         onto = ok .onto;
         fewer = ok .fewer;
       })
-
--- ---- the DIC data
-
-module _ (p : Place) {k : SymmetricMatrix} (is : k ≡ kernelIn p) where
-  -- What the DIC diagonal requires.
-  pub dic-requires : {w : List ℕ} {size : ℕ} → SmootherOk w size p → DicOk w size k (p .dic)
-  dic-requires ok = rw is ok
-
-  -- The DIC diagonal is made.
-  pub smoother-made : (w : List ℕ) {F G : List Float} (o : MultigridOptions) (level : ℕ) {v : Verdict} {needed : Bool}
-      → needed ≡ needsDic (o .smoother) → needed ≡ true
-      → Settled (p .dic) (k .rows) (dicOf level (kernelAt k w F)) F G v → Settled (p .dic) (p .rows) (smootherAt o level w F p) F G v
-  smoother-made w {F} {G} o level {v} {needed} e told d =
-      let made : Settled (p .dic) (p .rows) (dicOf level (kernelAt (kernelIn p) w F)) F G v = rw is at d in
-      let own = kernelAt (kernelIn p) w F in
-      let same : smootherAt o level w F p ≡ dicOf level own =
-      ap (λ (b : Bool). cond b (dicOf level own) (accepted (filled (own .rows) zero64))) (sym e ∙ told) in
-      record { held = made .held; wrote = made .wrote; is = same ∙ made .is }
-
--- The smoother needs none.
-pub smoother-none : (p : Place) (w : List ℕ) {F G : List Float} (o : MultigridOptions) (level : ℕ) {needed : Bool}
-    → needed ≡ needsDic (o .smoother) → needed ≡ false → Wrote (p .dic) (p .rows) (filled (p .rows) zero64) F G
-    → Settled (p .dic) (p .rows) (smootherAt o level w F p) F G Verdict.Passed
-unfolding settled kernelAt
-smoother-none p w {F} {G} o level {needed} e told h =
-    let own = kernelAt (kernelIn p) w F in
-    record {
-      held = filled (p .rows) zero64;
-      wrote = h;
-      is = ap (λ (b : Bool). cond b (dicOf level own) (accepted (filled (own .rows) zero64))) (sym e ∙ told);
-    }
 
 -- ---- the first coarse matrix
 

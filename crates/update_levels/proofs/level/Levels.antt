@@ -1,30 +1,29 @@
 -- The float work of one level: its coefficients, its DIC data, its factor, and the values of the next level.
 -- Assumes nothing.
 use mathlib.Core.Path.{_≡_, refl, sym, ap, _∙_, subst}
-use mathlib.Core.Bool.{Bool, true, false, cond}
+use mathlib.Core.Bool.{Bool, true, false}
 use mathlib.Core.List.{List}
 use Prim.Native.Nat.{ℕ, _+_, _≤_}
 use native.Mathlib.Omega.{arith}
 use lib.ListN.{length}
 use lib.Ieee.{Float}
-use Rattle.float.specs.Float.{zero64}
 use Rattle.store.specs.Region.{part, Wrote}
-use Rattle.store.specs.Vector.{filled, each}
+use Rattle.store.specs.Vector.{each}
 use Rattle.store.proofs.store.Region.{wrote-at, kept-wrote, kept-on}
 use Rattle.refusal.specs.declared.Verdict.{Verdict}
-use Rattle.refusal.specs.Outcome.{Outcome, accepted, refused, verdictOf}
+use Rattle.refusal.specs.Outcome.{Outcome, refused, verdictOf}
 use Rattle.refusal.proofs.Outcome.{then-accepted, then-refused, never}
 use Rattle.vector.specs.Finite.{allFinite}
 use Rattle.matrix.specs.declared.matrix.SymmetricMatrix.{SymmetricMatrix}
-use Rattle.matrix.specs.Kernel.{kernelAt, KernelOk}
+use Rattle.matrix.specs.Kernel.{KernelOk}
 use Rattle.coefficients.specs.declared.values.entries.Entries.{Entries}
 use Rattle.coefficients.specs.Update.{Coefficients, updateWith, updateAt, FacesTaken, UpdateOk, Updated}
-use Rattle.dic.specs.Dic.{dicOf, settled, Settled, DicOk}
 use Rattle.galerkin.specs.Values.{sumsOf, symmetrizeOf, FacesOk}
 use Rattle.layout.specs.declared.Place.{Place}
 use Rattle.layout.specs.Parts.{kernelIn, entriesIn}
+use Rattle.layout.specs.SmootherContract.{SmootherOk}
 use Rattle.update_levels.specs.Standing.{diagonalStands, diagonalsStand, bareAt}
-use Rattle.update_levels.specs.Level.{LevelOk, CoefficientsOk, FacesReady, coefficientsAsked, smootherAt, SmootherOk, FactorOk, coarseAt, CoarseDone}
+use Rattle.update_levels.specs.Level.{LevelOk, CoefficientsOk, FacesReady, coefficientsAsked, FactorOk, coarseAt, CoarseDone}
 use Rattle.update_levels.proofs.diagonals.Standing.{stand-all, stand-not}
 
 -- ---- what the calls require
@@ -151,35 +150,6 @@ pub coefficients-made : (w : List ℕ) (F : List Float) (p : Place) (level : ℕ
     → Updated w (kernelIn p) (coefficientsAsked level w (part (p .values) (p .entries) F) p) F G v
 coefficients-made w F p level asked told kernel image made =
     through w (part (p .values) (p .entries) F) F p level asked told (rw (kernel, image) at made)
-
--- ---- the DIC data
-
-module _ (p : Place) {k : SymmetricMatrix} (is : k ≡ kernelIn p) where
-  -- What the DIC diagonal requires.
-  pub dic-requires : {w : List ℕ} {size : ℕ} → SmootherOk w size p → DicOk w size k (p .dic)
-  dic-requires ok = rw is ok
-
-  -- The DIC diagonal is made.
-  pub smoother-made : (w : List ℕ) {F G : List Float} (needed : Bool) (level : ℕ) {v : Verdict} → needed ≡ true
-      → Settled (p .dic) (k .rows) (dicOf level (kernelAt k w F)) F G v → Settled (p .dic) (p .rows) (smootherAt needed level w F p) F G v
-  smoother-made w {F} {G} needed level {v} told d =
-      let made : Settled (p .dic) (p .rows) (dicOf level (kernelAt (kernelIn p) w F)) F G v = rw is at d in
-      let own = kernelAt (kernelIn p) w F in
-      let same : smootherAt needed level w F p ≡ dicOf level own =
-      ap (λ (b : Bool). cond b (dicOf level own) (accepted (filled (own .rows) zero64))) told in
-      record { held = made .held; wrote = made .wrote; is = same ∙ made .is }
-
--- The smoother needs none.
-pub smoother-none : (p : Place) (w : List ℕ) {F G : List Float} (needed : Bool) (level : ℕ) → needed ≡ false → Wrote (p .dic) (p .rows) (filled (p .rows) zero64) F G
-    → Settled (p .dic) (p .rows) (smootherAt needed level w F p) F G Verdict.Passed
-unfolding settled kernelAt
-smoother-none p w {F} {G} needed level told h =
-    let own = kernelAt (kernelIn p) w F in
-    record {
-      held = filled (p .rows) zero64;
-      wrote = h;
-      is = ap (λ (b : Bool). cond b (dicOf level own) (accepted (filled (own .rows) zero64))) told;
-    }
 
 -- ---- the values of the next level
 

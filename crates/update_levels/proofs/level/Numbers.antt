@@ -22,13 +22,14 @@ use Rattle.dic.specs.Dic.{settled, Settled}
 use Rattle.cholesky.specs.Triangle.{tri}
 use Rattle.cholesky.specs.Factor.{choleskyOf}
 use Rattle.hierarchy.specs.Level.{Shape, Numbers, kernelOf, csrOf}
-use Rattle.hierarchy.specs.Refresh.{needsDic, coefficientsOf, smootherOf, innerNumbers, lastNumbers}
+use Rattle.hierarchy.specs.Refresh.{needsDic, coefficientsOf, smootherUnder, smootherOf, innerNumbers, lastNumbers}
 use Rattle.hierarchy.proofs.Accepted.{then-split}
 use Rattle.layout.specs.declared.Place.{Place}
 use Rattle.layout.specs.Layout.{shapeAt, numbersAt}
 use Rattle.layout.specs.Parts.{kernelIn, entriesIn}
+use Rattle.layout.specs.SmootherContract.{smootherAt}
 use Rattle.update_levels.specs.Standing.{diagonalStands, diagonalsStand, bareAt}
-use Rattle.update_levels.specs.Level.{LevelOk, LevelReady, coefficientsAsked, smootherUnder, smootherAt, factorOf, FactorDone, levelRenewed, LevelDone}
+use Rattle.update_levels.specs.Level.{LevelOk, LevelReady, coefficientsAsked, factorOf, FactorDone, levelRenewed, LevelDone}
 use Rattle.update_levels.proofs.diagonals.Outcomes.{verdict-then, told-accepted, told-refused}
 
 -- ---- outcomes

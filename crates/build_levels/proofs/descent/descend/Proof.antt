@@ -11,15 +11,16 @@ fill-words-requires c κs = laws.header-fits (c .before .before .before .before 
 
 smoother-data-requires : tie.Need-smoother-data-requires
 smoother-data-requires c κs =
-    let opened = c .before .before .before .before in
+    let opened = c .before .before .before .before .before in
     laws.smoother-requires (ways.opened (opened .before .before .before .before .before .pre) (opened .fill-words .ensures))
 
 first-steps-requires : tie.Need-first-steps-requires
 first-steps-requires c κs =
     let settled = c .before .before .before .before .before .before in
-    let opened = settled .before .before .before .before .before in
+    let kind = settled .before in
+    let opened = kind .before .before .before .before .before in
     let start = opened .before .before .before .before .before in
-    ways.settled-on (start .pre) (opened .fill-words .ensures) (settled .smoother-data .ensures)
+    ways.settled-on (start .pre) (opened .fill-words .ensures) (kind .needs-dic .ensures) (settled .smoother-data .ensures)
 
 repair-requires : tie.Need-repair-requires
 repair-requires c κs =
@@ -28,9 +29,10 @@ repair-requires c κs =
     let steps = told .before .before .before .before .before .before in
     let passed = steps .before .before .before in
     let settled = passed .before .before .before .before in
-    let opened = settled .before .before .before .before .before in
+    let kind = settled .before in
+    let opened = kind .before .before .before .before .before in
     let start = opened .before .before .before .before .before in
-    ways.repair-requires (start .pre) (opened .fill-words .ensures) (settled .smoother-data .ensures)
+    ways.repair-requires (start .pre) (opened .fill-words .ensures) (kind .needs-dic .ensures) (settled .smoother-data .ensures)
     (passed .enum-told .given .1) (steps .first-steps .ensures) (told .merged2 .given .1) (placed .level-in .ensures)
 
 returns : tie.Need-returns
@@ -41,18 +43,20 @@ returns c =
     let steps = told .before .before .before .before .before .before in
     let passed = steps .before .before .before in
     let settled = passed .before .before .before .before in
-    let opened = settled .before .before .before .before .before in
+    let kind = settled .before in
+    let opened = kind .before .before .before .before .before in
     let start = opened .before .before .before .before .before in
-    ways.descend-done (start .pre) (opened .fill-words .ensures) (settled .smoother-data .ensures)
+    ways.descend-done (start .pre) (opened .fill-words .ensures) (kind .needs-dic .ensures) (settled .smoother-data .ensures)
     (passed .enum-told .given .1) (steps .first-steps .ensures) (told .merged2 .given .1)
     (placed .level-in .ensures) (formed .repair .ensures) (c .if1 .taken)
 
 returns-2 : tie.Need-returns-2
 returns-2 c =
     let settled = c .before .before .before .before .before in
-    let opened = settled .before .before .before .before .before in
+    let kind = settled .before in
+    let opened = kind .before .before .before .before .before in
     let start = opened .before .before .before .before .before in
-    ways.descend-numbers (start .pre) (opened .fill-words .ensures) (settled .smoother-data .ensures)
+    ways.descend-numbers (start .pre) (opened .fill-words .ensures) (kind .needs-dic .ensures) (settled .smoother-data .ensures)
     (start .args .given) (c .before .asked .given .1)
 
 returns-3 : tie.Need-returns-3
@@ -60,9 +64,10 @@ returns-3 c =
     let steps = c .before .before .before .before .before .before .before in
     let passed = steps .before .before .before in
     let settled = passed .before .before .before .before in
-    let opened = settled .before .before .before .before .before in
+    let kind = settled .before in
+    let opened = kind .before .before .before .before .before in
     let start = opened .before .before .before .before .before in
-    ways.descend-steps (start .pre) (opened .fill-words .ensures) (settled .smoother-data .ensures)
+    ways.descend-steps (start .pre) (opened .fill-words .ensures) (kind .needs-dic .ensures) (settled .smoother-data .ensures)
     (passed .enum-told .given .1) (steps .first-steps .ensures) (c .before .merged .given .1)
 
 returns-4 : tie.Need-returns-4
@@ -73,9 +78,10 @@ returns-4 c =
     let steps = told .before .before .before .before .before .before in
     let passed = steps .before .before .before in
     let settled = passed .before .before .before .before in
-    let opened = settled .before .before .before .before .before in
+    let kind = settled .before in
+    let opened = kind .before .before .before .before .before in
     let start = opened .before .before .before .before .before in
-    ways.descend-bad (start .pre) (opened .fill-words .ensures) (settled .smoother-data .ensures)
+    ways.descend-bad (start .pre) (opened .fill-words .ensures) (kind .needs-dic .ensures) (settled .smoother-data .ensures)
     (passed .enum-told .given .1) (steps .first-steps .ensures) (told .merged2 .given .1)
     (placed .level-in .ensures) (formed .repair .ensures) (c .if1 .left)
 
@@ -109,6 +115,7 @@ descend-spec =
     (tie.spec
     (λ c. search needs)
     fill-words-requires
+    (λ c κs. search needs)
     smoother-data-requires
     (λ c. search needs)
     (λ c. search needs)

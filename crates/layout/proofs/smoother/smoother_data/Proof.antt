@@ -1,9 +1,9 @@
--- `level::smoother_data` meets its contract.
+-- `smoother::smoother_data` meets its contract.
 -- Assumes nothing.
-use Rattle.update_levels.proofs.level.Levels.{dic-requires, smoother-made, smoother-none}
+use Rattle.layout.proofs.smoother.Data.{dic-requires, smoother-made, smoother-none}
 use borrow.Author.Needs.{needs}
-use Rattle.update_levels.proofs.level.smoother_data.Statement.{statement}
-use Rattle.update_levels.proofs.level.smoother_data.Tie as tie
+use Rattle.layout.proofs.smoother.smoother_data.Statement.{statement}
+use Rattle.layout.proofs.smoother.smoother_data.Tie as tie
 
 update-dic-diagonal-requires : tie.Need-update-dic-diagonal-requires
 update-dic-diagonal-requires c κs =
