@@ -7,7 +7,7 @@ use Prim.Native.Nat.{ℕ, zero, suc, _+_, _-_}
 use lib.Dec.{eqb}
 use lib.Ieee.{Float}
 use lib.ListN.{length}
-use Rattle.float.specs.Float.{div64, zero64, one64, isFinite}
+use Rattle.float.specs.Float.{div64, zero64, one64, isFinite, isPositive}
 use Rattle.store.specs.Region.{at, idx}
 use Rattle.store.specs.Vector.{filled}
 use Rattle.store.proofs.store.Loop.{for-keeps}
@@ -20,10 +20,10 @@ use Rattle.pattern.specs.Pattern.{Pattern, entries}
 use Rattle.csr.specs.Questions.{sizeOk, offsetsOk, columnsOk, matrixAsked}
 use Rattle.csr.specs.Weights.{weightsCounted, weightsOk, weightsAsked}
 use Rattle.faces.specs.Faces.{uppersOf, hasEntry, diagonalsAsked, diagonalsOf}
-use Rattle.coefficients.specs.Update.{Coefficients, isPositive, diagonalAsked, entryOf, kernelUpdateOf}
+use Rattle.coefficients.specs.Update.{Coefficients, diagonalAsked, entryOf, kernelUpdateOf}
 use Rattle.matrix.specs.Kernel.{Kernel}
 use Rattle.dic.specs.Dic.{isPivot, pivotRow, pivotsOf, reciprocalAsked, reciprocalsOf, dicOf}
-use Rattle.cholesky.specs.Factor.{Csr, compactOf, restOf, columnsOf, goodPivot, factorRowOf, rowsOf, choleskyOf}
+use Rattle.cholesky.specs.Factor.{Csr, compactOf, restOf, columnsOf, factorRowOf, rowsOf, choleskyOf}
 use Rattle.cholesky.specs.Triangle.{tri}
 use Rattle.vector.specs.Finite.{allFinite}
 use Rattle.hierarchy.specs.Level.{Shape, kernelOf, csrOf}
@@ -140,7 +140,7 @@ dic-spares level k = then-spares (pivotsOf level k) (pivots-spare level k) (λ d
 row-spares : (level : ℕ) (coupled : List ℕ) (entry : ℕ → ℕ → Float) (row : ℕ) (l : List Float) → Spared 9 (factorRowOf level coupled entry row l)
 unfolding factorRowOf
 row-spares level coupled entry row l =
-    ask-spares (goodPivot (restOf entry row row (columnsOf entry row l))) (badPivot level (idx coupled row)) refl done
+    ask-spares (isPositive (restOf entry row row (columnsOf entry row l))) (badPivot level (idx coupled row)) refl done
 
 factor-spares : (level : ℕ) (coupled : List ℕ) (entry : ℕ → ℕ → Float) (rows row : ℕ) (l : List Float)
     → Spared 9 (rowsOf level coupled entry rows row l)

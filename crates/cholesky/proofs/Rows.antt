@@ -8,7 +8,7 @@ use native.Mathlib.Nat.{add-assoc}
 use native.Mathlib.Omega.{arith}
 use lib.Ieee.{Float, nan}
 use lib.ListN.{length, set, length-set}
-use Rattle.float.specs.Float.{div64, zero64}
+use Rattle.float.specs.Float.{div64, zero64, isPositive}
 use Rattle.float.specs.Sqrt.{sqrtOf}
 use Rattle.refusal.specs.Refusal.{badPivot}
 use Rattle.refusal.specs.declared.Verdict.{Verdict}
@@ -20,7 +20,7 @@ use Rattle.store.proofs.store.Loop.{for-map, for-same, Left, left-end}
 use Rattle.store.proofs.store.Region.{length-part, getD-part, getD-splice-in, part-splice-below, set-splice, splice-part, wrote, wrote-at, wrote-off, wrote-again}
 use Rattle.cholesky.specs.Triangle.{tri, RowAt, lessOf, LessOk, Less}
 use Rattle.cholesky.specs.declared.Terminal.{Terminal}
-use Rattle.cholesky.specs.Factor.{restOf, columnOf, columnsOf, goodPivot, factorRowOf, rowsOf, choleskyOf}
+use Rattle.cholesky.specs.Factor.{restOf, columnOf, columnsOf, factorRowOf, rowsOf, choleskyOf}
 use Rattle.cholesky.specs.Contract.{csrAt, coupledAt, factorAt, entryAt, TerminalOk, PivotOk, RowDone, Factored}
 use Rattle.cholesky.proofs.packed.Triangles.{tri-zero, tri-on, tri-row, tri-at}
 
@@ -144,7 +144,7 @@ rest-done {F} {t} {w} {row} {start} {a} {r} ok i e d =
 
 module _ {F G : List Float} {t : Terminal} {w : List ℕ} {row start : ℕ} {value : Float} {b : Bool} (level : ℕ) (ok : TerminalOk w (length F) t)
     (a : RowAt (t .size) row start) (g : Wrote (t .factor) (tri (t .size)) (columnsOf (entryAt t w F) row (factorAt t F)) F G)
-    (e : value ≡ restOf (entryAt t w G) row row (factorAt t G)) (p : b ≡ goodPivot value) where
+    (e : value ≡ restOf (entryAt t w G) row row (factorAt t G)) (p : b ≡ isPositive value) where
   factor-is : factorAt t G ≡ columnsOf (entryAt t w F) row (factorAt t F)
   factor-is = wrote-at g (ok .factor)
 

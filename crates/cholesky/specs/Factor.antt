@@ -1,11 +1,11 @@
 -- `cholesky` of hierarchy.rs, the factor packed by rows: entry (r, c) stands at `tri r + c`. Definitions only.
-use mathlib.Core.Bool.{Bool, cond, _&&_}
+use mathlib.Core.Bool.{cond}
 use mathlib.Core.List.{List}
 use Prim.Native.Nat.{ℕ, zero, suc, _+_, _-_}
 use lib.Dec.{eqb}
-use lib.Ieee.{Float, lt}
+use lib.Ieee.{Float}
 use lib.ListN.{set}
-use Rattle.float.specs.Float.{sub64, mul64, div64, zero64, isFinite}
+use Rattle.float.specs.Float.{sub64, mul64, div64, zero64, isPositive}
 use Rattle.float.specs.Sqrt.{sqrtOf}
 use Rattle.refusal.specs.Refusal.{badPivot}
 use Rattle.refusal.specs.Outcome.{Outcome, accepted, ask, _>>=_}
@@ -38,17 +38,13 @@ module _ (entry : ℕ → ℕ → Float) where
   unfoldable pub columnsOf : ℕ → List Float → List Float
   columnsOf row l = for (λ column l. set l (tri row + column) (div64 (restOf row column l) (at l (tri column + column)))) 0 row l
 
--- question 15: the pivot is finite and above zero
-unfoldable pub goodPivot : Float → Bool
-goodPivot value = isFinite value && lt zero64 value
-
 module _ (level : ℕ) (coupled : List ℕ) (entry : ℕ → ℕ → Float) where
-  -- one row: its elements below the diagonal, question 15 at the level's row, and the root of the pivot
+  -- one row: its elements below the diagonal, question 15 at the level's row (its pivot is finite and above zero), and the root of the pivot
   unfoldable pub factorRowOf : ℕ → List Float → Outcome (List Float)
   factorRowOf row l =
       let lower = columnsOf entry row l in
       let value = restOf entry row row lower in
-      ask (goodPivot value) (badPivot level (idx coupled row)) (accepted (set lower (tri row + row) (sqrtOf value)))
+      ask (isPositive value) (badPivot level (idx coupled row)) (accepted (set lower (tri row + row) (sqrtOf value)))
 
   -- so many rows from `row` on
   unfoldable pub rowsOf : ℕ → ℕ → List Float → Outcome (List Float)

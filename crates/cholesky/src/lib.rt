@@ -5,7 +5,7 @@ ghost use Prim.Native.Nat.{_-_, _<_, _≤_};
 ghost use lib.ListN.{length};
 ghost use Rattle.store.specs.Region.{idx, Wrote};
 ghost use Rattle.cholesky.specs.Triangle.{tri, RowAt};
-ghost use Rattle.cholesky.specs.Factor.{seekOf, columnsOf, restOf, goodPivot, factorRowOf, rowsOf, choleskyOf};
+ghost use Rattle.cholesky.specs.Factor.{seekOf, columnsOf, restOf, factorRowOf, rowsOf, choleskyOf};
 ghost use Rattle.cholesky.specs.Contract.{csrAt, coupledAt, factorAt, entryAt, TerminalOk, SeekOk, PivotOk, RowDone, Factored};
 ghost use Rattle.refusal.specs.declared.Refusal.{Refusal};
 ghost use Rattle.refusal.specs.Refusal.{badPivot};
@@ -98,14 +98,7 @@ fn pivot(w: &[u32], f: &[f64], t: Terminal, row: usize, start: usize) -> f64
     packed::less(f, l + start, l + start, row, a)
 }
 
-// Question 15.
-fn good_pivot(value: f64) -> bool
-    ensures { λ r. ⌜ r ≡ goodPivot value ⌝ }
-{
-    float::is_finite(value) & (value > 0.0)
-}
-
-// One row; false where its pivot fails.
+// One row; false where its pivot fails question 15.
 fn one_row(w: &[u32], f: &mut [f64], t: Terminal, level: u64, row: usize, start: usize) -> bool
     requires { ⌜ TerminalOk (now w) (length (now f)) t ⌝ }
     requires { ⌜ RowAt (t .size) row start ⌝ }
@@ -119,7 +112,7 @@ fn one_row(w: &[u32], f: &mut [f64], t: Terminal, level: u64, row: usize, start:
     let l = t.factor;
     columns(w, f, t, row, start);
     let value = pivot(w, f, t, row, start);
-    if good_pivot(value) {
+    if float::is_positive(value) {
         let root = float::sqrt(value);
         f[l + start + row] = root;
         true

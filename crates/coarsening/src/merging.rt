@@ -89,7 +89,7 @@ fn graph_in(t: Workspace, rows: usize, entries: usize, given: bool) -> Graph
 fn check_row(d: f64, level: u64, row: u64) -> Verdict
     ensures { λ r. ⌜ r ≡ verdictOf (diagonalAsked level row d) ⌝ }
 {
-    if float::is_finite(d) & (d > 0.0) {
+    if float::is_positive(d) {
         if float::is_finite(1.0 / d) {
             return Verdict::Passed;
         }

@@ -4,8 +4,8 @@ use mathlib.Core.List.{List}
 use mathlib.Core.Path.{_≡_}
 use Prim.Native.Nat.{ℕ, _+_, _≤_, _<_}
 use lib.ListN.{length, set, take, drop}
-use lib.Ieee.{Float, lt}
-use Rattle.float.specs.Float.{div64, zero64, one64, isFinite}
+use lib.Ieee.{Float}
+use Rattle.float.specs.Float.{div64, one64, isFinite, isPositive}
 use Rattle.refusal.specs.Refusal.{badDiagonal, badReciprocal}
 use Rattle.refusal.specs.declared.Verdict.{Verdict}
 use Rattle.refusal.specs.Outcome.{Outcome, accepted, refused, passed, ask, _>>_, askEach, verdictOf}
@@ -13,10 +13,6 @@ use Rattle.store.specs.Region.{at, idx, part, splice}
 use Rattle.store.specs.Vector.{tab, each}
 use Rattle.matrix.specs.declared.matrix.SymmetricMatrix.{SymmetricMatrix}
 use Rattle.coefficients.specs.declared.values.entries.Entries.{Entries}
-
--- `d.is_finite() && d > 0.0`
-unfoldable pub isPositive : Float → Bool
-isPositive d = isFinite d && lt zero64 d
 
 -- questions 12 and 13 of a row whose diagonal is d
 unfoldable pub diagonalAsked : ℕ → ℕ → Float → Outcome Unit

@@ -1,24 +1,16 @@
 // Document 01's questions 4 and 5, of the weights that a caller lends: nothing is asked of them beforehand.
 ghost use mathlib.Core.Path.{_≡_};
-ghost use Rattle.options.specs.Options.{tolerable};
 ghost use Rattle.refusal.specs.Outcome.{verdictOf};
 ghost use Rattle.csr.specs.Weights.{weightsOk, weightsAsked};
 use refusal::Verdict;
 
-// Minus zero is not below zero.
-fn weight_fits(weight: f64) -> bool
-    ensures { λ r. ⌜ r ≡ tolerable weight ⌝ }
-{
-    float::is_finite(weight) & !(weight < 0.0)
-}
-
-// Question 5.
+// Question 5. Minus zero is not below zero.
 fn weights_fit(weights: &[f64]) -> bool
     ensures { λ r. ⌜ r ≡ weightsOk (now (weights .entry)) ⌝ }
 {
     let mut k = 0;
     while k < weights.len() {
-        if weight_fits(weights[k]) {
+        if options::is_tolerable(weights[k]) {
             k += 1;
         } else {
             return false;

@@ -1,5 +1,5 @@
 -- The operators and methods of f64 that the solver uses, as IEEE 754 has them (`lib.Ieee`). Definitions only.
-use mathlib.Core.Bool.{Bool, true, false, cond, _||_}
+use mathlib.Core.Bool.{Bool, true, false, cond, _&&_, _||_}
 use Prim.Native.Nat.{ℕ}
 use lib.Ieee.{Float, nan, inf, fin, binary64, ofBits, round, neg, add, sub, mul, div, lt, isNan}
 
@@ -40,6 +40,10 @@ unfoldable pub isFinite : Float → Bool
 isFinite nan = false
 isFinite (inf s) = false
 isFinite (fin s m e) = true
+
+-- `x.is_finite() && x > 0.0`
+unfoldable pub isPositive : Float → Bool
+isPositive x = isFinite x && lt zero64 x
 
 -- `x.abs()`: the sign cleared, so −0 gives +0; a NaN stays a NaN
 unfoldable pub absOf : Float → Float

@@ -1,7 +1,7 @@
 // The methods of f64 that the solver calls, as functions. No public one asks anything of its arguments.
 ghost use mathlib.Core.Path.{_≡_};
 ghost use lib.Ieee.{binary64, toBits, ofBits};
-ghost use Rattle.float.specs.Float.{isFinite, absOf, maxNum, squareOf};
+ghost use Rattle.float.specs.Float.{isFinite, isPositive, absOf, maxNum, squareOf};
 
 // x is neither a NaN nor an infinity.
 pub fn is_finite(x: f64) -> bool
@@ -9,6 +9,13 @@ pub fn is_finite(x: f64) -> bool
 {
     let top: f64 = 1.0 / 0.0;
     (x > -top) & (x < top)
+}
+
+// x is finite and above zero.
+pub fn is_positive(x: f64) -> bool
+    ensures { λ r. ⌜ r ≡ isPositive x ⌝ }
+{
+    is_finite(x) & (x > 0.0)
 }
 
 // The bits of x; for a NaN, 0x7ff8_0000_0000_0000.

@@ -5,6 +5,7 @@ pub mod saturating;
 
 pub use float::abs;
 pub use float::is_finite;
+pub use float::is_positive;
 pub use float::max_num;
 pub use float::of_bits;
 pub use float::square;

@@ -11,7 +11,7 @@ use lib.IntN.{ℤ, pos, negsuc, natAbs}
 use lib.ListN.{length, getD, length-map}
 use borrow.Author.Tests.{eqb-true, eq-eqb, leb-true}
 use lib.Ieee.{Float, binary64, ofBits, ofInt, add, sub, mul, div, lt, le, eq}
-use Rattle.float.specs.Float.{isFinite, absOf}
+use Rattle.float.specs.Float.{isFinite, absOf, isPositive}
 use Rattle.float.specs.Sqrt.{sqrtOf}
 use Rattle.store.specs.Loop.{iter, for}
 use Rattle.store.specs.Region.{at, idx}
@@ -21,7 +21,7 @@ use Rattle.options.specs.Options.{validOf}
 use Rattle.refusal.specs.Outcome.{Outcome, accepted, refused, askRows}
 use Rattle.vector.specs.Finite.{allFinite}
 use Rattle.coefficients.specs.Mirrors.{pairAgrees, mirrorsAgree}
-use Rattle.coefficients.specs.Update.{isPositive, diagonalAsked, kernelUpdateOf}
+use Rattle.coefficients.specs.Update.{diagonalAsked, kernelUpdateOf}
 use Rattle.cholesky.specs.Triangle.{tri, lessOf}
 use Rattle.cholesky.specs.Factor as factor
 use Rattle.aggregation.specs.Pairs.{strengthsOf, considerOf, entryOf, strongestOf, assignOf, pairRowOf, turnOf, pairsOf}
@@ -136,7 +136,7 @@ pub record RingLevels : Type 0 where
       ∷ [])
 
 pub ring-levels : RingLevels
-unfolding linksIn matricesIn levelsIn update.updateOf update.renewOf update.sameList update.samePattern standing.diagonalStands standing.diagonalsStand buildOf symmetricOf growOf withSums mergeOf csr.sizeOk csr.neverFall csr.offsetsOk csr.entryOk csr.rowOk csr.stepOk csr.rowAt csr.entryFrom csr.columnsOk weights.weightOk weights.weightsOk validOf isFinite lt le eq ofBits ofInt add sub mul div sqrtOf each tab for iter askRows pairAgrees mirrorsAgree pattern.some pattern.howMany pattern.those pattern.rowOf pattern.sumTo pattern.flat pattern.startOf pattern.columnPlaceOf pattern.joinsBy pattern.joins pattern.coarseOffsets pattern.coarseColumns pattern.coarsePositions pattern.composeOf faces.above faces.facesOf faces.uppersOf faces.faceOffsetsOf faces.neighborsOf faces.hasEntry faces.standsAt faces.mirroredOf faces.lowersOf faces.diagonalsAsked faces.diagonalsOf faces.coupledOf faces.coupledCountOf faces.coupledRowsOf kernelUpdateOf diagonalAsked isPositive tri factor.seekOf factor.getOf lessOf factor.restOf factor.columnOf factor.columnsOf factor.goodPivot factor.factorRowOf factor.rowsOf factor.choleskyOf absOf allFinite strengthsOf considerOf entryOf strongestOf assignOf pairRowOf turnOf pairsOf galerkin.addEntry galerkin.sumsOf galerkin.averageFace galerkin.symmetrizeOf galerkin.zeroEntry galerkin.zeroEntries galerkin.zeroDiagonalOf
+unfolding linksIn matricesIn levelsIn update.updateOf update.renewOf update.sameList update.samePattern standing.diagonalStands standing.diagonalsStand buildOf symmetricOf growOf withSums mergeOf csr.sizeOk csr.neverFall csr.offsetsOk csr.entryOk csr.rowOk csr.stepOk csr.rowAt csr.entryFrom csr.columnsOk weights.weightOk weights.weightsOk validOf isFinite lt le eq ofBits ofInt add sub mul div sqrtOf each tab for iter askRows pairAgrees mirrorsAgree pattern.some pattern.howMany pattern.those pattern.rowOf pattern.sumTo pattern.flat pattern.startOf pattern.columnPlaceOf pattern.joinsBy pattern.joins pattern.coarseOffsets pattern.coarseColumns pattern.coarsePositions pattern.composeOf faces.above faces.facesOf faces.uppersOf faces.faceOffsetsOf faces.neighborsOf faces.hasEntry faces.standsAt faces.mirroredOf faces.lowersOf faces.diagonalsAsked faces.diagonalsOf faces.coupledOf faces.coupledCountOf faces.coupledRowsOf kernelUpdateOf diagonalAsked isPositive tri factor.seekOf factor.getOf lessOf factor.restOf factor.columnOf factor.columnsOf factor.factorRowOf factor.rowsOf factor.choleskyOf absOf allFinite strengthsOf considerOf entryOf strongestOf assignOf pairRowOf turnOf pairsOf galerkin.addEntry galerkin.sumsOf galerkin.averageFace galerkin.symmetrizeOf galerkin.zeroEntry galerkin.zeroEntries galerkin.zeroDiagonalOf
 ring-levels = record { aggregates = refl; matrices = refl; merges = refl; updates = refl }
 
 -- ---- the theorem on the ring

@@ -6,7 +6,7 @@ use mathlib.Core.Bool.{true, false}
 use mathlib.Core.List.{List, [], _∷_, _++_, map}
 use Prim.Native.Nat.{ℕ}
 use lib.Ieee.{Float, binary64, ofBits, add, sub, mul, div, lt, le, eq}
-use Rattle.float.specs.Float.{zero64, one64, isFinite, absOf}
+use Rattle.float.specs.Float.{zero64, one64, isFinite, absOf, isPositive}
 use Rattle.float.specs.Sqrt.{sqrtOf}
 use Rattle.store.specs.Loop.{iter, for}
 use Rattle.store.specs.Vector.{tab, each}
@@ -20,7 +20,7 @@ use Rattle.refusal.specs.Outcome.{Outcome, accepted, refused, askRows}
 use Rattle.vector.specs.Finite.{allFinite}
 use Rattle.matrix.specs.Kernel.{sumFace, sumRow, rowSumsOf}
 use Rattle.coefficients.specs.Mirrors.{pairAgrees, mirrorsAgree}
-use Rattle.coefficients.specs.Update.{isPositive, diagonalAsked, kernelUpdateOf}
+use Rattle.coefficients.specs.Update.{diagonalAsked, kernelUpdateOf}
 use Rattle.cholesky.specs.Triangle.{tri, lessOf}
 use Rattle.cholesky.specs.Factor as factor
 use Rattle.dic.specs.Dic.{isPivot, pivotFace, pivotRow, pivotsOf, reciprocalsOf, dicOf}
@@ -147,7 +147,7 @@ one-level : buildOf (lent 178 212) (small own) ≡ accepted (record {
   } ∷ [];
   sums = two ∷ zero64 ∷ [];
 })
-unfolding buildOf symmetricOf growOf withSums csr.sizeOk csr.neverFall csr.offsetsOk csr.entryOk csr.rowOk csr.stepOk csr.rowAt csr.entryFrom csr.columnsOk validOf isFinite absOf lt le eq ofBits add sub mul div sqrtOf each tab for iter askRows pairAgrees mirrorsAgree pattern.some pattern.howMany pattern.those pattern.rowOf faces.above faces.facesOf faces.uppersOf faces.faceOffsetsOf faces.neighborsOf faces.hasEntry faces.standsAt faces.mirroredOf faces.lowersOf faces.diagonalsAsked faces.diagonalsOf faces.coupledOf faces.coupledCountOf faces.coupledRowsOf kernelUpdateOf diagonalAsked isPositive tri factor.seekOf factor.getOf lessOf factor.restOf factor.columnOf factor.columnsOf factor.goodPivot factor.factorRowOf factor.rowsOf factor.choleskyOf sumFace sumRow rowSumsOf
+unfolding buildOf symmetricOf growOf withSums csr.sizeOk csr.neverFall csr.offsetsOk csr.entryOk csr.rowOk csr.stepOk csr.rowAt csr.entryFrom csr.columnsOk validOf isFinite absOf lt le eq ofBits add sub mul div sqrtOf each tab for iter askRows pairAgrees mirrorsAgree pattern.some pattern.howMany pattern.those pattern.rowOf faces.above faces.facesOf faces.uppersOf faces.faceOffsetsOf faces.neighborsOf faces.hasEntry faces.standsAt faces.mirroredOf faces.lowersOf faces.diagonalsAsked faces.diagonalsOf faces.coupledOf faces.coupledCountOf faces.coupledRowsOf kernelUpdateOf diagonalAsked isPositive tri factor.seekOf factor.getOf lessOf factor.restOf factor.columnOf factor.columnsOf factor.factorRowOf factor.rowsOf factor.choleskyOf sumFace sumRow rowSumsOf
 one-level = refl
 
 -- Tiny inputs that questions 2, 3, 6, 8, 9 (a word too few, a float too few), 10 (no mirror, other values), 11, 12, 13 and 15 refuse.
@@ -178,7 +178,7 @@ refusals : (
     ∷ refused (badReciprocal 0 1)
     ∷ refused (badPivot 0 1)
     ∷ [])
-unfolding buildOf symmetricOf growOf withSums csr.sizeOk csr.neverFall csr.offsetsOk csr.entryOk csr.rowOk csr.stepOk csr.rowAt csr.entryFrom csr.columnsOk validOf isFinite absOf lt le eq ofBits add sub mul div sqrtOf each tab for iter askRows pairAgrees mirrorsAgree pattern.some pattern.howMany pattern.those pattern.rowOf faces.above faces.facesOf faces.uppersOf faces.faceOffsetsOf faces.neighborsOf faces.hasEntry faces.standsAt faces.mirroredOf faces.lowersOf faces.diagonalsAsked faces.diagonalsOf faces.coupledOf faces.coupledCountOf faces.coupledRowsOf kernelUpdateOf diagonalAsked isPositive tri factor.seekOf factor.getOf lessOf factor.restOf factor.columnOf factor.columnsOf factor.goodPivot factor.factorRowOf factor.rowsOf factor.choleskyOf sumFace sumRow rowSumsOf
+unfolding buildOf symmetricOf growOf withSums csr.sizeOk csr.neverFall csr.offsetsOk csr.entryOk csr.rowOk csr.stepOk csr.rowAt csr.entryFrom csr.columnsOk validOf isFinite absOf lt le eq ofBits add sub mul div sqrtOf each tab for iter askRows pairAgrees mirrorsAgree pattern.some pattern.howMany pattern.those pattern.rowOf faces.above faces.facesOf faces.uppersOf faces.faceOffsetsOf faces.neighborsOf faces.hasEntry faces.standsAt faces.mirroredOf faces.lowersOf faces.diagonalsAsked faces.diagonalsOf faces.coupledOf faces.coupledCountOf faces.coupledRowsOf kernelUpdateOf diagonalAsked isPositive tri factor.seekOf factor.getOf lessOf factor.restOf factor.columnOf factor.columnsOf factor.factorRowOf factor.rowsOf factor.choleskyOf sumFace sumRow rowSumsOf
 refusals = refl
 
 -- With an end of one cell P is paired into one row, 2: the entries of P are summed, and its DIC inverses are 0.25 and 1.
@@ -224,7 +224,7 @@ two-levels : buildOf ample (plain (controls 1 4 1) 2 (0 ∷ 2 ∷ 4 ∷ []) (0 �
   } ∷ [];
   sums = two ∷ zero64 ∷ [];
 })
-unfolding buildOf symmetricOf growOf withSums csr.sizeOk csr.neverFall csr.offsetsOk csr.entryOk csr.rowOk csr.stepOk csr.rowAt csr.entryFrom csr.columnsOk validOf isFinite lt le eq ofBits add sub mul div sqrtOf each tab for iter askRows pairAgrees mirrorsAgree pattern.some pattern.howMany pattern.those pattern.rowOf faces.above faces.facesOf faces.uppersOf faces.faceOffsetsOf faces.neighborsOf faces.hasEntry faces.standsAt faces.mirroredOf faces.lowersOf faces.diagonalsAsked faces.diagonalsOf faces.coupledOf faces.coupledCountOf faces.coupledRowsOf kernelUpdateOf diagonalAsked isPositive tri factor.seekOf factor.getOf lessOf factor.restOf factor.columnOf factor.columnsOf factor.goodPivot factor.factorRowOf factor.rowsOf factor.choleskyOf sumFace sumRow rowSumsOf absOf allFinite strengthsOf considerOf entryOf strongestOf assignOf pairRowOf turnOf pairsOf mergeOf pattern.sumTo pattern.flat pattern.startOf pattern.columnPlaceOf pattern.joinsBy pattern.joins pattern.coarseOffsets pattern.coarseColumns pattern.coarsePositions addEntry sumsOf averageFace symmetrizeOf dicOf pivotsOf pivotRow pivotFace reciprocalsOf isPivot pattern.composeOf
+unfolding buildOf symmetricOf growOf withSums csr.sizeOk csr.neverFall csr.offsetsOk csr.entryOk csr.rowOk csr.stepOk csr.rowAt csr.entryFrom csr.columnsOk validOf isFinite lt le eq ofBits add sub mul div sqrtOf each tab for iter askRows pairAgrees mirrorsAgree pattern.some pattern.howMany pattern.those pattern.rowOf faces.above faces.facesOf faces.uppersOf faces.faceOffsetsOf faces.neighborsOf faces.hasEntry faces.standsAt faces.mirroredOf faces.lowersOf faces.diagonalsAsked faces.diagonalsOf faces.coupledOf faces.coupledCountOf faces.coupledRowsOf kernelUpdateOf diagonalAsked isPositive tri factor.seekOf factor.getOf lessOf factor.restOf factor.columnOf factor.columnsOf factor.factorRowOf factor.rowsOf factor.choleskyOf sumFace sumRow rowSumsOf absOf allFinite strengthsOf considerOf entryOf strongestOf assignOf pairRowOf turnOf pairsOf mergeOf pattern.sumTo pattern.flat pattern.startOf pattern.columnPlaceOf pattern.joinsBy pattern.joins pattern.coarseOffsets pattern.coarseColumns pattern.coarsePositions addEntry sumsOf averageFace symmetrizeOf dicOf pivotsOf pivotRow pivotFace reciprocalsOf isPivot pattern.composeOf
 two-levels = refl
 
 -- Builds of the path. One step to a level leads to 2 coupled rows: an end of one cell is refused by question 14, as no third level is
@@ -238,5 +238,5 @@ pub record PathBuilds : Type 0 where
   pub coarsest : matricesIn (buildOf ample (path 1 2)) ≡ whole ∷ (two ∷ []) ∷ []
 
 path-builds : PathBuilds
-unfolding buildOf symmetricOf growOf withSums csr.sizeOk csr.neverFall csr.offsetsOk csr.entryOk csr.rowOk csr.stepOk csr.rowAt csr.entryFrom csr.columnsOk validOf isFinite lt le eq ofBits add sub mul div sqrtOf each tab for iter askRows pairAgrees mirrorsAgree pattern.some pattern.howMany pattern.those pattern.rowOf faces.above faces.facesOf faces.uppersOf faces.faceOffsetsOf faces.neighborsOf faces.hasEntry faces.standsAt faces.mirroredOf faces.lowersOf faces.diagonalsAsked faces.diagonalsOf faces.coupledOf faces.coupledCountOf faces.coupledRowsOf kernelUpdateOf diagonalAsked isPositive tri factor.seekOf factor.getOf lessOf factor.restOf factor.columnOf factor.columnsOf factor.goodPivot factor.factorRowOf factor.rowsOf factor.choleskyOf sumFace sumRow rowSumsOf absOf allFinite strengthsOf considerOf entryOf strongestOf assignOf pairRowOf turnOf pairsOf mergeOf pattern.sumTo pattern.flat pattern.startOf pattern.columnPlaceOf pattern.joinsBy pattern.joins pattern.coarseOffsets pattern.coarseColumns pattern.coarsePositions addEntry sumsOf averageFace symmetrizeOf dicOf pivotsOf pivotRow pivotFace reciprocalsOf isPivot pattern.composeOf linksIn matricesIn
+unfolding buildOf symmetricOf growOf withSums csr.sizeOk csr.neverFall csr.offsetsOk csr.entryOk csr.rowOk csr.stepOk csr.rowAt csr.entryFrom csr.columnsOk validOf isFinite lt le eq ofBits add sub mul div sqrtOf each tab for iter askRows pairAgrees mirrorsAgree pattern.some pattern.howMany pattern.those pattern.rowOf faces.above faces.facesOf faces.uppersOf faces.faceOffsetsOf faces.neighborsOf faces.hasEntry faces.standsAt faces.mirroredOf faces.lowersOf faces.diagonalsAsked faces.diagonalsOf faces.coupledOf faces.coupledCountOf faces.coupledRowsOf kernelUpdateOf diagonalAsked isPositive tri factor.seekOf factor.getOf lessOf factor.restOf factor.columnOf factor.columnsOf factor.factorRowOf factor.rowsOf factor.choleskyOf sumFace sumRow rowSumsOf absOf allFinite strengthsOf considerOf entryOf strongestOf assignOf pairRowOf turnOf pairsOf mergeOf pattern.sumTo pattern.flat pattern.startOf pattern.columnPlaceOf pattern.joinsBy pattern.joins pattern.coarseOffsets pattern.coarseColumns pattern.coarsePositions addEntry sumsOf averageFace symmetrizeOf dicOf pivotsOf pivotRow pivotFace reciprocalsOf isPivot pattern.composeOf linksIn matricesIn
 path-builds = record { refuses = refl; aggregates = refl; coarser = refl; merges = refl; coarsest = refl }

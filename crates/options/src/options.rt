@@ -1,6 +1,6 @@
 // Controls of the multigrid solver, and the handle that a build answers with.
 ghost use mathlib.Core.Path.{_≡_};
-ghost use Rattle.options.specs.Options.{defaultOptions, validOf, needsDic, controlsAsked};
+ghost use Rattle.options.specs.Options.{defaultOptions, tolerable, validOf, needsDic, controlsAsked};
 ghost use Rattle.refusal.specs.Outcome.{verdictOf};
 use refusal::Verdict;
 
@@ -91,12 +91,17 @@ impl MultigridOptions {
             & ((1 <= self.max_levels) & (self.max_levels <= 128))
             & ((1 <= self.merge_levels) & (self.merge_levels <= 4))
             & (self.krylov_dimension <= 16)
-            & (float::is_finite(self.coarse_absolute_tolerance)
-                & !(self.coarse_absolute_tolerance < 0.0))
-            & (float::is_finite(self.coarse_relative_tolerance)
-                & !(self.coarse_relative_tolerance < 0.0))
+            & is_tolerable(self.coarse_absolute_tolerance)
+            & is_tolerable(self.coarse_relative_tolerance)
             & (1 <= self.coarse_max_iterations)
     }
+}
+
+// A tolerance or a weight may be any finite number that is not below zero. Minus zero is not.
+pub fn is_tolerable(t: f64) -> bool
+    ensures { λ r. ⌜ r ≡ tolerable t ⌝ }
+{
+    float::is_finite(t) & !(t < 0.0)
 }
 
 // Whether the smoother makes DIC sweeps first, and so needs DIC data.

@@ -10,8 +10,8 @@ fn input_fits(s: LinearSolverOptions, rhs: &[f64], x: &[f64]) -> bool
     ensures { λ r. ⌜ r ≡ inputOk s (now (rhs .entry)) (now (x .entry)) ⌝ }
 {
     (1 <= s.max_iterations)
-        & (float::is_finite(s.absolute_tolerance) & !(s.absolute_tolerance < 0.0))
-        & (float::is_finite(s.relative_tolerance) & !(s.relative_tolerance < 0.0))
+        & options::is_tolerable(s.absolute_tolerance)
+        & options::is_tolerable(s.relative_tolerance)
         & vector::all_finite(rhs, rhs.len(), 0)
         & vector::all_finite(x, x.len(), 0)
 }

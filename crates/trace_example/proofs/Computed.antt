@@ -4,7 +4,7 @@ use mathlib.Core.Path.{_≡_, refl}
 use mathlib.Core.Bool.{true, false}
 use mathlib.Core.List.{[], _∷_}
 use lib.Ieee.{ofInt, ofBits, add, sub, mul, div, lt, le, eq, ne}
-use Rattle.float.specs.Float.{one64, absOf, isFinite, maxNum}
+use Rattle.float.specs.Float.{one64, absOf, isFinite, maxNum, isPositive}
 use Rattle.float.specs.Sqrt.{sqrtOf}
 use Rattle.store.specs.Loop.{iter, for}
 use Rattle.store.specs.Region.{part, lay, splice}
@@ -27,7 +27,7 @@ use Rattle.acceleration.specs.Directions as directions
 use Rattle.acceleration.specs.Normal as normal
 use Rattle.acceleration.specs.Advance as advance
 use Rattle.coefficients.specs.Mirrors.{pairAgrees, mirrorsAgree}
-use Rattle.coefficients.specs.Update.{isPositive, diagonalAsked, kernelUpdateOf}
+use Rattle.coefficients.specs.Update.{diagonalAsked, kernelUpdateOf}
 use Rattle.cholesky.specs.Triangle.{tri, lessOf}
 use Rattle.cholesky.specs.Factor as cholesky
 use Rattle.cholesky.specs.TriangularFactor as factor
@@ -66,7 +66,7 @@ use Rattle.trace_example.proofs.Ring.{fine, before, after}
 -- Of the cell and of the ring: the build with the first values and with the accepted ones; both hold in the stores; one update is refused, the
 -- other accepted; and the solve has its two answers.
 pub computed : Computes cell (oneCell one64 one64) (oneCell two half) × Computes ring before after
-unfolding headers.headsAt headers.headsOf building.buildOf building.symmetricOf building.growOf refreshing.withSums csr.sizeOk csr.neverFall csr.offsetsOk csr.entryOk csr.rowOk csr.stepOk csr.rowAt csr.entryFrom csr.columnsOk weights.weightsOk weights.weightOk validOf isFinite lt le eq ofBits add sub mul div sqrtOf each tab for iter askRows pairAgrees mirrorsAgree pattern.some pattern.howMany pattern.those pattern.rowOf faces.above faces.facesOf faces.uppersOf faces.faceOffsetsOf faces.neighborsOf faces.hasEntry faces.standsAt faces.mirroredOf faces.lowersOf faces.diagonalsAsked faces.diagonalsOf faces.coupledOf faces.coupledCountOf faces.coupledRowsOf kernelUpdateOf diagonalAsked isPositive tri cholesky.seekOf cholesky.getOf lessOf cholesky.restOf cholesky.columnOf cholesky.columnsOf cholesky.goodPivot cholesky.factorRowOf cholesky.rowsOf cholesky.choleskyOf layout.viewOf layout.levelsAt layout.levelAt layout.wordsEnd layout.floatsEnd layout.imageEnd layout.wordsFit part lay splice levelWords levelFloats allLevels wordsFor floatsFor update.updateOf update.renewOf update.sameList update.samePattern standing.diagonalStands standing.diagonalsStand solve.solveOf input.inputOk solve.runOf iterating.iterateOf iteration.stepOf iteration.movedOf cycle.cycleOf cycle.endOf cycle.countOf terminal.terminalOf terminal.terminalSolution terminal.scatterOf terminal.gatherOf terminal.diagonalOf factor.solveFactorOf factor.lowRow factor.highRow factor.lowTerm factor.highTerm measure.measureOf measure.valueOf measure.squaresOf measure.squareAt measure.sumOf measure.sumTurn finite.allFinite dot.termOf dot.blockOf dot.blockTurn dot.dotOf dot.productOf dot.rootOf dot.normOf normalization.normalizationOf solver.relativeOf matrix.applyOf matrix.spreadOf matrix.spreadRow matrix.spreadFace correction.subtractOf correction.addPlainOf maxNum ne ofInt absOf pairs.strengthsOf pairs.considerOf pairs.entryOf pairs.strongestOf pairs.assignOf pairs.pairRowOf pairs.turnOf pairs.pairsOf pattern.sumTo pattern.flat pattern.startOf pattern.columnPlaceOf pattern.joinsBy pattern.joins pattern.coarseOffsets pattern.coarseColumns pattern.coarsePositions pattern.composeOf galerkin.addEntry galerkin.sumsOf galerkin.averageFace galerkin.symmetrizeOf galerkin.zeroEntry galerkin.zeroEntries galerkin.zeroDiagonalOf building.mergeOf dic.isPivot dic.pivotFace dic.pivotRow dic.pivotsOf dic.reciprocalsOf dic.dicOf matrix.sumFace matrix.sumRow matrix.rowSumsOf sweep.gatherFace sweep.castFace sweep.freshOf sweep.forwardRow sweep.backwardRow sweep.gaussSeidelOf sweep.lowerRow sweep.upperRow sweep.dicSweepOf matrix.residualOf smooth.gaussSeidelsOf smooth.dicSweepsOf smooth.sweptOf smooth.smoothOf scaling.productsTurn scaling.productsOf scaling.quotientOf scaling.scaleOf scaling.correctionFactorOf scaled.addScaledOf transfer.gatherTurn transfer.gatherOf transfer.restrictOf transfer.prolongOf counts.preSweepsOf counts.postSweepsOf cycle.residualAfter cycle.corrected cycle.upOf measure.sizeAt measure.sizesOf normalization.meanOf normalization.spreadOf normalization.spreadAt normalization.spreadsOf gcr.twiceOf gcr.keptOf gcr.correctOf directions.lessOf directions.orthogonalTo directions.passOf normal.overOf normal.normalOf advance.moreOf advance.advanceOf
+unfolding headers.headsAt headers.headsOf building.buildOf building.symmetricOf building.growOf refreshing.withSums csr.sizeOk csr.neverFall csr.offsetsOk csr.entryOk csr.rowOk csr.stepOk csr.rowAt csr.entryFrom csr.columnsOk weights.weightsOk weights.weightOk validOf isFinite lt le eq ofBits add sub mul div sqrtOf each tab for iter askRows pairAgrees mirrorsAgree pattern.some pattern.howMany pattern.those pattern.rowOf faces.above faces.facesOf faces.uppersOf faces.faceOffsetsOf faces.neighborsOf faces.hasEntry faces.standsAt faces.mirroredOf faces.lowersOf faces.diagonalsAsked faces.diagonalsOf faces.coupledOf faces.coupledCountOf faces.coupledRowsOf kernelUpdateOf diagonalAsked isPositive tri cholesky.seekOf cholesky.getOf lessOf cholesky.restOf cholesky.columnOf cholesky.columnsOf cholesky.factorRowOf cholesky.rowsOf cholesky.choleskyOf layout.viewOf layout.levelsAt layout.levelAt layout.wordsEnd layout.floatsEnd layout.imageEnd layout.wordsFit part lay splice levelWords levelFloats allLevels wordsFor floatsFor update.updateOf update.renewOf update.sameList update.samePattern standing.diagonalStands standing.diagonalsStand solve.solveOf input.inputOk solve.runOf iterating.iterateOf iteration.stepOf iteration.movedOf cycle.cycleOf cycle.endOf cycle.countOf terminal.terminalOf terminal.terminalSolution terminal.scatterOf terminal.gatherOf terminal.diagonalOf factor.solveFactorOf factor.lowRow factor.highRow factor.lowTerm factor.highTerm measure.measureOf measure.valueOf measure.squaresOf measure.squareAt measure.sumOf measure.sumTurn finite.allFinite dot.termOf dot.blockOf dot.blockTurn dot.dotOf dot.productOf dot.rootOf dot.normOf normalization.normalizationOf solver.relativeOf matrix.applyOf matrix.spreadOf matrix.spreadRow matrix.spreadFace correction.subtractOf correction.addPlainOf maxNum ne ofInt absOf pairs.strengthsOf pairs.considerOf pairs.entryOf pairs.strongestOf pairs.assignOf pairs.pairRowOf pairs.turnOf pairs.pairsOf pattern.sumTo pattern.flat pattern.startOf pattern.columnPlaceOf pattern.joinsBy pattern.joins pattern.coarseOffsets pattern.coarseColumns pattern.coarsePositions pattern.composeOf galerkin.addEntry galerkin.sumsOf galerkin.averageFace galerkin.symmetrizeOf galerkin.zeroEntry galerkin.zeroEntries galerkin.zeroDiagonalOf building.mergeOf dic.isPivot dic.pivotFace dic.pivotRow dic.pivotsOf dic.reciprocalsOf dic.dicOf matrix.sumFace matrix.sumRow matrix.rowSumsOf sweep.gatherFace sweep.castFace sweep.freshOf sweep.forwardRow sweep.backwardRow sweep.gaussSeidelOf sweep.lowerRow sweep.upperRow sweep.dicSweepOf matrix.residualOf smooth.gaussSeidelsOf smooth.dicSweepsOf smooth.sweptOf smooth.smoothOf scaling.productsTurn scaling.productsOf scaling.quotientOf scaling.scaleOf scaling.correctionFactorOf scaled.addScaledOf transfer.gatherTurn transfer.gatherOf transfer.restrictOf transfer.prolongOf counts.preSweepsOf counts.postSweepsOf cycle.residualAfter cycle.corrected cycle.upOf measure.sizeAt measure.sizesOf normalization.meanOf normalization.spreadOf normalization.spreadAt normalization.spreadsOf gcr.twiceOf gcr.keptOf gcr.correctOf directions.lessOf directions.orthogonalTo directions.passOf normal.overOf normal.normalOf advance.moreOf advance.advanceOf
 computed = (
   record { weights = refl; built = refl; anew = refl; view = refl; viewed = refl; fits = refl; heads = refl; refuses = refl; accepts = refl; solves = refl; solved = refl },
   record { weights = refl; built = refl; anew = refl; view = refl; viewed = refl; fits = refl; heads = refl; refuses = refl; accepts = refl; solves = refl; solved = refl },

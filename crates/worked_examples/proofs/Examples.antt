@@ -4,13 +4,13 @@ use mathlib.Core.Path.{_≡_, refl}
 use mathlib.Core.List.{List, [], _∷_}
 use lib.IntN.{pos}
 use lib.Ieee.{Float, nan, ofInt, ofBits, add, sub, mul, div, lt, le}
-use Rattle.float.specs.Float.{zero64, one64, isFinite}
+use Rattle.float.specs.Float.{zero64, one64, isFinite, isPositive}
 use Rattle.store.specs.Loop.{iter, for}
 use Rattle.store.specs.Vector.{tab}
 use Rattle.options.specs.declared.options.MultigridSmoother.{MultigridSmoother}
 use Rattle.refusal.specs.Refusal.{badDicPivot}
 use Rattle.refusal.specs.Outcome.{Outcome, accepted, refused, askRows, _>>=_}
-use Rattle.coefficients.specs.Update.{isPositive, diagonalAsked, kernelUpdateOf}
+use Rattle.coefficients.specs.Update.{diagonalAsked, kernelUpdateOf}
 use Rattle.pattern.specs.Pattern as pattern
 use Rattle.faces.specs.Faces as faces
 use Rattle.matrix.specs.Kernel.{Kernel, spreadFace, spreadRow, spreadOf, residualOf}

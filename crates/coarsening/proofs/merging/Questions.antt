@@ -1,13 +1,13 @@
 -- Questions 12 and 13, row by row.
 -- Assumes nothing.
 use mathlib.Core.Path.{_≡_, refl, _∙_}
-use mathlib.Core.Bool.{Bool, true, false, _&&_}
+use mathlib.Core.Bool.{Bool, true, false}
 use mathlib.Core.List.{List}
 use Prim.Native.Nat.{ℕ, _+_, _≤_, _<_}
 use native.Mathlib.Omega.{arith}
 use lib.ListN.{length}
-use lib.Ieee.{Float, lt}
-use Rattle.float.specs.Float.{div64, zero64, one64, isFinite}
+use lib.Ieee.{Float}
+use Rattle.float.specs.Float.{div64, one64, isFinite, isPositive}
 use Rattle.refusal.specs.declared.Refusal.{Refusal}
 use Rattle.refusal.specs.Refusal.{badDiagonal, badReciprocal}
 use Rattle.refusal.specs.declared.Verdict.{Verdict}
@@ -15,26 +15,26 @@ use Rattle.refusal.specs.Outcome.{Outcome, passed, askFrom, askEach, verdictOf}
 use Rattle.refusal.proofs.Outcome.{each-step, each-stop, each-done, passes, refuses}
 use Rattle.store.specs.Region.{at, idx}
 use Rattle.store.proofs.store.Region.{getD-part}
-use Rattle.coefficients.specs.Update.{isPositive, diagonalAsked, Coefficients, diagonalAt, after}
+use Rattle.coefficients.specs.Update.{diagonalAsked, Coefficients, diagonalAt, after}
 use Rattle.coarsening.specs.Steps.{RowsOk, RowsAsked}
 
 -- ---- one row
 
-module _ (level row : ℕ) (d : Float) {p : Bool} (e : p ≡ isFinite d) where
+module _ (level row : ℕ) (d : Float) {p : Bool} (e : p ≡ isPositive d) where
   -- Question 12 refuses.
-  pub row-bad : p && lt zero64 d ≡ false → Verdict.Refused (badDiagonal level row) ≡ verdictOf (diagonalAsked level row d)
-  unfolding diagonalAsked isPositive
+  pub row-bad : p ≡ false → Verdict.Refused (badDiagonal level row) ≡ verdictOf (diagonalAsked level row d)
+  unfolding diagonalAsked
   row-bad t = rw (← e, t)
 
-  module _ (yes : p && lt zero64 d ≡ true) {q : Bool} (i : q ≡ isFinite (div64 one64 d)) where
+  module _ (yes : p ≡ true) {q : Bool} (i : q ≡ isFinite (div64 one64 d)) where
     -- Question 13 refuses.
     pub row-bad-reciprocal : q ≡ false → Verdict.Refused (badReciprocal level row) ≡ verdictOf (diagonalAsked level row d)
-    unfolding diagonalAsked isPositive
+    unfolding diagonalAsked
     row-bad-reciprocal t = rw (← e, yes, ← i, t)
 
     -- Both pass.
     pub row-good : q ≡ true → Verdict.Passed ≡ verdictOf (diagonalAsked level row d)
-    unfolding diagonalAsked isPositive
+    unfolding diagonalAsked
     row-good t = rw (← e, yes, ← i, t)
 
 -- ---- every row

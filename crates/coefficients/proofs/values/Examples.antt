@@ -3,12 +3,12 @@
 use mathlib.Core.Path.{_≡_, refl}
 use mathlib.Core.List.{List, [], _∷_}
 use lib.Ieee.{Float, binary64, ofBits, div, lt}
-use Rattle.float.specs.Float.{zero64, isFinite}
+use Rattle.float.specs.Float.{zero64, isFinite, isPositive}
 use Rattle.store.specs.Vector.{tab}
 use Rattle.refusal.specs.Refusal.{badDiagonal, badReciprocal}
 use Rattle.refusal.specs.Outcome.{accepted, refused, askRows}
 use Rattle.matrix.proofs.matrix.Examples.{two, minusTwo, four, P}
-use Rattle.coefficients.specs.Update.{isPositive, diagonalAsked, kernelUpdateOf}
+use Rattle.coefficients.specs.Update.{diagonalAsked, kernelUpdateOf}
 
 -- The entries of P by rows.
 abbrev entries : List Float

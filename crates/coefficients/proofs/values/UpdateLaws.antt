@@ -9,7 +9,7 @@ use native.Mathlib.Omega.{arith}
 use lib.ListN.{length, set, take, drop, length-drop}
 use lib.Seq.{take-all, drop-drop, take-take}
 use lib.Ieee.{Float, nan}
-use Rattle.float.specs.Float.{div64, one64, isFinite}
+use Rattle.float.specs.Float.{div64, one64, isFinite, isPositive}
 use Rattle.refusal.specs.declared.Refusal.{Refusal}
 use Rattle.refusal.specs.Refusal.{badDiagonal, badReciprocal}
 use Rattle.refusal.specs.declared.Verdict.{Verdict}
@@ -24,7 +24,7 @@ use Rattle.store.proofs.store.Vector.{length-tab, getD-tab, tab-same, for-each}
 use Rattle.store.proofs.store.Each.{Tested, both-l, both-r, each-at, tested-start, tested-on, tested-done}
 use Rattle.matrix.specs.declared.matrix.SymmetricMatrix.{SymmetricMatrix}
 use Rattle.coefficients.specs.declared.values.entries.Entries.{Entries}
-use Rattle.coefficients.specs.Update.{isPositive, diagonalAsked, diagonalGood, entryOf, Coefficients, kernelUpdateOf, updateWith, updateAt, FacesTaken, Within, Holds, UpdateOk, Updated, EntriesOk, GivenOk, pickTurn, Inverted, after, RowsTold, RowsAsked}
+use Rattle.coefficients.specs.Update.{diagonalAsked, diagonalGood, entryOf, Coefficients, kernelUpdateOf, updateWith, updateAt, FacesTaken, Within, Holds, UpdateOk, Updated, EntriesOk, GivenOk, pickTurn, Inverted, after, RowsTold, RowsAsked}
 
 -- ---- the frame
 

@@ -1,10 +1,9 @@
 // `update` of matrix.rs: a matrix takes its values from the entries of an image.
-ghost use mathlib.Core.Path.{_≡_};
 ghost use Prim.Native.Nat.{_+_, _≤_};
 ghost use lib.ListN.{length};
 ghost use Rattle.store.specs.Region.{part, Wrote};
 ghost use Rattle.store.specs.Vector.{tab};
-ghost use Rattle.coefficients.specs.Update.{isPositive, entryOf, updateWith, updateAt, FacesTaken, UpdateOk, Updated, EntriesOk, GivenOk, Inverted, RowsTold, RowsAsked};
+ghost use Rattle.coefficients.specs.Update.{entryOf, updateWith, updateAt, FacesTaken, UpdateOk, Updated, EntriesOk, GivenOk, Inverted, RowsTold, RowsAsked};
 use matrix::SymmetricMatrix;
 use refusal::Refusal;
 use refusal::Verdict;
@@ -15,12 +14,6 @@ pub struct Entries {
     pub diagonals: usize,
     pub faces: usize,
     pub values: usize,
-}
-
-fn is_positive(d: f64) -> bool
-    ensures { λ r. ⌜ r ≡ isPositive d ⌝ }
-{
-    float::is_finite(d) & (d > 0.0)
 }
 
 // The values of n entries, copied to `to` without a test: those of the diagonals are asked once they stand together, the
@@ -48,7 +41,7 @@ fn invert(f: &mut [f64], rows: usize, diagonal: usize, inverse: usize) -> bool
     let mut row = 0;
     while row < rows {
         let d = f[diagonal + row];
-        ok = ok & (is_positive(d) & float::is_finite(1.0 / d));
+        ok = ok & (float::is_positive(d) & float::is_finite(1.0 / d));
         f[inverse + row] = 1.0 / d;
         row += 1;
     }
@@ -63,7 +56,7 @@ fn ask_rows(f: &[f64], rows: usize, diagonal: usize, level: u64) -> Verdict
     let mut row = 0;
     while row < rows {
         let d = f[diagonal + row];
-        if is_positive(d) {
+        if float::is_positive(d) {
             if float::is_finite(1.0 / d) {
                 row += 1;
             } else {

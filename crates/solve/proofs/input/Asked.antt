@@ -1,7 +1,7 @@
 -- Questions 20 and 21: a law for each way out, and what their answer tells.
 -- Assumes nothing.
 use mathlib.Core.Path.{_≡_, refl, _∙_}
-use mathlib.Core.Bool.{Bool, true, false, not, _&&_}
+use mathlib.Core.Bool.{Bool, true, false, _&&_}
 use mathlib.Core.List.{List}
 use Prim.Native.Nat.{ℕ}
 use native.Mathlib.Omega.{arith}
@@ -9,10 +9,10 @@ use borrow.Author.Tests.{eq-eqb, ne-eqb}
 use lib.Dec.{leb}
 use lib.ListN.{length}
 use lib.Seq.{take-length}
-use lib.Ieee.{Float, lt}
-use Rattle.float.specs.Float.{zero64, isFinite}
+use lib.Ieee.{Float}
 use Rattle.store.specs.Region.{part}
 use Rattle.solver.specs.declared.solver.LinearSolverOptions.{LinearSolverOptions}
+use Rattle.options.specs.Options.{tolerable}
 use Rattle.refusal.specs.declared.Refusal.{Refusal}
 use Rattle.refusal.specs.Refusal.{wrongLength, badInput}
 use Rattle.refusal.specs.declared.Verdict.{Verdict}
@@ -64,9 +64,9 @@ unfolding part
 part-whole v = take-length v
 
 -- The tests of question 21, as the code makes them.
-pub input-is : (s : LinearSolverOptions) (rhs x : List Float) {a r b c : Bool} → a ≡ isFinite (s .«absolute_tolerance»)
-    → r ≡ isFinite (s .«relative_tolerance») → b ≡ allFinite (length rhs) (part 0 (length rhs) rhs) → c ≡ allFinite (length x) (part 0 (length x) x)
-    → leb 1 (s .«max_iterations») && (a && not (lt (s .«absolute_tolerance») zero64)) && (r && not (lt (s .«relative_tolerance») zero64)) && b && c
+pub input-is : (s : LinearSolverOptions) (rhs x : List Float) {a r b c : Bool} → a ≡ tolerable (s .«absolute_tolerance»)
+    → r ≡ tolerable (s .«relative_tolerance») → b ≡ allFinite (length rhs) (part 0 (length rhs) rhs) → c ≡ allFinite (length x) (part 0 (length x) x)
+    → leb 1 (s .«max_iterations») && a && r && b && c
     ≡ inputOk s rhs x
 unfolding inputOk
 input-is s rhs x ea er eb ec = rw (ea, er, eb, ec, part-whole rhs, part-whole x)

@@ -7,16 +7,16 @@ use Rattle.coarsening.proofs.merging.check_row.Tie as tie
 
 returns : tie.Need-returns
 returns c =
-    row-good _ _ _ (c .before .before .before .is-finite .ensures) (c .before .before .if1 .taken)
-    (c .before .is-finite2 .ensures) (c .if2 .taken)
+    row-good _ _ _ (c .before .before .before .is-positive .ensures) (c .before .before .if1 .taken)
+    (c .before .is-finite .ensures) (c .if2 .taken)
 
 returns-2 : tie.Need-returns-2
 returns-2 c =
-    row-bad-reciprocal _ _ _ (c .before .before .before .is-finite .ensures) (c .before .before .if1 .taken)
-    (c .before .is-finite2 .ensures) (c .if2 .left)
+    row-bad-reciprocal _ _ _ (c .before .before .before .is-positive .ensures) (c .before .before .if1 .taken)
+    (c .before .is-finite .ensures) (c .if2 .left)
 
 returns-3 : tie.Need-returns-3
-returns-3 c = row-bad _ _ _ (c .before .is-finite .ensures) (c .if1 .left)
+returns-3 c = row-bad _ _ _ (c .before .is-positive .ensures) (c .if1 .left)
 
 pub check-row-spec : {M : Type 1} → statement M
 check-row-spec = tie.close (tie.spec (λ c κs. search needs) (λ c κs. search needs) returns returns-2 returns-3)

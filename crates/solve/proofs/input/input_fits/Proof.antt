@@ -6,7 +6,7 @@ use Rattle.solve.proofs.input.input_fits.Statement.{statement}
 use Rattle.solve.proofs.input.input_fits.Tie as tie
 
 returns : tie.Need-returns
-returns c = input-is _ _ _ (c .before .before .before .before .before .is-finite .ensures) (c .before .before .before .is-finite2 .ensures) (c .before .all-finite .ensures) (c .all-finite2 .ensures)
+returns c = input-is _ _ _ (c .before .before .before .is-tolerable .ensures) (c .before .before .is-tolerable2 .ensures) (c .before .all-finite .ensures) (c .all-finite2 .ensures)
 
 pub input-fits-spec : {M : Type 1} → statement M
 input-fits-spec =
