@@ -1,3 +1,2 @@
 pub mod Kernel
 pub mod Turns
-pub mod Sums

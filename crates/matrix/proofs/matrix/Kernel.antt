@@ -15,7 +15,7 @@ use Rattle.store.proofs.store.Region.{getD-part, getD-splice-in, getD-splice-be
 use Rattle.store.proofs.store.Vector.{length-tab, tab-same, for-each}
 use Rattle.matrix.specs.declared.matrix.SymmetricMatrix.{SymmetricMatrix}
 use Rattle.matrix.specs.Kernel.{Kernel, kernelAt, Owned, spreadFace, spreadRow, spreadOf, applyOf, residualOf, sumFace, sumRow, rowSumsOf, KernelOk}
-use Rattle.matrix.specs.Turns.{productTurn, lessTurn, faceTurn, rowTurn, sumTurn, sumRowTurn, Spread, Summed}
+use Rattle.matrix.specs.Turns.{VectorsOk, productTurn, lessTurn, faceTurn, rowTurn, sumTurn, sumRowTurn, Spread, Summed}
 
 -- ---- lengths
 
@@ -78,7 +78,7 @@ module _ (op : Float → Float → Float) {w : List ℕ} (F : List Float) {s : S
   overOwned a = record { vector = splice out (a .vector) F; owner = a .owner }
 
   abbrev turn : Float → ℕ → Owned → Owned
-  turn own = faceTurn op w (s .neighbors) (s .coefficients) x out own
+  turn own = faceTurn op w s x out own
 
   abbrev face : Float → ℕ → Owned → Owned
   face own = spreadFace op here (part x n F) own
@@ -102,7 +102,7 @@ module _ (op : Float → Float → Float) {w : List ℕ} (F : List Float) {s : S
       a l
 
   row-turn : (k : ℕ) → k < n → (v : List Float) → length v ≡ n
-      → rowTurn op w (s .offsets) (s .neighbors) (s .coefficients) x out k (over v) ≡ over (spreadRow op here (part x n F) k v)
+      → rowTurn op w s x out k (over v) ≡ over (spreadRow op here (part x n F) k v)
   unfolding rowTurn spreadRow over overOwned kernelAt
   row-turn k h v l =
       let a : x + k < out = omega arith in
@@ -114,21 +114,21 @@ module _ (op : Float → Float → Float) {w : List ℕ} (F : List Float) {s : S
       (record { vector = v; owner = at v k }) l in
       let t : k < length (for (face (at F (x + k))) (idx w (s .offsets + k)) (idx w (s .offsets + (k + 1))) (record { vector = v; owner = at v k }) .vector) =
       omega (arith, m .0) in
-      simp (getD-part, getD-splice-below, getD-splice-in, add-assoc, m .1, set-splice)
+      simp (getD-part, getD-splice-below, getD-splice-in, m .1, set-splice)
 
   -- The loop over the rows spreads the vector at `out`.
   pub spread-law : (v : List Float) → length v ≡ n
-      → for (rowTurn op w (s .offsets) (s .neighbors) (s .coefficients) x out) 0 n (splice out v F)
+      → for (rowTurn op w s x out) 0 n (splice out v F)
       ≡ splice out (spreadOf op here (part x n F) v) F
   unfolding spreadOf over kernelAt
   spread-law v l =
       for-map over (λ (u : List Float). length u ≡ n) (spreadRow op here (part x n F))
-      (rowTurn op w (s .offsets) (s .neighbors) (s .coefficients) x out) 0 n
+      (rowTurn op w s x out) 0 n
       (λ k _ h u q. (length-row op here (part x n F) k u ∙ q, row-turn k h u q)) v l .1
 
 module _ {w : List ℕ} (F : List Float) {s : SymmetricMatrix} (sums : ℕ) (ok : KernelOk w sums s) (outs : sums + s .rows ≤ length F) where
   sum-turn : (row : ℕ) → row < s .rows → (e : ℕ) → e < idx w (s .offsets + s .rows) → (v : List Float) → length v ≡ s .rows
-      → sumTurn w (s .neighbors) (s .coefficients) sums row e (splice sums v F) ≡ splice sums (sumFace (kernelAt s w F) row e v) F
+      → sumTurn w s sums row e (splice sums v F) ≡ splice sums (sumFace (kernelAt s w F) row e v) F
   unfolding sumTurn sumFace kernelAt
   sum-turn row r e h v l =
       let j : idx w (s .neighbors + e) < s .rows = ok .near e h in
@@ -140,25 +140,25 @@ module _ {w : List ℕ} (F : List Float) {s : SymmetricMatrix} (sums : ℕ) (ok 
       simp (getD-part, getD-splice-below, getD-splice-in, set-splice)
 
   sum-row-turn : (row : ℕ) → row < s .rows → (v : List Float) → length v ≡ s .rows
-      → sumRowTurn w (s .offsets) (s .neighbors) (s .coefficients) sums row (splice sums v F) ≡ splice sums (sumRow (kernelAt s w F) row v) F
+      → sumRowTurn w s sums row (splice sums v F) ≡ splice sums (sumRow (kernelAt s w F) row v) F
   unfolding sumRowTurn sumRow kernelAt
   sum-row-turn row r v l =
       let r₀ : row < s .rows + 1 = omega arith in
       let r₁ : row + 1 < s .rows + 1 = omega arith in
       let m = for-map (λ (u : List Float). splice sums u F) (λ (u : List Float). length u ≡ s .rows)
-      (sumFace (kernelAt s w F) row) (sumTurn w (s .neighbors) (s .coefficients) sums row)
+      (sumFace (kernelAt s w F) row) (sumTurn w s sums row)
       (idx w (s .offsets + row)) (idx w (s .offsets + (row + 1)))
       (λ e _ h u q. let below : idx w (s .offsets + (row + 1)) ≤ idx w (s .offsets + s .rows) = simp add-assoc at (ok .falls row r) in
       (length-sum-face (kernelAt s w F) row e u ∙ q, sum-turn row r e (omega arith) u q)) v l in
-      simp (getD-part, add-assoc, m .1)
+      simp (getD-part, m .1)
 
   -- The loop over the rows sums them in the vector at `sums`.
   sums-law : (v : List Float) → length v ≡ s .rows
-      → for (sumRowTurn w (s .offsets) (s .neighbors) (s .coefficients) sums) 0 (s .rows) (splice sums v F)
+      → for (sumRowTurn w s sums) 0 (s .rows) (splice sums v F)
       ≡ splice sums (for (sumRow (kernelAt s w F)) 0 (s .rows) v) F
   sums-law v l =
       for-map (λ (u : List Float). splice sums u F) (λ (u : List Float). length u ≡ s .rows) (sumRow (kernelAt s w F))
-      (sumRowTurn w (s .offsets) (s .neighbors) (s .coefficients) sums) 0 (s .rows)
+      (sumRowTurn w s sums) 0 (s .rows)
       (λ row _ h u q. (length-sum-row (kernelAt s w F) row u ∙ q, sum-row-turn row h u q)) v l .1
 
 -- ---- the ways out
@@ -166,8 +166,8 @@ module _ {w : List ℕ} (F : List Float) {s : SymmetricMatrix} (sums : ℕ) (ok 
 -- `apply` as the code has it.
 pub apply-done : {w : List ℕ} {F G H : List Float} {s : SymmetricMatrix} {x out : ℕ}
     → KernelOk w x s → x + s .rows ≤ out → out + s .rows ≤ length F
-    → G ≡ for (productTurn (s .diagonal) x out) 0 (s .rows) F
-    → Spread add64 w (s .rows) (s .offsets) (s .neighbors) (s .coefficients) x out G H
+    → G ≡ for (productTurn s x out) 0 (s .rows) F
+    → Spread add64 w s x out G H
     → Wrote out (s .rows) (applyOf (kernelAt s w F) (part x (s .rows) F)) F H
 unfolding applyOf kernelAt productTurn
 apply-done {w} {F} {G} {H} {s} {x} {out} ok xs outs a b =
@@ -177,14 +177,14 @@ apply-done {w} {F} {G} {H} {s} {x} {out} ok xs outs a b =
     let regions = tab-same (λ k. mul64 (at F (s .diagonal + k)) (at F (x + k)))
     (λ k. mul64 (at (part (s .diagonal) n F) k) (at (part x n F) k)) n (λ k h. simp getD-part) in
     wrote (b .is
-    ∙ ap (for (rowTurn add64 w (s .offsets) (s .neighbors) (s .coefficients) x out) 0 n) (a ∙ start ∙ ap (λ (v : List Float). splice out v F) regions)
+    ∙ ap (for (rowTurn add64 w s x out) 0 n) (a ∙ start ∙ ap (λ (v : List Float). splice out v F) regions)
     ∙ spread-law add64 F x out ok (omega arith) xs outs _ (length-tab _ n)) (length-apply (kernelAt s w F) (part x n F))
 
 -- `residual` as the code has it.
 pub residual-done : {w : List ℕ} {F G H : List Float} {s : SymmetricMatrix} {x rhs out : ℕ}
     → KernelOk w rhs s → rhs + s .rows ≤ x → x + s .rows ≤ out → out + s .rows ≤ length F
-    → G ≡ for (lessTurn (s .diagonal) x rhs out) 0 (s .rows) F
-    → Spread sub64 w (s .rows) (s .offsets) (s .neighbors) (s .coefficients) x out G H
+    → G ≡ for (lessTurn s x rhs out) 0 (s .rows) F
+    → Spread sub64 w s x out G H
     → Wrote out (s .rows) (residualOf (kernelAt s w F) (part x (s .rows) F) (part rhs (s .rows) F)) F H
 unfolding residualOf kernelAt lessTurn
 residual-done {w} {F} {G} {H} {s} {x} {rhs} {out} ok rs xs outs a b =
@@ -194,18 +194,18 @@ residual-done {w} {F} {G} {H} {s} {x} {rhs} {out} ok rs xs outs a b =
     let regions = tab-same (λ k. sub64 (at F (rhs + k)) (mul64 (at F (s .diagonal + k)) (at F (x + k))))
     (λ k. sub64 (at (part rhs n F) k) (mul64 (at (part (s .diagonal) n F) k) (at (part x n F) k))) n (λ k h. simp getD-part) in
     wrote (b .is
-    ∙ ap (for (rowTurn sub64 w (s .offsets) (s .neighbors) (s .coefficients) x out) 0 n) (a ∙ start ∙ ap (λ (v : List Float). splice out v F) regions)
+    ∙ ap (for (rowTurn sub64 w s x out) 0 n) (a ∙ start ∙ ap (λ (v : List Float). splice out v F) regions)
     ∙ spread-law sub64 F x out ok (omega arith) xs outs _ (length-tab _ n)) (length-residual (kernelAt s w F) (part x n F) (part rhs n F))
 
 -- `row_sums_into` as the code has it.
 pub sums-done : {w : List ℕ} {F G H : List Float} {s : SymmetricMatrix} {sums : ℕ} → KernelOk w sums s → sums + s .rows ≤ length F
     → Wrote sums (s .rows) (part (s .diagonal) (s .rows) F) F G
-    → Summed w (s .rows) (s .offsets) (s .neighbors) (s .coefficients) sums G H
+    → Summed w s sums G H
     → Wrote sums (s .rows) (rowSumsOf (kernelAt s w F)) F H
 unfolding rowSumsOf kernelAt sumRow
 sums-done {w} {F} {G} {H} {s} {sums} ok outs c b =
     wrote (b .is
-    ∙ ap (for (sumRowTurn w (s .offsets) (s .neighbors) (s .coefficients) sums) 0 (s .rows)) (c .is) ∙ sums-law F sums ok outs _ (c .long))
+    ∙ ap (for (sumRowTurn w s sums) 0 (s .rows)) (c .is) ∙ sums-law F sums ok outs _ (c .long))
     (length-row-sums (kernelAt s w F) ∙ c .long)
 
 -- A kernel that ends below a place ends below a higher one.
@@ -219,6 +219,11 @@ kernel-above ok h = record {
   falls = ok .falls;
   near = ok .near;
 }
+
+-- What the loops over the faces require, where a vector lies above the matrix and another above that.
+pub vectors-ready : {w : List ℕ} {low size size' x out : ℕ} {s : SymmetricMatrix} → KernelOk w low s → low ≤ x → x + s .rows ≤ out → out + s .rows ≤ size → size' ≡ size
+    → VectorsOk w size' s x out
+vectors-ready ok a b c e = record { kernel = kernel-above ok (omega arith); us = omega arith; vs = omega arith }
 
 -- A kernel is the same where the floats below `low` are kept.
 pub kernel-kept : {w : List ℕ} {F G : List Float} {s : SymmetricMatrix} {low : ℕ}

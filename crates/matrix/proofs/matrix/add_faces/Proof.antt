@@ -1,44 +1,39 @@
--- `matrix::add_faces` meets its contract. The loop's invariant: what is left to do from here gives what the whole gives.
+-- `matrix::add_faces` meets its contract.
 -- Assumes nothing.
-use mathlib.Core.Path.{_≡_, refl}
-use Prim.Native.Nat.{_-_}
-use lib.ListN.{length}
+use Prim.Native.Nat.{_+_, _-_}
 use Rattle.float.specs.Float.{add64}
-use Rattle.store.specs.Loop.{for}
-use Rattle.store.proofs.store.Loop.{Left, left-start, left-on}
-use Rattle.matrix.specs.Turns.{faceTurn}
-use Rattle.matrix.proofs.matrix.Turns.{faces-resize, faced-turn, faced}
+use Rattle.store.specs.Region.{at}
+use Rattle.matrix.proofs.matrix.Turns.{vectors-resize, Facing, facing-start, facing-on, facing-end, faced-upto}
 use native.Mathlib.Omega.{arith}
-use borrow.Author.Needs.{needs}
 use Rattle.matrix.proofs.matrix.add_faces.Statement.{statement}
 use Rattle.matrix.proofs.matrix.add_faces.Tie as tie
 
 abbrev Inv-loop : tie.InvT-loop
-Inv-loop w f₀ rows lo hi neighbors coefficients x out own start owner₀ face₀ f owner face =
-    (length f ≡ length f₀)
-    × Left (faceTurn add64 w neighbors coefficients x out own) face hi (record { vector = f; owner = owner })
-    (for (faceTurn add64 w neighbors coefficients x out own) lo hi (record { vector = f₀; owner = start }))
+Inv-loop w f₀ s x out row lo hi own owner₀ face₀ f owner face = Facing add64 w s x out lo hi (at f₀ (x + row)) f₀ (at f₀ (out + row)) face f owner
 
 abbrev μ-loop : tie.MeasureT-loop
-μ-loop w f₀ rows lo hi neighbors coefficients x out own start owner₀ face₀ f owner face = hi - face
+μ-loop w f₀ s x out row lo hi own owner₀ face₀ f owner face = hi - face
 
-two-requires : tie.Need-add-two-requires Inv-loop μ-loop
-two-requires c κs = (search needs, omega arith)
+add-two-requires : tie.Need-add-two-requires Inv-loop μ-loop
+add-two-requires c κs = (c .before .before .before .before .before .before .before .pre .0, omega arith)
 
-two : tie.Need-returns Inv-loop μ-loop
-two c = search needs
+returns : tie.Need-returns Inv-loop μ-loop
+returns c = faced-upto (omega arith) (c .before .before .add-two .ensures)
 
 loop-holds : tie.Need-loop-holds Inv-loop μ-loop
-loop-holds c = (refl, left-start)
+loop-holds c = facing-start
 
-face-requires : tie.Need-add-face-requires Inv-loop μ-loop
-face-requires c κs = (search (faces-resize, needs), omega arith)
+add-face-requires : tie.Need-add-face-requires Inv-loop μ-loop
+add-face-requires c κs = (vectors-resize (c .before .before .before .before .before .before .before .before .pre .0) (c .before .before .loop .inv .size), omega arith)
 
 loop-again : tie.Need-loop-again Inv-loop μ-loop
-loop-again c = search (left-on, faced-turn, needs)
+loop-again c =
+    let at-loop-test = c .before .before .before .before in
+    let at-loop = at-loop-test .before in
+    facing-on (at-loop .loop .inv) (at-loop-test .loop-test .taken) (c .before .before .add-face .ensures)
 
-returns : tie.Need-returns-2 Inv-loop μ-loop
-returns c = search (faced)
+returns-2 : tie.Need-returns-2 Inv-loop μ-loop
+returns-2 c = facing-end (c .before .loop .inv) (c .loop-test .left)
 
 pub add-faces-spec : {M : Type 1} → statement M
 add-faces-spec =
@@ -47,13 +42,19 @@ add-faces-spec =
     Inv-loop
     μ-loop
     (λ c. omega arith)
-    two-requires
-    (λ c. search needs)
-    two
+    (λ c. omega arith)
+    (λ c. omega arith)
+    (λ c. omega arith)
+    (λ c. omega arith)
+    (λ c. omega arith)
+    (λ c. omega arith)
+    add-two-requires
+    (λ c. omega arith)
+    returns
     loop-holds
-    face-requires
+    add-face-requires
     (λ c. omega arith)
     (λ c. omega arith)
     loop-again
-    (λ c. search needs)
-    returns)
+    (λ c. omega arith)
+    returns-2)

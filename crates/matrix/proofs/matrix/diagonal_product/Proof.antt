@@ -12,12 +12,10 @@ use Rattle.matrix.proofs.matrix.diagonal_product.Statement.{statement}
 use Rattle.matrix.proofs.matrix.diagonal_product.Tie as tie
 
 abbrev Inv-loop : tie.InvT-loop
-Inv-loop f₀ rows diagonal x out row₀ f row =
-    (length f ≡ length f₀)
-    × Left (productTurn diagonal x out) row rows f (for (productTurn diagonal x out) 0 rows f₀)
+Inv-loop f₀ s x out row₀ f row = (length f ≡ length f₀) × Left (productTurn s x out) row (s .rows) f (for (productTurn s x out) 0 (s .rows) f₀)
 
 abbrev μ-loop : tie.MeasureT-loop
-μ-loop f₀ rows diagonal x out row₀ f row = rows - row
+μ-loop f₀ s x out row₀ f row = s .rows - row
 
 loop-holds : tie.Need-loop-holds Inv-loop μ-loop
 loop-holds c = (refl, left-start)

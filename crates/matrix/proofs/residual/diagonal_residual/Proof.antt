@@ -11,12 +11,10 @@ use Rattle.matrix.proofs.residual.diagonal_residual.Statement.{statemen
 use Rattle.matrix.proofs.residual.diagonal_residual.Tie as tie
 
 abbrev Inv-loop : tie.InvT-loop
-Inv-loop f₀ rows diagonal x rhs out row₀ f row =
-    (length f ≡ length f₀)
-    × Left (lessTurn diagonal x rhs out) row rows f (for (lessTurn diagonal x rhs out) 0 rows f₀)
+Inv-loop f₀ s x rhs out row₀ f row = (length f ≡ length f₀) × Left (lessTurn s x rhs out) row (s .rows) f (for (lessTurn s x rhs out) 0 (s .rows) f₀)
 
 abbrev μ-loop : tie.MeasureT-loop
-μ-loop f₀ rows diagonal x rhs out row₀ f row = rows - row
+μ-loop f₀ s x rhs out row₀ f row = s .rows - row
 
 loop-holds : tie.Need-loop-holds Inv-loop μ-loop
 loop-holds c = (refl, left-start)
@@ -24,7 +22,7 @@ loop-holds c = (refl, left-start)
 loop-again : tie.Need-loop-again Inv-loop μ-loop
 unfolding lessTurn
 loop-again c =
-    let at-loop = c .before .before .before .before in
+    let at-loop = c .before .before .before .before .before .before in
     (simp length-set (omega arith), left-on (at-loop .loop .inv .1) (omega arith) refl)
 
 returns : tie.Need-returns Inv-loop μ-loop

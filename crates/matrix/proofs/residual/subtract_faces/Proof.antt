@@ -1,43 +1,34 @@
--- `residual::subtract_faces` meets its contract. The loop's invariant: what is left to do from here gives what the whole gives.
+-- `residual::subtract_faces` meets its contract.
 -- Assumes nothing.
-use mathlib.Core.Path.{_≡_, refl}
-use Prim.Native.Nat.{_-_}
-use lib.ListN.{length, length-set}
+use Prim.Native.Nat.{_+_, _-_}
 use Rattle.float.specs.Float.{sub64}
-use Rattle.store.specs.Loop.{for}
-use Rattle.store.proofs.store.Loop.{Left, left-start, left-on}
-use Rattle.matrix.specs.Turns.{faceTurn}
-use Rattle.matrix.proofs.matrix.Turns.{face-on, near-of, faced}
+use Rattle.store.specs.Region.{at}
+use Rattle.matrix.proofs.matrix.Turns.{neighbor-in, faced-one, Facing, facing-start, facing-on, facing-end}
 use native.Mathlib.Omega.{arith}
-use borrow.Author.Needs.{needs}
 use Rattle.matrix.proofs.residual.subtract_faces.Statement.{statement}
 use Rattle.matrix.proofs.residual.subtract_faces.Tie as tie
 
 abbrev Inv-loop : tie.InvT-loop
-Inv-loop w f₀ rows lo hi neighbors coefficients x out own start owner₀ face₀ f owner face =
-    (length f ≡ length f₀)
-    × Left (faceTurn sub64 w neighbors coefficients x out own) face hi (record { vector = f; owner = owner })
-    (for (faceTurn sub64 w neighbors coefficients x out own) lo hi (record { vector = f₀; owner = start }))
+Inv-loop w f₀ s x out row lo hi own owner₀ face₀ f owner face = Facing sub64 w s x out lo hi (at f₀ (x + row)) f₀ (at f₀ (out + row)) face f owner
 
 abbrev μ-loop : tie.MeasureT-loop
-μ-loop w f₀ rows lo hi neighbors coefficients x out own start owner₀ face₀ f owner face = hi - face
+μ-loop w f₀ s x out row lo hi own owner₀ face₀ f owner face = hi - face
 
 loop-holds : tie.Need-loop-holds Inv-loop μ-loop
-loop-holds c = (refl, left-start)
+loop-holds c = facing-start
 
 index-at-requires : tie.Need-index-at-requires Inv-loop μ-loop
-index-at-requires c κs = search (near-of, needs)
+index-at-requires c κs = neighbor-in _ (c .before .before .before .before .before .before .pre .0 .kernel) (omega arith)
 
 loop-again : tie.Need-loop-again Inv-loop μ-loop
 loop-again c =
-    let at-index = c .before .before .before in
-    let at-loop = at-index .before .before in (
-      simp length-set (omega arith),
-      left-on (at-loop .loop .inv .1) (omega arith) (face-on sub64 _ _ _ _ _ _ _ _ _ _ (at-index .index-at .ensures .0)),
-    )
+    let at-index-at = c .before .before .before .before in
+    let at-loop-test = at-index-at .before in
+    let at-loop = at-loop-test .before in
+    facing-on (at-loop .loop .inv) (at-loop-test .loop-test .taken) (faced-one (at-index-at .index-at .ensures .0))
 
 returns : tie.Need-returns Inv-loop μ-loop
-returns c = search (faced)
+returns c = facing-end (c .before .loop .inv) (c .loop-test .left)
 
 pub subtract-faces-spec : {M : Type 1} → statement M
 subtract-faces-spec =
@@ -45,6 +36,12 @@ subtract-faces-spec =
     (tie.spec
     Inv-loop
     μ-loop
+    (λ c. omega arith)
+    (λ c. omega arith)
+    (λ c. omega arith)
+    (λ c. omega arith)
+    (λ c. omega arith)
+    (λ c. omega arith)
     loop-holds
     index-at-requires
     (λ c. omega arith)

@@ -1,41 +1,36 @@
--- `residual::subtract_rows` meets its contract. The loop's invariant: what is left to do from here gives what the whole gives, and lo is where
--- the faces of the row start.
+-- `residual::subtract_rows` meets its contract.
 -- Assumes nothing.
-use mathlib.Core.Path.{_≡_, refl}
-use Prim.Native.Nat.{_+_, _-_}
-use lib.ListN.{length}
+use Prim.Native.Nat.{_-_}
 use Rattle.float.specs.Float.{sub64}
-use Rattle.store.specs.Loop.{for}
-use Rattle.store.specs.Region.{idx}
-use Rattle.store.proofs.store.Loop.{Left, left-start, left-on}
-use Rattle.matrix.specs.Turns.{rowTurn}
-use Rattle.matrix.proofs.matrix.Turns.{rows-resize, spread}
+use Rattle.matrix.proofs.matrix.Turns.{vectors-resize, Spreading, spreading-start, spreading-on, spreading-end}
 use native.Mathlib.Omega.{arith}
 use borrow.Author.Needs.{needs}
 use Rattle.matrix.proofs.residual.subtract_rows.Statement.{statement}
 use Rattle.matrix.proofs.residual.subtract_rows.Tie as tie
 
 abbrev Inv-loop : tie.InvT-loop
-Inv-loop w f₀ rows offsets neighbors coefficients x out row₀ lo₀ f row lo =
-    (length f ≡ length f₀)
-    × Left (rowTurn sub64 w offsets neighbors coefficients x out) row rows f
-    (for (rowTurn sub64 w offsets neighbors coefficients x out) 0 rows f₀)
-    × (lo ≡ idx w (offsets + row))
+Inv-loop w f₀ s x out row₀ lo₀ f row lo = Spreading sub64 w s x out f₀ row f lo
 
 abbrev μ-loop : tie.MeasureT-loop
-μ-loop w f₀ rows offsets neighbors coefficients x out row₀ lo₀ f row lo = rows - row
+μ-loop w f₀ s x out row₀ lo₀ f row lo = s .rows - row
 
 loop-holds : tie.Need-loop-holds Inv-loop μ-loop
-loop-holds c = (refl, left-start, search needs)
+loop-holds c = spreading-start (c .wide .ensures)
 
 subtract-row-requires : tie.Need-subtract-row-requires Inv-loop μ-loop
-subtract-row-requires c κs = search (rows-resize, needs)
+subtract-row-requires c κs =
+    let at-loop = c .before .before .before in
+    let start = at-loop .before .before .before .before .before .before in
+    (vectors-resize (start .pre) (at-loop .loop .inv .size), (c .before .if1 .taken, at-loop .loop .inv .from))
 
 loop-again : tie.Need-loop-again Inv-loop μ-loop
-loop-again c = search (left-on, needs)
+loop-again c =
+    let at-if1 = c .before .before .before .before in
+    let at-loop = at-if1 .before .before in
+    spreading-on (at-loop .loop .inv) (at-if1 .if1 .taken) (c .before .before .subtract-row .ensures) (search needs)
 
 returns : tie.Need-returns Inv-loop μ-loop
-returns c = search (spread)
+returns c = spreading-end (c .before .before .loop .inv) (c .if1 .left)
 
 pub subtract-rows-spec : {M : Type 1} → statement M
 subtract-rows-spec =

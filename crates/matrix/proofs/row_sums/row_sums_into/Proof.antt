@@ -1,7 +1,7 @@
 -- `row_sums::row_sums_into` meets its contract.
 -- Assumes nothing.
+use native.Mathlib.Omega.{arith}
 use Rattle.matrix.proofs.matrix.Kernel.{sums-done}
-use Rattle.matrix.proofs.row_sums.Sums.{rows-ready}
 use borrow.Author.Needs.{needs}
 use Rattle.matrix.proofs.row_sums.row_sums_into.Statement.{statement}
 use Rattle.matrix.proofs.row_sums.row_sums_into.Tie as tie
@@ -10,7 +10,7 @@ sum-rows-requires : tie.Need-sum-rows-requires
 sum-rows-requires c κs =
     let at-copy = c .before .before .before in
     let start = at-copy .before .before .before .before in
-    rows-ready (start .pre .0) (start .pre .1) (at-copy .copy .ensures .size)
+    (start .pre .0, omega (arith, at-copy .copy .ensures .size, start .pre .1))
 
 returns : tie.Need-returns
 returns c =

@@ -1,7 +1,6 @@
 -- `row_sums::sum_face` meets its contract: one law for each way out.
 -- Assumes nothing.
-use lib.ListN.{length-set}
-use Rattle.matrix.proofs.matrix.Turns.{near-of}
+use Rattle.matrix.proofs.matrix.Turns.{neighbor-in}
 use Rattle.matrix.proofs.row_sums.Sums.{held-self, held-other}
 use native.Mathlib.Omega.{arith}
 use borrow.Author.Needs.{needs}
@@ -9,21 +8,13 @@ use Rattle.matrix.proofs.row_sums.sum_face.Statement.{statement}
 use Rattle.matrix.proofs.row_sums.sum_face.Tie as tie
 
 index-at-requires : tie.Need-index-at-requires
-index-at-requires c κs = search (near-of, needs)
+index-at-requires c κs = neighbor-in _ (c .before .before .pre .0) (c .before .before .pre .1 .1 .1)
 
 returns : tie.Need-returns
-returns c =
-    let at-index = c .before .before in
-    let pre = at-index .before .before .before .pre in
-    let outs = pre .0 .outs in
-    held-self _ _ _ _ _ _ _ _ (at-index .index-at .ensures .0) (omega arith) (omega arith) (c .if1 .taken)
+returns c = held-self _ _ _ _ _ _ _ (c .before .before .before .index-at .ensures .0) (omega arith) (omega arith) (c .if1 .taken)
 
 returns-2 : tie.Need-returns-2
-returns-2 c =
-    let at-index = c .before .before .before in
-    let pre = at-index .before .before .before .pre in
-    let outs = pre .0 .outs in
-    held-other _ _ _ _ _ _ _ _ (at-index .index-at .ensures .0) (omega arith) (omega arith) (c .before .if1 .left)
+returns-2 c = held-other _ _ _ _ _ _ _ (c .before .before .before .before .index-at .ensures .0) (omega arith) (omega arith) (c .before .if1 .left)
 
 pub sum-face-spec : {M : Type 1} → statement M
 sum-face-spec =
