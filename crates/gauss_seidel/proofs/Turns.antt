@@ -1,129 +1,156 @@
--- The inner functions' turns as the code has them, and what one requires of the next.
+-- The inner functions' turns as the code has them, the invariants of their loops, and what one requires of the next.
 -- Assumes nothing.
 use mathlib.Core.Path.{_≡_, refl, ap, _∙_}
 use mathlib.Core.Bool.{Bool}
 use mathlib.Core.List.{List}
 use Prim.Native.Nat.{ℕ, _+_, _-_, _≤_, _<_}
 use native.Mathlib.Omega.{arith}
-use lib.ListN.{length, set}
+use lib.ListN.{length, set, length-set}
 use lib.Ieee.{Float}
 use Rattle.float.specs.Float.{add64, sub64, mul64, zero64}
 use Rattle.store.specs.Loop.{for}
 use Rattle.store.specs.Region.{at, idx}
 use Rattle.store.specs.Held.{Held, Put}
-use Rattle.store.proofs.store.Loop.{Left, left-end}
-use Rattle.matrix.specs.Turns.{FacesOk}
-use Rattle.gauss_seidel.specs.Turns.{Stored, Watched, Handed, gatherTurn, castTurn, freshAt, forwardTurn, backwardTurn, lowerTurn, upperAt, upperTurn, Gathered, Fresh, Scaled, Upper, SweepOk}
+use Rattle.store.proofs.store.Loop.{Left, left-start, left-on, left-end}
+use Rattle.matrix.specs.declared.matrix.SymmetricMatrix.{SymmetricMatrix}
+use Rattle.matrix.specs.Turns.{startOf, VectorsOk}
+use Rattle.gauss_seidel.specs.Turns.{Stored, Watched, Handed, gatherTurn, scatterTurn, castTurn, freshAt, forwardTurn, backwardTurn, lowerTurn, upperAt, upperTurn, Gathered, Fresh, Scaled, Upper}
 
--- The end of a loop that watches a float.
-pub watched-ran : {turn : ℕ → List Float → List Float} {k lo hi watched : ℕ} {F G : List Float} {near : Bool} {r : Float} → Left turn k hi G (for turn lo hi F)
-    → Held near watched G r → hi ≤ k → Watched turn lo hi F G near watched r
-watched-ran l e h = record { is = left-end l h; held = e }
+-- ---- layouts
+
+-- What lies beside one vector lies beside another.
+module _ {w : List ℕ} {size u v : ℕ} {s : SymmetricMatrix} (ok : VectorsOk w size s u v) where
+  -- the first of two vectors
+  pub first-ok : VectorsOk w size s u u
+  first-ok = record { kernel = ok .kernel; us = ok .us; vs = ok .us }
+
+  -- the second, in a store of the same size
+  pub second-ok : {size' : ℕ} → size' ≡ size → VectorsOk w size' s v v
+  second-ok e = rw e (record { kernel = ok .kernel; us = ok .vs; vs = ok .vs })
+
+-- ---- rows, one after another
+
+-- The invariant of a loop upward over the rows, in which each row hands on what then stands for the next in the vector at v: what is left to do
+-- gives what the whole gives.
+pub record Sweeping (turn : ℕ → List Float → List Float) (n v : ℕ) (F : List Float) (row : ℕ) (G : List Float) (start : Float) : Type 0 where
+  pub size : length G ≡ length F
+  pub left : Left turn row n G (for turn 0 n F)
+  pub held : start ≡ at G (v + row)
 
 -- The first float of a vector.
 pub first-at : (F : List Float) (v : ℕ) (x : Float) → x ≡ at F v → x ≡ at F (v + 0)
 first-at F v x e = let z : v + 0 ≡ v = omega arith in rw z e
+
+-- At the start the whole is left.
+pub sweeping-start : (turn : ℕ → List Float → List Float) (n v : ℕ) {F : List Float} {start : Float} → start ≡ at F v → Sweeping turn n v F 0 F start
+sweeping-start turn n v {F} {start} e = record { size = refl; left = left-start; held = first-at F v start e }
+
+module _ {turn : ℕ → List Float → List Float} {n v row : ℕ} {F G : List Float} {start : Float} (i : Sweeping turn n v F row G start) where
+  -- A row.
+  pub sweeping-on : {H : List Float} {r : Float} → row < n → Handed turn row G H (v + (row + 1)) r → length H ≡ length G → Sweeping turn n v F (row + 1) H r
+  sweeping-on h d z = record { size = z ∙ i .size; left = left-on (i .left) h (d .is); held = d .held }
+
+  -- The end.
+  pub sweeping-end : n ≤ row → Stored turn 0 n F G
+  sweeping-end h = record { is = left-end (i .left) h; size = i .size }
 
 -- The end of a loop over the rows.
 pub stored : {turn : ℕ → List Float → List Float} {k lo hi : ℕ} {F G : List Float} → length G ≡ length F → Left turn k hi G (for turn lo hi F) → hi ≤ k
     → Stored turn lo hi F G
 stored z l h = record { is = left-end l h; size = z }
 
--- ---- layouts
+-- ---- faces that are gathered
 
--- The layout holds in a store of the same size.
-pub sweep-resize : {w : List ℕ} {size size' n offsets neighbors coefficients own x beside : ℕ} → SweepOk w size n offsets neighbors coefficients own x beside
-    → size' ≡ size → SweepOk w size' n offsets neighbors coefficients own x beside
-sweep-resize ok e = rw e ok
+module _ (op : Float → Float → Float) (w : List ℕ) (s : SymmetricMatrix) (v lo hi : ℕ) (start : Float) (F : List Float) where
+  -- The invariant of the loop over a row's faces: what is left to do from e gives what the whole gives.
+  pub record Gathering (e : ℕ) (value : Float) : Type 0 where
+    pub left : Left (gatherTurn w s op F v) e hi value (for (gatherTurn w s op F v) lo hi start)
 
--- The faces of a row are among those of every row: they read x.
-pub faces-x : {w : List ℕ} {size n offsets neighbors coefficients own x beside row hi : ℕ} → SweepOk w size n offsets neighbors coefficients own x beside
-    → row < n → hi ≡ idx w (offsets + row + 1) → FacesOk w size n hi neighbors coefficients x x
-faces-x {w} {size} {n} {offsets} {neighbors} {coefficients} {own} {x} {beside} {row} {hi} ok h e =
-    let below : idx w (offsets + row + 1) ≤ idx w (offsets + n) = ok .falls row h in
-    record { columns = omega arith; faces = omega arith; xs = omega arith; outs = omega arith; near = λ k l. ok .near k (omega arith) }
+  -- At the start the whole is left.
+  pub gathering-start : Gathering lo start
+  gathering-start = record { left = left-start }
 
--- They read or write the vector beside x, in a store of the same size.
-pub faces-beside : {w : List ℕ} {size size' n offsets neighbors coefficients own x beside row hi : ℕ} → SweepOk w size n offsets neighbors coefficients own x beside
-    → size' ≡ size → row < n → hi ≡ idx w (offsets + row + 1) → FacesOk w size' n hi neighbors coefficients beside beside
-faces-beside {w} {size} {size'} {n} {offsets} {neighbors} {coefficients} {own} {x} {beside} {row} {hi} ok z h e =
-    let below : idx w (offsets + row + 1) ≤ idx w (offsets + n) = ok .falls row h in
-    record { columns = omega arith; faces = omega arith; xs = omega arith; outs = omega arith; near = λ k l. ok .near k (omega arith) }
+module _ {op : Float → Float → Float} {w : List ℕ} {s : SymmetricMatrix} {v lo hi e : ℕ} {start value : Float} {F : List Float} (i : Gathering op w s v lo hi start F e value) where
+  -- A face: its neighbour j is known by an equation, and so is what stands there.
+  pub gathering-on : {j : ℕ} {other : Float} → e < hi → j ≡ idx w (s .neighbors + e) → other ≡ at F (v + j)
+      → Gathering op w s v lo hi start F (e + 1) (op value (mul64 (at F (s .coefficients + e)) other))
+  unfolding gatherTurn
+  gathering-on h a b = record { left = left-on (i .left) h (rw (b, a)) }
 
--- ---- faces
+  -- The end.
+  pub gathering-end : hi ≤ e → Gathered op w s v lo hi start F value
+  gathering-end h = record { is = left-end (i .left) h }
 
--- A face whose neighbour's value is in hand.
-pub gather-near : (op : Float → Float → Float) (w : List ℕ) (neighbors coefficients : ℕ) (F : List Float) (v e j : ℕ) (value near : Float) → j ≡ idx w (neighbors + e)
-    → near ≡ at F (v + j) → op value (mul64 (at F (coefficients + e)) near) ≡ gatherTurn w neighbors coefficients op F v e value
-unfolding gatherTurn
-gather-near op w neighbors coefficients F v e j value near h n = rw (n, h)
+-- ---- faces that are scattered
 
--- A face that is gathered: its neighbour j is known by an equation.
-pub gather-on : (op : Float → Float → Float) (w : List ℕ) (neighbors coefficients : ℕ) (F : List Float) (v e j : ℕ) (value : Float) → j ≡ idx w (neighbors + e)
-    → op value (mul64 (at F (coefficients + e)) (at F (v + j))) ≡ gatherTurn w neighbors coefficients op F v e value
-unfolding gatherTurn
-gather-on op w neighbors coefficients F v e j value h = rw h
+module _ (share : Float → Float) (w : List ℕ) (s : SymmetricMatrix) (v lo hi : ℕ) (near : Bool) (watched : ℕ) (F : List Float) where
+  -- The invariant of the loop over a row's faces: what is left to do from e gives what the whole gives, and the float watched is held.
+  pub record Scattering (e : ℕ) (G : List Float) (r : Float) : Type 0 where
+    pub size : length G ≡ length F
+    pub left : Left (scatterTurn w s share v) e hi G (for (scatterTurn w s share v) lo hi F)
+    pub held : Held near watched G r
 
-module _ (w : List ℕ) (neighbors coefficients : ℕ) where
-  -- A face that is cast.
-  pub cast-put : (F G : List Float) (v e j watched : ℕ) (near : Bool) (value r : Float) → j ≡ idx w (neighbors + e)
-      → Put (v + j) (sub64 (at F (v + j)) (mul64 (at F (coefficients + e)) value)) near watched F G r → G ≡ castTurn w neighbors coefficients v value e F
-  unfolding castTurn
-  cast-put F G v e j watched near value r h c = c .is ∙ rw h
+  -- At the start the whole is left.
+  pub scattering-start : {r : Float} → Held near watched F r → Scattering lo F r
+  scattering-start h = record { size = refl; left = left-start; held = h }
+
+module _ {share : Float → Float} {w : List ℕ} {s : SymmetricMatrix} {v lo hi e : ℕ} {near : Bool} {watched : ℕ} {F G : List Float} {r : Float}
+    (i : Scattering share w s v lo hi near watched F e G r) where
+  -- A face: its neighbour j is known by an equation.
+  pub scattering-on : {j : ℕ} {H : List Float} {t : Float} → e < hi → j ≡ idx w (s .neighbors + e)
+      → Put (v + j) (sub64 (at G (v + j)) (share (at G (s .coefficients + e)))) near watched G H t → Scattering share w s v lo hi near watched F (e + 1) H t
+  unfolding scatterTurn
+  scattering-on h a c = record { size = rw (c .is) (simp length-set (i .size)); left = left-on (i .left) h (c .is ∙ rw a); held = c .held }
+
+  -- The end.
+  pub scattering-end : hi ≤ e → Watched (scatterTurn w s share v) lo hi F G near watched r
+  scattering-end h = record { is = left-end (i .left) h; held = i .held }
 
 -- ---- rows
 
--- The end of a loop that gathers.
-pub gathered : {op : Float → Float → Float} {w : List ℕ} {neighbors coefficients v lo hi k : ℕ} {start r : Float} {F : List Float}
-    → Left (gatherTurn w neighbors coefficients op F v) k hi r (for (gatherTurn w neighbors coefficients op F v) lo hi start) → hi ≤ k
-    → Gathered op w neighbors coefficients v lo hi start F r
-gathered l h = record { is = left-end l h }
-
-module _ {w : List ℕ} {offsets neighbors coefficients own beside row lo hi : ℕ} {F : List Float} {r : Float} where
+module _ {w : List ℕ} {s : SymmetricMatrix} {row lo hi : ℕ} {F : List Float} {r : Float} where
   -- The new x of a row.
-  pub freshed : {x : ℕ} {start : Float} → lo ≡ idx w (offsets + row) → hi ≡ idx w (offsets + row + 1) → start ≡ at F (beside + row)
-      → Gathered sub64 w neighbors coefficients x lo hi start F r → Fresh w offsets neighbors coefficients own x beside row F (mul64 r (at F (own + row)))
+  pub freshed : {x work : ℕ} {start : Float} → lo ≡ startOf w s row → hi ≡ startOf w s (row + 1) → start ≡ at F (work + row)
+      → Gathered sub64 w s x lo hi start F r → Fresh w s x work row F (mul64 r (at F (s .inverse + row)))
   unfolding freshAt
   freshed a b e g = record { is = rw (g .is, a, b, e) }
 
   -- The new correction of a row on the way back.
-  pub uppered : lo ≡ idx w (offsets + row) → hi ≡ idx w (offsets + row + 1) → Gathered add64 w neighbors coefficients beside lo hi zero64 F r
-      → Upper w offsets neighbors coefficients own beside row F (sub64 (at F (beside + row)) (mul64 (at F (own + row)) r))
+  pub uppered : {dic c : ℕ} → lo ≡ startOf w s row → hi ≡ startOf w s (row + 1) → Gathered add64 w s c lo hi zero64 F r
+      → Upper w s dic c row F (sub64 (at F (c + row)) (mul64 (at F (dic + row)) r))
   unfolding upperAt
   uppered a b g = record { is = rw (g .is, a, b) }
 
 -- A row's correction, scaled.
-pub scaled : (own c row : ℕ) (F : List Float) (start : Float) → start ≡ at F (c + row)
-    → Scaled own c row F (set F (c + row) (mul64 start (at F (own + row)))) (mul64 start (at F (own + row)))
-scaled own c row F start e = record { value = rw e; is = refl }
+pub scaled : (dic c row : ℕ) (F : List Float) (start : Float) → start ≡ at F (c + row)
+    → Scaled dic c row F (set F (c + row) (mul64 start (at F (dic + row)))) (mul64 start (at F (dic + row)))
+scaled dic c row F start e = record { value = rw e; is = refl }
 
-module _ (w : List ℕ) (offsets neighbors coefficients own x beside row lo hi : ℕ) (F G : List Float) (value : Float)
-    (a : lo ≡ idx w (offsets + row)) (b : hi ≡ idx w (offsets + row + 1)) where
+module _ {w : List ℕ} {s : SymmetricMatrix} {row lo hi watched : ℕ} {near : Bool} {F G H : List Float} {value cast r : Float}
+    (a : lo ≡ startOf w s row) (b : hi ≡ startOf w s (row + 1)) where
   -- A row of the forward sweep.
-  pub forwarded : {H : List Float} {watched : ℕ} {near : Bool} {cast stays r : Float} → Fresh w offsets neighbors coefficients own x beside row F value
-      → Watched (castTurn w neighbors coefficients beside value) lo hi F G near watched cast → Put (x + row) value near watched G H stays
-      → r ≡ at H watched → Handed (forwardTurn w offsets neighbors coefficients own x beside) row F H watched r
+  pub forwarded : {x work : ℕ} {stays : Float} → Fresh w s x work row F value → Watched (castTurn w s work value) lo hi F G near watched cast
+      → Put (x + row) value near watched G H stays → r ≡ at H watched → Handed (forwardTurn w s x work) row F H watched r
   unfolding forwardTurn
-  forwarded e c p held = record { is = p .is ∙ ap (λ (H : List Float). set H (x + row) value) (c .is) ∙ rw (a, b, ← e .is); held = held }
+  forwarded {x} e c p held = record { is = p .is ∙ ap (λ (K : List Float). set K (x + row) value) (c .is) ∙ rw (a, b, ← e .is); held = held }
 
-  -- A row of the forward substitution.
-  pub lowered : {H : List Float} {watched : ℕ} {near : Bool} {cast r : Float} → Scaled own beside row F G value
-      → Watched (castTurn w neighbors coefficients beside value) lo hi G H near watched cast
-      → r ≡ at H watched → Handed (lowerTurn w offsets neighbors coefficients own beside) row F H watched r
-  unfolding lowerTurn
-  lowered {H} e c held = record { is = c .is ∙ rw (a, b, e .is, ← e .value); held = held }
+-- A row of the forward substitution.
+pub lowered : (w : List ℕ) (s : SymmetricMatrix) (dic v : ℕ) {row lo hi watched : ℕ} {near : Bool} {F G H : List Float} {value cast r : Float}
+    → lo ≡ startOf w s row → hi ≡ startOf w s (row + 1) → Scaled dic v row F G value → Watched (castTurn w s v value) lo hi G H near watched cast → r ≡ at H watched
+    → Handed (lowerTurn w s dic v) row F H watched r
+unfolding lowerTurn
+lowered w s dic v a b e c held = record { is = c .is ∙ rw (a, b, e .is, ← e .value); held = held }
 
 -- Row n - 1 - i of the backward sweep.
-pub backward-on : (w : List ℕ) (n offsets neighbors coefficients own x beside row i : ℕ) (F : List Float) (value : Float)
-    → Fresh w offsets neighbors coefficients own x beside row F value → row ≡ n - 1 - i
-    → set F (x + row) value ≡ backwardTurn w offsets neighbors coefficients own n x beside i F
+pub backward-on : (w : List ℕ) (s : SymmetricMatrix) (x work row i : ℕ) (F : List Float) (value : Float) → Fresh w s x work row F value → row ≡ s .rows - 1 - i
+    → set F (x + row) value ≡ backwardTurn w s x work i F
 unfolding backwardTurn
-backward-on w n offsets neighbors coefficients own x beside row i F value a e = rw (a .is, e)
+backward-on w s x work row i F value a e = rw (a .is, e)
 
 -- Row n - 1 - i of the backward substitution.
-pub upper-on : (w : List ℕ) (n offsets neighbors coefficients own x beside row i watched : ℕ) (near : Bool) (F G : List Float) (value r : Float)
-    → Upper w offsets neighbors coefficients own beside row F value → row ≡ n - 1 - i
-    → Put (x + row) (add64 (at F (x + row)) value) near watched (set F (beside + row) value) G r
-    → G ≡ upperTurn w offsets neighbors coefficients own n x beside i F
+pub upper-on : (w : List ℕ) (s : SymmetricMatrix) (dic x c row i watched : ℕ) (near : Bool) (F G : List Float) (value r : Float)
+    → Upper w s dic c row F value → row ≡ s .rows - 1 - i
+    → Put (x + row) (add64 (at F (x + row)) value) near watched (set F (c + row) value) G r
+    → G ≡ upperTurn w s dic c x i F
 unfolding upperTurn
-upper-on w n offsets neighbors coefficients own x beside row i watched near F G value r a e p = p .is ∙ rw (a .is, e)
+upper-on w s dic x c row i watched near F G value r a e p = p .is ∙ rw (a .is, e)

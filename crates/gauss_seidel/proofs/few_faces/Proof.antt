@@ -8,7 +8,7 @@ use Rattle.gauss_seidel.proofs.few_faces.Statement.{statement}
 use Rattle.gauss_seidel.proofs.few_faces.Tie as tie
 
 returns : tie.Need-returns
-returns c = ap (λ (n : ℕ). leb (n / 2) (c .before .before .before .args .rows)) (c .wide .ensures)
+returns c = ap (λ (n : ℕ). leb (n / 2) (c .before .before .before .before .before .args .s .rows)) (c .before .wide .ensures)
 
 pub few-faces-spec : {M : Type 1} → statement M
 few-faces-spec =

@@ -9,7 +9,11 @@ forward-requires : tie.Need-forward-requires
 forward-requires c κs = search (sweep-copied)
 
 backward-requires : tie.Need-backward-requires
-backward-requires c κs = sweep-forward (c .before .before .before .before .before .before .before .before .before .before .before .before .pre) (c .before .before .before .before .before .before .before .before .copy .ensures) (c .before .before .before .before .forward .ensures)
+backward-requires c κs =
+    let at-forward = c .before .before .before .before in
+    let at-copy = at-forward .before .before .before .before in
+    let start = at-copy .before .before .before .before in
+    sweep-forward (start .pre) (at-copy .copy .ensures) (at-forward .forward .ensures)
 
 returns : tie.Need-returns
 returns c = search (swept-back)

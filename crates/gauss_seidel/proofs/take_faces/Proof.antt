@@ -1,41 +1,38 @@
--- `gauss_seidel::take_faces` meets its contract. The loop's invariant: what is left to do from here gives what the whole gives. A neighbour is a
--- row, so that the loop is not left before its end.
+-- `gauss_seidel::take_faces` meets its contract. A neighbour is a row, so that the loop is not left before its end.
 -- Assumes nothing.
+use mathlib.Core.Path.{refl}
 use Prim.Native.Nat.{_-_}
 use Rattle.float.specs.Float.{sub64}
-use Rattle.store.specs.Loop.{for}
-use Rattle.store.proofs.store.Loop.{Left, left-start, left-on}
-use Rattle.gauss_seidel.specs.Turns.{gatherTurn}
-use Rattle.gauss_seidel.proofs.Turns.{gather-on, gathered}
+use Rattle.matrix.proofs.matrix.Turns.{neighbor-in}
+use Rattle.gauss_seidel.proofs.Turns.{Gathering, gathering-start, gathering-on, gathering-end}
 use native.Mathlib.Omega.{arith}
 use Rattle.gauss_seidel.proofs.take_faces.Statement.{statement}
 use Rattle.gauss_seidel.proofs.take_faces.Tie as tie
 
 abbrev Inv-loop : tie.InvT-loop
-Inv-loop w f rows lo hi neighbors coefficients v start value₀ face₀ value face = Left (gatherTurn w neighbors coefficients sub64 f v) face hi value (for (gatherTurn w neighbors coefficients sub64 f v) lo hi start)
+Inv-loop w f s v lo hi start value₀ face₀ value face = Gathering sub64 w s v lo hi start f face value
 
 abbrev μ-loop : tie.MeasureT-loop
-μ-loop w f rows lo hi neighbors coefficients v start value₀ face₀ value face = hi - face
+μ-loop w f s v lo hi start value₀ face₀ value face = hi - face
 
 loop-holds : tie.Need-loop-holds Inv-loop μ-loop
-loop-holds c = left-start
+loop-holds c = gathering-start _ _ _ _ _ _ _ _
 
 index-at-requires : tie.Need-index-at-requires Inv-loop μ-loop
-index-at-requires c κs =
-    let start = c .before .before .before .before in
-    (omega (arith, start .pre .columns, c .loop-test .taken), start .pre .near _ (c .loop-test .taken))
+index-at-requires c κs = neighbor-in _ (c .before .before .before .before .pre .0 .kernel) (omega arith)
 
-never : tie.Need-returns Inv-loop μ-loop
-never c = absurd (omega arith)
+returns : tie.Need-returns Inv-loop μ-loop
+returns c = absurd (omega arith)
 
 loop-again : tie.Need-loop-again Inv-loop μ-loop
 loop-again c =
-    let at-index = c .before .before .before in
-    let at-loop = at-index .before .before in
-    left-on (at-loop .loop .inv) (at-index .before .loop-test .taken) (gather-on sub64 _ _ _ _ _ _ _ _ (at-index .index-at .ensures .0))
+    let at-index-at = c .before .before .before .before .before in
+    let at-loop-test = at-index-at .before in
+    let at-loop = at-loop-test .before in
+    gathering-on (at-loop .loop .inv) (at-loop-test .loop-test .taken) (at-index-at .index-at .ensures .0) refl
 
-returns : tie.Need-returns-2 Inv-loop μ-loop
-returns c = gathered (c .before .loop .inv) (c .loop-test .left)
+returns-2 : tie.Need-returns-2 Inv-loop μ-loop
+returns-2 c = gathering-end (c .before .loop .inv) (c .loop-test .left)
 
 pub take-faces-spec : {M : Type 1} → statement M
 take-faces-spec =
@@ -45,7 +42,7 @@ take-faces-spec =
     μ-loop
     loop-holds
     index-at-requires
-    never
+    returns
     (λ c. omega arith)
     (λ c. omega arith)
     (λ c. omega arith)
@@ -55,4 +52,4 @@ take-faces-spec =
     (λ c. omega arith)
     (λ c. omega arith)
     loop-again
-    returns)
+    returns-2)
