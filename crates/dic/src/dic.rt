@@ -5,10 +5,11 @@ ghost use lib.ListN.{length};
 ghost use Rattle.store.specs.Region.{part};
 ghost use Rattle.store.specs.Held.{Held};
 ghost use Rattle.matrix.specs.Kernel.{kernelAt};
-ghost use Rattle.matrix.specs.Turns.{FacesOk};
+ghost use Rattle.matrix.specs.Turns.{facesOf, VectorsOk};
 ghost use Rattle.gauss_seidel.specs.Turns.{Watched};
 ghost use Rattle.dic.specs.Dic.{isPivot, pivotsOf, reciprocalsOf, dicOf, DicOk, Settled, Inverted, ReciprocalsAsked};
 ghost use Rattle.dic.specs.Turns.{pivotTurn, PivotRowed};
+use gauss_seidel::Carried;
 use matrix::SymmetricMatrix;
 use refusal::Refusal;
 use refusal::Verdict;
@@ -24,31 +25,28 @@ fn is_pivot(d: f64) -> bool
 fn pivot_faces(
     w: &[u32],
     f: &mut [f64],
-    rows: usize,
+    s: SymmetricMatrix,
+    d: usize,
     lo: usize,
     hi: usize,
-    neighbors: usize,
-    coefficients: usize,
-    d: usize,
     pivot: f64,
-    near: bool,
-    watched: usize,
-    held: f64,
+    next: Carried,
 ) -> f64
-    requires { ⌜ FacesOk (now w) (length (now f)) rows hi neighbors coefficients d d ⌝ }
-    requires { ⌜ Held near watched (now f) held ⌝ }
-    ensures { λ r. ⌜ Watched (pivotTurn (now (w .entry)) neighbors coefficients d pivot) lo hi (now (f .entry)) (now (f .exit)) near watched r ⌝ }
+    requires { ⌜ VectorsOk (now w) (length (now f)) s d d ⌝ }
+    requires { ⌜ hi ≤ facesOf (now w) s ⌝ }
+    requires { ⌜ Held (next .near) (next .watched) (now f) (next .held) ⌝ }
+    ensures { λ r. ⌜ Watched (pivotTurn (now (w .entry)) s d pivot) lo hi (now (f .entry)) (now (f .exit)) (next .near) (next .watched) r ⌝ }
 {
-    let mut next = held;
+    let mut held = next.held;
     let mut face = lo;
     while face < hi {
-        let neighbor = store::index_at(w, neighbors, face, rows);
-        let a = f[coefficients + face];
+        let neighbor = store::index_at(w, s.neighbors, face, s.rows);
+        let a = f[s.coefficients + face];
         let left = f[d + neighbor] - a * a / pivot;
-        next = store::put(f, d + neighbor, left, near, watched, next);
+        held = store::put(f, d + neighbor, left, next.near, next.watched, held);
         face += 1;
     }
-    next
+    held
 }
 
 // The faces of one row. The answer is the pivot of the next.
@@ -66,23 +64,15 @@ fn pivot_row(
     ensures { λ r. ⌜ PivotRowed (now (w .entry)) s d row pivot (now (f .entry)) (now (f .exit)) r ⌝ }
 {
     let lo = store::wide(w[s.offsets + row]);
-    let hi = store::wide(w[s.offsets + row + 1]);
+    let hi = store::wide(w[s.offsets + (row + 1)]);
     let next = d + (row + 1);
     let held = store::float_at(f, next);
-    let stays = pivot_faces(
-        w,
-        f,
-        s.rows,
-        lo,
-        hi,
-        s.neighbors,
-        s.coefficients,
-        d,
-        pivot,
-        near,
-        next,
-        held,
-    );
+    let carried = Carried {
+        near: near,
+        watched: next,
+        held: held,
+    };
+    let stays = pivot_faces(w, f, s, d, lo, hi, pivot, carried);
     store::held_at(f, next, near, stays)
 }
 
@@ -92,11 +82,10 @@ fn dic_pivots(w: &[u32], f: &mut [f64], s: SymmetricMatrix, d: usize, level: u64
     requires { ⌜ part d (s .rows) (now f) ≡ part (s .diagonal) (s .rows) (now f) ⌝ }
     ensures { λ r. ⌜ Settled d (s .rows) (pivotsOf level (kernelAt s (now (w .entry)) (now (f .entry)))) (now (f .entry)) (now (f .exit)) r ⌝ }
 {
-    let rows = s.rows;
-    let near = gauss_seidel::few_faces(w, s.offsets, rows);
+    let near = gauss_seidel::few_faces(w, s);
     let mut pivot = store::float_at(f, d);
     let mut row = 0;
-    while row < rows {
+    while row < s.rows {
         if is_pivot(pivot) {
             pivot = pivot_row(w, f, s, d, near, row, pivot);
             row += 1;

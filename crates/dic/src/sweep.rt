@@ -1,43 +1,40 @@
 // smoother.rs: one DIC sweep over regions of the store.
 ghost use mathlib.Core.Path.{_≡_};
-ghost use Prim.Native.Nat.{_+_, _<_};
+ghost use Prim.Native.Nat.{_+_, _<_, _≤_};
 ghost use lib.ListN.{length};
-ghost use Rattle.float.specs.Float.{add64};
+ghost use Rattle.float.specs.Float.{add64, zero64};
 ghost use Rattle.store.specs.Region.{at, part};
 ghost use Rattle.store.specs.Held.{Held};
 ghost use Rattle.matrix.specs.Kernel.{kernelAt};
-ghost use Rattle.matrix.specs.Turns.{FacesOk};
+ghost use Rattle.matrix.specs.Turns.{facesOf, VectorsOk};
 ghost use Rattle.gauss_seidel.specs.Sweep.{dicSweepOf};
 ghost use Rattle.gauss_seidel.specs.Contract.{SmoothOk, Both};
-ghost use Rattle.gauss_seidel.specs.Turns.{Stored, Handed, lowerTurn, upperTurn, Gathered, Scaled, Upper, SweepOk};
+ghost use Rattle.gauss_seidel.specs.Turns.{Stored, Handed, lowerTurn, upperTurn, Gathered, Scaled, Upper};
+use gauss_seidel::Carried;
 use matrix::SymmetricMatrix;
 use matrix::residual;
 
-// a * v[neighbor] of each face from lo to hi, added up from start; a caller that is near holds what stands at `watched`.
+// The sum of a * v[neighbor] over the faces from lo to hi; a caller that is near holds what stands at `watched`.
 fn add_faces(
     w: &[u32],
     f: &[f64],
-    rows: usize,
+    s: SymmetricMatrix,
+    v: usize,
     lo: usize,
     hi: usize,
-    neighbors: usize,
-    coefficients: usize,
-    v: usize,
-    start: f64,
-    near: bool,
-    watched: usize,
-    held: f64,
+    last: Carried,
 ) -> f64
-    requires { ⌜ FacesOk (now w) (length (now f)) rows hi neighbors coefficients v v ⌝ }
-    requires { ⌜ Held near watched (now f) held ⌝ }
-    ensures { λ r. ⌜ Gathered add64 (now (w .entry)) neighbors coefficients v lo hi start (now (f .entry)) r ⌝ }
+    requires { ⌜ VectorsOk (now w) (length (now f)) s v v ⌝ }
+    requires { ⌜ hi ≤ facesOf (now w) s ⌝ }
+    requires { ⌜ Held (last .near) (last .watched) (now f) (last .held) ⌝ }
+    ensures { λ r. ⌜ Gathered add64 (now (w .entry)) s v lo hi zero64 (now (f .entry)) r ⌝ }
 {
-    let mut value = start;
+    let mut value = 0.0;
     let mut face = lo;
     while face < hi {
-        let neighbor = store::index_at(w, neighbors, face, rows);
-        let other = store::float_near(f, v + neighbor, near, watched, held);
-        value = value + f[coefficients + face] * other;
+        let neighbor = store::index_at(w, s.neighbors, face, s.rows);
+        let other = store::float_near(f, v + neighbor, last.near, last.watched, last.held);
+        value = value + f[s.coefficients + face] * other;
         face += 1;
     }
     value
@@ -59,74 +56,42 @@ fn scale(f: &mut [f64], dic: usize, correction: usize, row: usize, start: f64) -
 fn lower_row(
     w: &[u32],
     f: &mut [f64],
-    rows: usize,
-    offsets: usize,
-    neighbors: usize,
-    coefficients: usize,
+    s: SymmetricMatrix,
     dic: usize,
     correction: usize,
     near: bool,
     row: usize,
     start: f64,
 ) -> f64
-    requires { ⌜ SweepOk (now w) (length (now f)) rows offsets neighbors coefficients dic correction correction ⌝ }
-    requires { ⌜ row < rows ⌝ }
+    requires { ⌜ VectorsOk (now w) (length (now f)) s dic correction ⌝ }
+    requires { ⌜ row < s .rows ⌝ }
     requires { ⌜ start ≡ at (now f) (correction + row) ⌝ }
-    ensures { λ r. ⌜ Handed (lowerTurn (now (w .entry)) offsets neighbors coefficients dic correction) row (now (f .entry)) (now (f .exit)) (correction + (row + 1)) r ⌝ }
+    ensures { λ r. ⌜ Handed (lowerTurn (now (w .entry)) s dic correction) row (now (f .entry)) (now (f .exit)) (correction + (row + 1)) r ⌝ }
 {
-    let lo = store::wide(w[offsets + row]);
-    let hi = store::wide(w[offsets + row + 1]);
+    let lo = store::wide(w[s.offsets + row]);
+    let hi = store::wide(w[s.offsets + (row + 1)]);
     let value = scale(f, dic, correction, row, start);
     let next = correction + (row + 1);
     let held = store::float_at(f, next);
-    let stays = gauss_seidel::cast_faces(
-        w,
-        f,
-        rows,
-        lo,
-        hi,
-        neighbors,
-        coefficients,
-        correction,
-        value,
-        near,
-        next,
-        held,
-    );
+    let carried = Carried {
+        near: near,
+        watched: next,
+        held: held,
+    };
+    let stays = gauss_seidel::cast_faces(w, f, s, correction, lo, hi, value, carried);
     store::held_at(f, next, near, stays)
 }
 
 // The forward substitution.
-fn lower(
-    w: &[u32],
-    f: &mut [f64],
-    rows: usize,
-    offsets: usize,
-    neighbors: usize,
-    coefficients: usize,
-    dic: usize,
-    correction: usize,
-)
-    requires { ⌜ SweepOk (now w) (length (now f)) rows offsets neighbors coefficients dic correction correction ⌝ }
-    ensures { λ _. ⌜ Stored (lowerTurn (now (w .entry)) offsets neighbors coefficients dic correction) 0 rows (now (f .entry)) (now (f .exit)) ⌝ }
+fn lower(w: &[u32], f: &mut [f64], s: SymmetricMatrix, dic: usize, correction: usize)
+    requires { ⌜ VectorsOk (now w) (length (now f)) s dic correction ⌝ }
+    ensures { λ _. ⌜ Stored (lowerTurn (now (w .entry)) s dic correction) 0 (s .rows) (now (f .entry)) (now (f .exit)) ⌝ }
 {
-    let near = gauss_seidel::few_faces(w, offsets, rows);
+    let near = gauss_seidel::few_faces(w, s);
     let mut start = store::float_at(f, correction);
     let mut row = 0;
-    while row < rows {
-        start = lower_row(
-            w,
-            f,
-            rows,
-            offsets,
-            neighbors,
-            coefficients,
-            dic,
-            correction,
-            near,
-            row,
-            start,
-        );
+    while row < s.rows {
+        start = lower_row(w, f, s, dic, correction, near, row, start);
         row += 1;
     }
 }
@@ -135,77 +100,40 @@ fn lower(
 fn upper_value(
     w: &[u32],
     f: &[f64],
-    rows: usize,
-    offsets: usize,
-    neighbors: usize,
-    coefficients: usize,
+    s: SymmetricMatrix,
     dic: usize,
-    x: usize,
     correction: usize,
     row: usize,
-    near: bool,
-    watched: usize,
-    held: f64,
+    last: Carried,
 ) -> f64
-    requires { ⌜ SweepOk (now w) (length (now f)) rows offsets neighbors coefficients dic x correction ⌝ }
-    requires { ⌜ row < rows ⌝ }
-    requires { ⌜ Held near watched (now f) held ⌝ }
-    ensures { λ r. ⌜ Upper (now (w .entry)) offsets neighbors coefficients dic correction row (now (f .entry)) r ⌝ }
+    requires { ⌜ VectorsOk (now w) (length (now f)) s dic correction ⌝ }
+    requires { ⌜ row < s .rows ⌝ }
+    requires { ⌜ Held (last .near) (last .watched) (now f) (last .held) ⌝ }
+    ensures { λ r. ⌜ Upper (now (w .entry)) s dic correction row (now (f .entry)) r ⌝ }
 {
-    let lo = store::wide(w[offsets + row]);
-    let hi = store::wide(w[offsets + row + 1]);
-    let upper = add_faces(
-        w,
-        f,
-        rows,
-        lo,
-        hi,
-        neighbors,
-        coefficients,
-        correction,
-        0.0,
-        near,
-        watched,
-        held,
-    );
+    let lo = store::wide(w[s.offsets + row]);
+    let hi = store::wide(w[s.offsets + (row + 1)]);
+    let upper = add_faces(w, f, s, correction, lo, hi, last);
     f[correction + row] - f[dic + row] * upper
 }
 
 // The backward substitution, row by row added to x.
-fn upper(
-    w: &[u32],
-    f: &mut [f64],
-    rows: usize,
-    offsets: usize,
-    neighbors: usize,
-    coefficients: usize,
-    dic: usize,
-    x: usize,
-    correction: usize,
-)
-    requires { ⌜ SweepOk (now w) (length (now f)) rows offsets neighbors coefficients dic x correction ⌝ }
-    ensures { λ _. ⌜ Stored (upperTurn (now (w .entry)) offsets neighbors coefficients dic rows x correction) 0 rows (now (f .entry)) (now (f .exit)) ⌝ }
+fn upper(w: &[u32], f: &mut [f64], s: SymmetricMatrix, dic: usize, x: usize, correction: usize)
+    requires { ⌜ VectorsOk (now w) (length (now f)) s dic correction ⌝ }
+    requires { ⌜ x + s .rows ≤ length (now f) ⌝ }
+    ensures { λ _. ⌜ Stored (upperTurn (now (w .entry)) s dic correction x) 0 (s .rows) (now (f .entry)) (now (f .exit)) ⌝ }
 {
-    let near = gauss_seidel::few_faces(w, offsets, rows);
-    let mut held = store::float_at(f, correction + rows);
+    let near = gauss_seidel::few_faces(w, s);
+    let mut held = store::float_at(f, correction + s.rows);
     let mut i = 0;
-    while i < rows {
-        let row = rows - 1 - i;
-        let value = upper_value(
-            w,
-            f,
-            rows,
-            offsets,
-            neighbors,
-            coefficients,
-            dic,
-            x,
-            correction,
-            row,
-            near,
-            correction + (rows - i),
-            held,
-        );
+    while i < s.rows {
+        let row = s.rows - 1 - i;
+        let last = Carried {
+            near: near,
+            watched: correction + (s.rows - i),
+            held: held,
+        };
+        let value = upper_value(w, f, s, dic, correction, row, last);
         let sum = f[x + row] + value;
         f[correction + row] = value;
         held = store::put(f, x + row, sum, near, correction + row, value);
@@ -228,25 +156,6 @@ pub fn dic_sweep(
     ensures { λ _. ⌜ Both (s .rows) x correction (dicSweepOf (kernelAt s (now (w .entry)) (now (f .entry))) (part dic (s .rows) (now (f .entry))) (part rhs (s .rows) (now (f .entry))) (part x (s .rows) (now (f .entry)))) (now (f .entry)) (now (f .exit)) ⌝ }
 {
     residual::residual(w, f, s, x, rhs, correction);
-    lower(
-        w,
-        f,
-        s.rows,
-        s.offsets,
-        s.neighbors,
-        s.coefficients,
-        dic,
-        correction,
-    );
-    upper(
-        w,
-        f,
-        s.rows,
-        s.offsets,
-        s.neighbors,
-        s.coefficients,
-        dic,
-        x,
-        correction,
-    );
+    lower(w, f, s, dic, correction);
+    upper(w, f, s, dic, x, correction);
 }

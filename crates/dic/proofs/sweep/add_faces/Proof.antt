@@ -1,39 +1,37 @@
--- `sweep::add_faces` meets its contract. The loop's invariant: what is left to do from here gives what the whole gives.
+-- `sweep::add_faces` meets its contract.
 -- Assumes nothing.
 use Prim.Native.Nat.{_-_}
-use Rattle.float.specs.Float.{add64}
-use Rattle.store.specs.Loop.{for}
-use Rattle.store.proofs.store.Loop.{Left, left-start, left-on}
-use Rattle.matrix.proofs.matrix.Turns.{near-of}
-use Rattle.gauss_seidel.specs.Turns.{gatherTurn}
-use Rattle.gauss_seidel.proofs.Turns.{gather-near, gathered}
+use Rattle.float.specs.Float.{add64, zero64}
+use Rattle.matrix.proofs.matrix.Turns.{neighbor-in}
+use Rattle.gauss_seidel.proofs.Turns.{Gathering, gathering-start, gathering-on, gathering-end}
 use native.Mathlib.Omega.{arith}
-use borrow.Author.Needs.{needs}
 use Rattle.dic.proofs.sweep.add_faces.Statement.{statement}
 use Rattle.dic.proofs.sweep.add_faces.Tie as tie
 
 abbrev Inv-loop : tie.InvT-loop
-Inv-loop w f rows lo hi neighbors coefficients v start near watched held value₀ face₀ value face = Left (gatherTurn w neighbors coefficients add64 f v) face hi value (for (gatherTurn w neighbors coefficients add64 f v) lo hi start)
+Inv-loop w f s v lo hi last value₀ face₀ value face = Gathering add64 w s v lo hi zero64 f face value
 
 abbrev μ-loop : tie.MeasureT-loop
-μ-loop w f rows lo hi neighbors coefficients v start near watched held value₀ face₀ value face = hi - face
+μ-loop w f s v lo hi last value₀ face₀ value face = hi - face
 
 loop-holds : tie.Need-loop-holds Inv-loop μ-loop
-loop-holds c = left-start
+loop-holds c = gathering-start _ _ _ _ _ _ _ _
 
 index-at-requires : tie.Need-index-at-requires Inv-loop μ-loop
-index-at-requires c κs = search (near-of, needs)
+index-at-requires c κs = neighbor-in _ (c .before .before .before .before .pre .0 .kernel) (omega arith)
+
+float-near-requires : tie.Need-float-near-requires Inv-loop μ-loop
+float-near-requires c κs = (omega arith, c .before .before .before .before .before .pre .1 .1)
 
 loop-again : tie.Need-loop-again Inv-loop μ-loop
 loop-again c =
-    let at-near = c .before in
-    let at-index = at-near .before in
-    let at-loop = at-index .before .before in
-    left-on (at-loop .loop .inv) (at-index .before .loop-test .taken)
-    (gather-near add64 _ _ _ _ _ _ _ _ _ (at-index .index-at .ensures .0) (at-near .float-near .ensures))
+    let at-index-at = c .before .before .before in
+    let at-loop-test = at-index-at .before in
+    let at-loop = at-loop-test .before in
+    gathering-on (at-loop .loop .inv) (at-loop-test .loop-test .taken) (at-index-at .index-at .ensures .0) (c .before .before .float-near .ensures)
 
 returns : tie.Need-returns Inv-loop μ-loop
-returns c = search (gathered)
+returns c = gathering-end (c .before .loop .inv) (c .loop-test .left)
 
 pub add-faces-spec : {M : Type 1} → statement M
 add-faces-spec =
@@ -44,7 +42,7 @@ add-faces-spec =
     loop-holds
     index-at-requires
     (λ c. omega arith)
-    (λ c κs. search needs)
+    float-near-requires
     (λ c. omega arith)
     (λ c. omega arith)
     (λ c. omega arith)

@@ -12,11 +12,21 @@ lower-requires : tie.Need-lower-requires
 lower-requires c κs = search (lower-ok)
 
 upper-requires : tie.Need-upper-requires
-upper-requires c κs = upper-ok (c .before .before .before .before .before .before .before .before .before .before .before .pre) (c .before .before .before .before .before .before .before .residual .ensures) (c .before .before .before .lower .ensures)
+upper-requires c κs =
+    let at-lower = c .before .before .before in
+    let at-residual = at-lower .before .before .before .before in
+    let start = at-residual .before .before .before .before in
+    upper-ok (start .pre) (at-residual .residual .ensures) (at-lower .lower .ensures)
 
 returns : tie.Need-returns
 returns c = search (dic-swept)
 
 pub dic-sweep-spec : {M : Type 1} → statement M
 dic-sweep-spec =
-    tie.close (tie.spec residual-requires lower-requires upper-requires (λ c. search needs) returns)
+    tie.close
+    (tie.spec
+    residual-requires
+    lower-requires
+    upper-requires
+    (λ c. search needs)
+    returns)

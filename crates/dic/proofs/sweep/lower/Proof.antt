@@ -1,48 +1,37 @@
--- `sweep::lower` meets its contract. The loop's invariant: what is left to do from here gives what the whole gives, and the
--- next row's correction is held.
+-- `sweep::lower` meets its contract.
 -- Assumes nothing.
-use mathlib.Core.Path.{_≡_, refl}
-use Prim.Native.Nat.{_+_, _-_}
-use lib.ListN.{length}
-use Rattle.store.specs.Loop.{for}
-use Rattle.store.specs.Region.{at}
-use Rattle.store.proofs.store.Loop.{Left, left-start, left-on}
+use Prim.Native.Nat.{_-_}
+use Rattle.matrix.proofs.matrix.Turns.{vectors-resize}
 use Rattle.gauss_seidel.specs.Turns.{lowerTurn}
-use Rattle.gauss_seidel.proofs.Turns.{first-at, sweep-resize, stored}
+use Rattle.gauss_seidel.proofs.Turns.{Sweeping, sweeping-start, sweeping-on, sweeping-end}
 use native.Mathlib.Omega.{arith}
 use borrow.Author.Needs.{needs}
 use Rattle.dic.proofs.sweep.lower.Statement.{statement}
 use Rattle.dic.proofs.sweep.lower.Tie as tie
 
 abbrev Inv-loop : tie.InvT-loop
-Inv-loop w f₀ rows offsets neighbors coefficients dic correction near start₀ row₀ f start row =
-    (length f ≡ length f₀)
-    × Left (lowerTurn w offsets neighbors coefficients dic correction) row rows f (for (lowerTurn w offsets neighbors coefficients dic correction) 0 rows f₀)
-    × (start ≡ at f (correction + row))
+Inv-loop w f₀ s dic correction near start₀ row₀ f start row = Sweeping (lowerTurn w s dic correction) (s .rows) correction f₀ row f start
 
 abbrev μ-loop : tie.MeasureT-loop
-μ-loop w f₀ rows offsets neighbors coefficients dic correction near start₀ row₀ f start row = rows - row
+μ-loop w f₀ s dic correction near start₀ row₀ f start row = s .rows - row
 
 loop-holds : tie.Need-loop-holds Inv-loop μ-loop
-loop-holds c = (refl, left-start, search (first-at, needs))
+loop-holds c = sweeping-start _ _ _ (c .float-at .ensures)
 
 lower-row-requires : tie.Need-lower-row-requires Inv-loop μ-loop
 lower-row-requires c κs =
-    let at-loop = c .before .before in
+    let at-loop = c .before .before .before in
     let start = at-loop .before .before .before .before .before .before in
-    (sweep-resize (start .pre) (at-loop .loop .inv .0), (c .before .loop-test .taken, at-loop .loop .inv .2))
+    (vectors-resize (start .pre) (at-loop .loop .inv .size), (c .before .if1 .taken, at-loop .loop .inv .held))
 
 loop-again : tie.Need-loop-again Inv-loop μ-loop
 loop-again c =
-    let at-row = c .before .before in
-    let at-loop = at-row .before .before .before in (
-      omega arith,
-      left-on (at-loop .loop .inv .1) (at-row .before .before .loop-test .taken) (at-row .lower-row .ensures .is),
-      at-row .lower-row .ensures .held,
-    )
+    let at-if1 = c .before .before .before .before in
+    let at-loop = at-if1 .before .before in
+    sweeping-on (at-loop .loop .inv) (at-if1 .if1 .taken) (c .before .before .lower-row .ensures) (search needs)
 
 returns : tie.Need-returns Inv-loop μ-loop
-returns c = stored (c .before .loop .inv .0) (c .before .loop .inv .1) (c .loop-test .left)
+returns c = sweeping-end (c .before .before .loop .inv) (c .if1 .left)
 
 pub lower-spec : {M : Type 1} → statement M
 lower-spec =
@@ -50,7 +39,7 @@ lower-spec =
     (tie.spec
     Inv-loop
     μ-loop
-    (λ c κs. search needs)
+    (λ c κs. omega arith)
     (λ c κs. search needs)
     loop-holds
     lower-row-requires
