@@ -64,7 +64,7 @@ fn pivot_row(
     ensures { λ r. ⌜ PivotRowed (now (w .entry)) s d row pivot (now (f .entry)) (now (f .exit)) r ⌝ }
 {
     let lo = store::wide(w[s.offsets + row]);
-    let hi = store::wide(w[s.offsets + (row + 1)]);
+    let hi = store::wide(w[s.offsets + row + 1]);
     let next = d + (row + 1);
     let held = store::float_at(f, next);
     let carried = Carried {

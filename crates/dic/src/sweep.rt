@@ -69,7 +69,7 @@ fn lower_row(
     ensures { λ r. ⌜ Handed (lowerTurn (now (w .entry)) s dic correction) row (now (f .entry)) (now (f .exit)) (correction + (row + 1)) r ⌝ }
 {
     let lo = store::wide(w[s.offsets + row]);
-    let hi = store::wide(w[s.offsets + (row + 1)]);
+    let hi = store::wide(w[s.offsets + row + 1]);
     let value = scale(f, dic, correction, row, start);
     let next = correction + (row + 1);
     let held = store::float_at(f, next);
@@ -112,7 +112,7 @@ fn upper_value(
     ensures { λ r. ⌜ Upper (now (w .entry)) s dic correction row (now (f .entry)) r ⌝ }
 {
     let lo = store::wide(w[s.offsets + row]);
-    let hi = store::wide(w[s.offsets + (row + 1)]);
+    let hi = store::wide(w[s.offsets + row + 1]);
     let upper = add_faces(w, f, s, correction, lo, hi, last);
     f[correction + row] - f[dic + row] * upper
 }

@@ -4,6 +4,7 @@ use mathlib.Core.Path.{_≡_, refl, sym, ap, _∙_}
 use mathlib.Core.Bool.{Bool, true, false}
 use mathlib.Core.List.{List}
 use Prim.Native.Nat.{ℕ, _+_, _-_, _≤_, _<_}
+use native.Mathlib.Nat.{add-assoc}
 use native.Mathlib.Omega.{arith}
 use lib.ListN.{length, set, length-set}
 use lib.Ieee.{Float}
@@ -14,8 +15,7 @@ use Rattle.store.proofs.store.Loop.{for-map, for-same}
 use Rattle.store.proofs.store.Region.{length-part, length-splice, getD-part, getD-splice-in, getD-splice-below, set-splice, set-splice-below, splice-part}
 use Rattle.matrix.specs.declared.matrix.SymmetricMatrix.{SymmetricMatrix}
 use Rattle.matrix.specs.Kernel.{Kernel, kernelAt, residualOf, KernelOk}
-use Rattle.matrix.specs.Turns.{facesOf, startOf, VectorsOk}
-use Rattle.matrix.proofs.matrix.Turns.{row-faces}
+use Rattle.matrix.specs.Turns.{facesOf, startOf, endOf, VectorsOk}
 use Rattle.matrix.proofs.matrix.Kernel.{kernel-above, vectors-ready}
 use Rattle.gauss_seidel.specs.Sweep.{Swept, gatherFace, castFace, freshOf, forwardRow, backwardRow, gaussSeidelOf, lowerRow, upperRow, dicSweepOf}
 use Rattle.gauss_seidel.specs.Contract.{GaussSeidelOk, SmoothOk, Both}
@@ -131,19 +131,16 @@ module _ {w : List ℕ} (F : List Float) {s : SymmetricMatrix} (x beside : ℕ) 
   unfolding kernelAt
   off₀ row h = getD-part (s .offsets) (n + 1) w row 0 (omega arith)
 
-  off₁ : (row : ℕ) → row < n → idx (here .offsets) (row + 1) ≡ startOf w s (row + 1)
+  off₁ : (row : ℕ) → row < n → idx (here .offsets) (row + 1) ≡ endOf w s row
   unfolding kernelAt
-  off₁ row h = getD-part (s .offsets) (n + 1) w (row + 1) 0 (omega arith)
-
-  falls : (row : ℕ) → row < n → startOf w s (row + 1) ≤ m
-  falls row h = row-faces ok h refl
+  off₁ row h = getD-part (s .offsets) (n + 1) w (row + 1) 0 (omega arith) ∙ ap (idx w) (sym (add-assoc (s .offsets) row 1))
 
   -- the new x of a row
   fresh-law : (v : Swept) → Fits v → (row : ℕ) → row < n
       → freshAt w s x beside row (over v) ≡ freshOf here v row
   unfolding freshAt freshOf kernelAt
   fresh-law v fits row h =
-      let g = gather-x sub64 v (fits .longX) (startOf w s row) (startOf w s (row + 1)) (falls row h) (at (over v) (beside + row)) in
+      let g = gather-x sub64 v (fits .longX) (startOf w s row) (endOf w s row) (ok .falls row h) (at (over v) (beside + row)) in
       rw (g, beside-law v (fits .long) row h, below-law (s .inverse) (ok .recip) v row h, off₀ row h, off₁ row h)
 
   forward-turn : (row : ℕ) → row < n → (v : Swept) → Fits v
@@ -151,12 +148,12 @@ module _ {w : List ℕ} (F : List Float) {s : SymmetricMatrix} (x beside : ℕ) 
   unfolding forwardTurn forwardRow
   forward-turn row h v fits =
       let value = freshOf here v row in
-      let law = casts value (startOf w s row) (startOf w s (row + 1)) (falls row h) (v .x) (v .beside) (fits .long) in
+      let law = casts value (startOf w s row) (endOf w s row) (ok .falls row h) (v .x) (v .beside) (fits .long) in
       rw (off₀ row h, off₁ row h) (
         record { longX = length-set (v .x) row value ∙ fits .longX; long = law .0 },
         rw (fresh-law v fits row h)
             (ap (λ (H : List Float). set H (x + row) value) (law .1)
-            ∙ set-x (record { x = v .x; beside = for (castFace here value) (startOf w s row) (startOf w s (row + 1)) (v .beside) }) (fits .longX) row h value),
+            ∙ set-x (record { x = v .x; beside = for (castFace here value) (startOf w s row) (endOf w s row) (v .beside) }) (fits .longX) row h value),
       )
 
   -- The forward sweep.
@@ -191,11 +188,11 @@ module _ {w : List ℕ} (F : List Float) {s : SymmetricMatrix} (x beside : ℕ) 
     lower-turn y row h c l =
         let v : Swept = record { x = y; beside = c } in
         let value = mul64 (at c row) (at (part dic n F) row) in
-        let law = casts value (startOf w s row) (startOf w s (row + 1)) (falls row h) y (set c row value) (length-set c row value ∙ l) in
+        let law = casts value (startOf w s row) (endOf w s row) (ok .falls row h) y (set c row value) (length-set c row value ∙ l) in
         rw (off₀ row h, off₁ row h) (
           law .0,
           rw (beside-law v l row h, below-law dic dics v row h)
-              (ap (for (castTurn w s beside value) (startOf w s row) (startOf w s (row + 1))) (set-beside v l row h value) ∙ law .1),
+              (ap (for (castTurn w s beside value) (startOf w s row) (endOf w s row)) (set-beside v l row h value) ∙ law .1),
         )
 
     -- The forward substitution.
@@ -212,9 +209,9 @@ module _ {w : List ℕ} (F : List Float) {s : SymmetricMatrix} (x beside : ℕ) 
     unfolding upperTurn upperAt upperRow kernelAt
     upper-turn i h v fits =
         let r : n - 1 - i < n = omega arith in
-        let g = gather-beside add64 v (fits .long) (startOf w s (n - 1 - i)) (startOf w s (n - 1 - i + 1)) (falls (n - 1 - i) r) zero64 in
+        let g = gather-beside add64 v (fits .long) (startOf w s (n - 1 - i)) (endOf w s (n - 1 - i)) (ok .falls (n - 1 - i) r) zero64 in
         let value = sub64 (at (v .beside) (n - 1 - i))
-        (mul64 (at (part dic n F) (n - 1 - i)) (for (gatherFace here add64 (v .beside)) (startOf w s (n - 1 - i)) (startOf w s (n - 1 - i + 1)) zero64)) in
+        (mul64 (at (part dic n F) (n - 1 - i)) (for (gatherFace here add64 (v .beside)) (startOf w s (n - 1 - i)) (endOf w s (n - 1 - i)) zero64)) in
         let sum = add64 (at (v .x) (n - 1 - i)) value in
         rw (off₀ (n - 1 - i) r, off₁ (n - 1 - i) r) (
           record { longX = length-set (v .x) _ _ ∙ fits .longX; long = length-set (v .beside) _ _ ∙ fits .long },

@@ -13,7 +13,7 @@ use Rattle.store.specs.Region.{at, idx}
 use Rattle.store.specs.Held.{Held, Put}
 use Rattle.store.proofs.store.Loop.{Left, left-start, left-on, left-end}
 use Rattle.matrix.specs.declared.matrix.SymmetricMatrix.{SymmetricMatrix}
-use Rattle.matrix.specs.Turns.{startOf, VectorsOk}
+use Rattle.matrix.specs.Turns.{startOf, endOf, VectorsOk}
 use Rattle.gauss_seidel.specs.Turns.{Stored, Watched, Handed, gatherTurn, scatterTurn, castTurn, freshAt, forwardTurn, backwardTurn, lowerTurn, upperAt, upperTurn, Gathered, Fresh, Scaled, Upper}
 
 -- ---- layouts
@@ -110,13 +110,13 @@ module _ {share : Float → Float} {w : List ℕ} {s : SymmetricMatrix} {v lo hi
 
 module _ {w : List ℕ} {s : SymmetricMatrix} {row lo hi : ℕ} {F : List Float} {r : Float} where
   -- The new x of a row.
-  pub freshed : {x work : ℕ} {start : Float} → lo ≡ startOf w s row → hi ≡ startOf w s (row + 1) → start ≡ at F (work + row)
+  pub freshed : {x work : ℕ} {start : Float} → lo ≡ startOf w s row → hi ≡ endOf w s row → start ≡ at F (work + row)
       → Gathered sub64 w s x lo hi start F r → Fresh w s x work row F (mul64 r (at F (s .inverse + row)))
   unfolding freshAt
   freshed a b e g = record { is = rw (g .is, a, b, e) }
 
   -- The new correction of a row on the way back.
-  pub uppered : {dic c : ℕ} → lo ≡ startOf w s row → hi ≡ startOf w s (row + 1) → Gathered add64 w s c lo hi zero64 F r
+  pub uppered : {dic c : ℕ} → lo ≡ startOf w s row → hi ≡ endOf w s row → Gathered add64 w s c lo hi zero64 F r
       → Upper w s dic c row F (sub64 (at F (c + row)) (mul64 (at F (dic + row)) r))
   unfolding upperAt
   uppered a b g = record { is = rw (g .is, a, b) }
@@ -127,7 +127,7 @@ pub scaled : (dic c row : ℕ) (F : List Float) (start : Float) → start ≡ at
 scaled dic c row F start e = record { value = rw e; is = refl }
 
 module _ {w : List ℕ} {s : SymmetricMatrix} {row lo hi watched : ℕ} {near : Bool} {F G H : List Float} {value cast r : Float}
-    (a : lo ≡ startOf w s row) (b : hi ≡ startOf w s (row + 1)) where
+    (a : lo ≡ startOf w s row) (b : hi ≡ endOf w s row) where
   -- A row of the forward sweep.
   pub forwarded : {x work : ℕ} {stays : Float} → Fresh w s x work row F value → Watched (castTurn w s work value) lo hi F G near watched cast
       → Put (x + row) value near watched G H stays → r ≡ at H watched → Handed (forwardTurn w s x work) row F H watched r
@@ -136,7 +136,7 @@ module _ {w : List ℕ} {s : SymmetricMatrix} {row lo hi watched : ℕ} {near : 
 
 -- A row of the forward substitution.
 pub lowered : (w : List ℕ) (s : SymmetricMatrix) (dic v : ℕ) {row lo hi watched : ℕ} {near : Bool} {F G H : List Float} {value cast r : Float}
-    → lo ≡ startOf w s row → hi ≡ startOf w s (row + 1) → Scaled dic v row F G value → Watched (castTurn w s v value) lo hi G H near watched cast → r ≡ at H watched
+    → lo ≡ startOf w s row → hi ≡ endOf w s row → Scaled dic v row F G value → Watched (castTurn w s v value) lo hi G H near watched cast → r ≡ at H watched
     → Handed (lowerTurn w s dic v) row F H watched r
 unfolding lowerTurn
 lowered w s dic v a b e c held = record { is = c .is ∙ rw (a, b, e .is, ← e .value); held = held }

@@ -10,7 +10,7 @@ use Rattle.store.specs.Loop.{for}
 use Rattle.store.specs.Region.{at, idx}
 use Rattle.store.specs.Held.{Held}
 use Rattle.matrix.specs.declared.matrix.SymmetricMatrix.{SymmetricMatrix}
-use Rattle.matrix.specs.Turns.{startOf}
+use Rattle.matrix.specs.Turns.{startOf, endOf}
 
 -- what a loop leaves in a store
 pub record Stored (turn : ℕ → List Float → List Float) (lo hi : ℕ) (F G : List Float) : Type 0 where
@@ -30,7 +30,7 @@ pub record Handed (turn : ℕ → List Float → List Float) (k : ℕ) (F G : Li
 module _ (w : List ℕ) (s : SymmetricMatrix) where
   -- a turn at each face of a row
   abbrev pub rowFaces : {S : Type 0} → ℕ → (ℕ → S → S) → S → S
-  rowFaces row turn t = for turn (startOf w s row) (startOf w s (row + 1)) t
+  rowFaces row turn t = for turn (startOf w s row) (endOf w s row) t
 
   -- `gatherFace` in a store
   unfoldable pub gatherTurn : (Float → Float → Float) → List Float → ℕ → ℕ → Float → Float

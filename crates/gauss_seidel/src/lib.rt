@@ -102,7 +102,7 @@ fn fresh(
     ensures { λ r. ⌜ Fresh (now (w .entry)) s x work row (now (f .entry)) r ⌝ }
 {
     let lo = store::wide(w[s.offsets + row]);
-    let hi = store::wide(w[s.offsets + (row + 1)]);
+    let hi = store::wide(w[s.offsets + row + 1]);
     let value = take_faces(w, f, s, x, lo, hi, start);
     value * f[s.inverse + row]
 }
@@ -125,7 +125,7 @@ fn forward_row(
 {
     let value = fresh(w, f, s, x, work, row, start);
     let lo = store::wide(w[s.offsets + row]);
-    let hi = store::wide(w[s.offsets + (row + 1)]);
+    let hi = store::wide(w[s.offsets + row + 1]);
     let next = work + (row + 1);
     let held = store::float_at(f, next);
     let carried = Carried {

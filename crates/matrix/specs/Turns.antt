@@ -18,6 +18,10 @@ facesOf w s = idx w (s .offsets + s .rows)
 abbrev pub startOf : List ℕ → SymmetricMatrix → ℕ → ℕ
 startOf w s row = idx w (s .offsets + row)
 
+-- where they end
+abbrev pub endOf : List ℕ → SymmetricMatrix → ℕ → ℕ
+endOf w s row = idx w (s .offsets + row + 1)
+
 -- The matrix lies in the stores, and so do two vectors with an element for each row, at u and v.
 pub record VectorsOk (w : List ℕ) (size : ℕ) (s : SymmetricMatrix) (u v : ℕ) : Type 0 where
   pub kernel : KernelOk w size s
@@ -45,7 +49,7 @@ module _ (op : Float → Float → Float) (w : List ℕ) (s : SymmetricMatrix) (
   -- `spreadRow` in a store
   unfoldable pub rowTurn : ℕ → List Float → List Float
   rowTurn row F =
-      let t = for (faceTurn (at F (x + row))) (startOf w s row) (startOf w s (row + 1)) (record { vector = F; owner = at F (out + row) }) in
+      let t = for (faceTurn (at F (x + row))) (startOf w s row) (endOf w s row) (record { vector = F; owner = at F (out + row) }) in
       set (t .vector) (out + row) (t .owner)
 
   -- what the faces from lo to hi of a row leave, and its owner's value
@@ -73,7 +77,7 @@ module _ (w : List ℕ) (s : SymmetricMatrix) (sums : ℕ) where
 
   -- `sumRow` in a store
   unfoldable pub sumRowTurn : ℕ → List Float → List Float
-  sumRowTurn row F = for (sumTurn row) (startOf w s row) (startOf w s (row + 1)) F
+  sumRowTurn row F = for (sumTurn row) (startOf w s row) (endOf w s row) F
 
   -- A face of a row whose sum is held: once laid into the store, what is held and what stands there are those of the turn.
   pub record SumHeld (row face : ℕ) (F : List Float) (own : Float) (G : List Float) (r : Float) : Type 0 where

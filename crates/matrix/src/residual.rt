@@ -68,7 +68,7 @@ fn subtract_row(
     requires { ⌜ lo ≡ startOf (now w) s row ⌝ }
     ensures { λ r. ⌜ Rowed sub64 (now (w .entry)) s x out row (now (f .entry)) (now (f .exit)) r ⌝ }
 {
-    let hi = store::wide(w[s.offsets + (row + 1)]);
+    let hi = store::wide(w[s.offsets + row + 1]);
     let owner = subtract_faces(w, f, s, x, out, row, lo, hi);
     f[out + row] = owner;
     hi

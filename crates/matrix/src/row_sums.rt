@@ -67,7 +67,7 @@ fn sum_row(w: &[u32], f: &mut [f64], s: SymmetricMatrix, sums: usize, row: usize
     ensures { λ _. ⌜ SumRowed (now (w .entry)) s sums row (now (f .entry)) (now (f .exit)) ⌝ }
 {
     let lo = store::wide(w[s.offsets + row]);
-    let hi = store::wide(w[s.offsets + (row + 1)]);
+    let hi = store::wide(w[s.offsets + row + 1]);
     sum_faces(w, f, s, sums, row, lo, hi);
 }
 

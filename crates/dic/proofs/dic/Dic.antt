@@ -4,6 +4,7 @@ use mathlib.Core.Path.{_≡_, refl, sym, ap, _∙_}
 use mathlib.Core.Bool.{Bool, true, false, _&&_}
 use mathlib.Core.List.{List}
 use Prim.Native.Nat.{ℕ, _+_, _≤_, _<_}
+use native.Mathlib.Nat.{add-assoc}
 use native.Mathlib.Numerals.{add-one}
 use native.Mathlib.Omega.{arith}
 use lib.ListN.{length, set, length-set}
@@ -23,8 +24,7 @@ use Rattle.refusal.specs.Outcome.{Outcome, accepted, refused, passed, ask, askE
 use Rattle.refusal.proofs.Outcome.{each-step, each-stop, each-done, each-all, each-alike}
 use Rattle.matrix.specs.declared.matrix.SymmetricMatrix.{SymmetricMatrix}
 use Rattle.matrix.specs.Kernel.{Kernel, kernelAt}
-use Rattle.matrix.specs.Turns.{facesOf, startOf}
-use Rattle.matrix.proofs.matrix.Turns.{row-faces}
+use Rattle.matrix.specs.Turns.{facesOf, startOf, endOf}
 use Rattle.matrix.proofs.matrix.Kernel.{kernel-kept}
 use Rattle.gauss_seidel.specs.Sweep.{eachFace}
 use Rattle.gauss_seidel.specs.Turns.{scatterTurn}
@@ -68,17 +68,17 @@ module _ {w : List ℕ} (F : List Float) {s : SymmetricMatrix} {d : ℕ} (ok : D
 
   row-turn : (pivot : Float) (row : ℕ) → row < s .rows → (v : List Float) → length v ≡ s .rows
       → (length (eachFace here row (pivotFace here pivot) v) ≡ s .rows)
-      × (for (pivotTurn w s d pivot) (startOf w s row) (startOf w s (row + 1)) (splice d v F)
+      × (for (pivotTurn w s d pivot) (startOf w s row) (endOf w s row) (splice d v F)
       ≡ splice d (eachFace here row (pivotFace here pivot) v) F)
   unfolding kernelAt
   row-turn pivot row h v q =
       let k = ok .kernel in
       let r₀ : row < s .rows + 1 = omega arith in
       let r₁ : row + 1 < s .rows + 1 = omega arith in
-      let below : startOf w s (row + 1) ≤ facesOf w s = row-faces k h refl in
+      let below : startOf w s (row + 1) ≤ facesOf w s = simp add-assoc at (k .falls row h) in
       let law = for-map (λ (u : List Float). splice d u F) (λ (u : List Float). length u ≡ s .rows) (pivotFace here pivot) (pivotTurn w s d pivot)
       (startOf w s row) (startOf w s (row + 1)) (λ e _ g u p. face-turn pivot e (omega arith) u p) v q in
-      simp getD-part law
+      simp (getD-part, add-assoc) law
 
   module _ {level row : ℕ} {G : List Float} (p : Pivoting level w s d row F G) (h : row < s .rows) where
     read : at G (d + row) ≡ at (p .vector) row
@@ -95,7 +95,7 @@ module _ {w : List ℕ} (F : List Float) {s : SymmetricMatrix} {d : ℕ} (ok : D
     pivots-on {H} {pivot} c is e t =
         let good : isPivot (at (p .vector) row) ≡ true = rw (is, read) at (sym e ∙ t) in
         let law = row-turn (at (p .vector) row) row h (p .vector) (p .wrote .long) in
-        let made : H ≡ for (pivotTurn w s d (at (p .vector) row)) (startOf w s row) (startOf w s (row + 1)) (splice d (p .vector) F) =
+        let made : H ≡ for (pivotTurn w s d (at (p .vector) row)) (startOf w s row) (endOf w s row) (splice d (p .vector) F) =
         rw (is, read, p .wrote .is) at (c .is) in
         record {
           vector = eachFace here row (pivotFace here (at (p .vector) row)) (p .vector);

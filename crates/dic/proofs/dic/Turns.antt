@@ -8,7 +8,7 @@ use native.Mathlib.Omega.{arith}
 use lib.Ieee.{Float}
 use Rattle.store.specs.Region.{at}
 use Rattle.matrix.specs.declared.matrix.SymmetricMatrix.{SymmetricMatrix}
-use Rattle.matrix.specs.Turns.{startOf, VectorsOk}
+use Rattle.matrix.specs.Turns.{startOf, endOf, VectorsOk}
 use Rattle.matrix.proofs.matrix.Kernel.{kernel-above}
 use Rattle.gauss_seidel.specs.Turns.{Watched}
 use Rattle.dic.specs.Dic.{DicOk}
@@ -24,6 +24,6 @@ pivots-ok ok = record { kernel = kernel-above (ok .kernel) (omega (arith, ok .fi
 
 -- The faces of one row.
 pub pivot-rowed : (w : List ℕ) (s : SymmetricMatrix) (d : ℕ) {row lo hi : ℕ} {near : Bool} {pivot stays r : Float} {F G : List Float}
-    → lo ≡ startOf w s row → hi ≡ startOf w s (row + 1) → Watched (pivotTurn w s d pivot) lo hi F G near (d + (row + 1)) stays → r ≡ at G (d + (row + 1))
+    → lo ≡ startOf w s row → hi ≡ endOf w s row → Watched (pivotTurn w s d pivot) lo hi F G near (d + (row + 1)) stays → r ≡ at G (d + (row + 1))
     → PivotRowed w s d row pivot F G r
 pivot-rowed w s d a b c e = record { is = c .is ∙ rw (a, b); next = e }

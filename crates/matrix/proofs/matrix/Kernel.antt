@@ -114,7 +114,7 @@ module _ (op : Float → Float → Float) {w : List ℕ} (F : List Float) {s : S
       (record { vector = v; owner = at v k }) l in
       let t : k < length (for (face (at F (x + k))) (idx w (s .offsets + k)) (idx w (s .offsets + (k + 1))) (record { vector = v; owner = at v k }) .vector) =
       omega (arith, m .0) in
-      simp (getD-part, getD-splice-below, getD-splice-in, m .1, set-splice)
+      simp (getD-part, getD-splice-below, getD-splice-in, add-assoc, m .1, set-splice)
 
   -- The loop over the rows spreads the vector at `out`.
   pub spread-law : (v : List Float) → length v ≡ n
@@ -150,7 +150,7 @@ module _ {w : List ℕ} (F : List Float) {s : SymmetricMatrix} (sums : ℕ) (ok 
       (idx w (s .offsets + row)) (idx w (s .offsets + (row + 1)))
       (λ e _ h u q. let below : idx w (s .offsets + (row + 1)) ≤ idx w (s .offsets + s .rows) = simp add-assoc at (ok .falls row r) in
       (length-sum-face (kernelAt s w F) row e u ∙ q, sum-turn row r e (omega arith) u q)) v l in
-      simp (getD-part, m .1)
+      simp (getD-part, add-assoc, m .1)
 
   -- The loop over the rows sums them in the vector at `sums`.
   sums-law : (v : List Float) → length v ≡ s .rows

@@ -13,7 +13,7 @@ use Rattle.store.specs.Region.{at, idx}
 use Rattle.store.proofs.store.Loop.{for-step, for-done, Left, left-start, left-on, left-end, for-one}
 use Rattle.matrix.specs.declared.matrix.SymmetricMatrix.{SymmetricMatrix}
 use Rattle.matrix.specs.Kernel.{Owned, KernelOk}
-use Rattle.matrix.specs.Turns.{facesOf, startOf, VectorsOk, faceTurn, rowTurn, sumTurn, sumRowTurn, Faced, Rowed, Spread, SumFaced, SumRowed, Summed}
+use Rattle.matrix.specs.Turns.{facesOf, startOf, endOf, VectorsOk, faceTurn, rowTurn, sumTurn, sumRowTurn, Faced, Rowed, Spread, SumFaced, SumRowed, Summed}
 
 -- ---- layouts
 
@@ -23,10 +23,8 @@ pub neighbor-in : {w : List ℕ} {low : ℕ} {s : SymmetricMatrix} (e : ℕ) →
 neighbor-in e ok h = (omega (arith, ok .columns), ok .near e h)
 
 -- The faces of a row are among those of the matrix.
-pub row-faces : {w : List ℕ} {low row hi : ℕ} {s : SymmetricMatrix} → KernelOk w low s → row < s .rows → hi ≡ startOf w s (row + 1) → hi ≤ facesOf w s
-row-faces {w} {low} {row} {hi} {s} ok h e =
-    let below : startOf w s (row + 1) ≤ facesOf w s = simp add-assoc at (ok .falls row h) in
-    omega arith
+pub row-faces : {w : List ℕ} {low row hi : ℕ} {s : SymmetricMatrix} → KernelOk w low s → row < s .rows → hi ≡ endOf w s row → hi ≤ facesOf w s
+row-faces {w} {low} {row} {hi} {s} ok h e = let below : endOf w s row ≤ facesOf w s = ok .falls row h in omega arith
 
 -- The layout holds in a store of the same size.
 pub vectors-resize : {w : List ℕ} {size size' u v : ℕ} {s : SymmetricMatrix} → VectorsOk w size s u v → size' ≡ size → VectorsOk w size' s u v
@@ -93,10 +91,10 @@ module _ {op : Float → Float → Float} {w : List ℕ} {s : SymmetricMatrix} {
     facing-end h = record { is = left-end (i .left) h }
 
   -- A row: its bounds are known by equations, and the owner's value is stored last.
-  pub rowed : {row lo hi : ℕ} {F G : List Float} {r : Float} → lo ≡ startOf w s row → hi ≡ startOf w s (row + 1)
+  pub rowed : {row lo hi : ℕ} {F G : List Float} {r : Float} → lo ≡ startOf w s row → hi ≡ endOf w s row
       → Faced op w s x out lo hi (at F (x + row)) F (at F (out + row)) G r → Rowed op w s x out row F (set G (out + row) r) hi
   unfolding rowTurn
-  rowed {row} a b e = record { is = ap (λ (t : Owned). set (t .vector) (out + row) (t .owner)) (rw (a, b) at (e .is)); next = b }
+  rowed {row} a b e = record { is = ap (λ (t : Owned). set (t .vector) (out + row) (t .owner)) (rw (a, b) at (e .is)); next = rw add-assoc at b }
 
   -- At the start the whole is left.
   pub spreading-start : {lo : ℕ} {F : List Float} → lo ≡ startOf w s 0 → Spreading op w s x out F 0 F lo
@@ -124,7 +122,7 @@ module _ (w : List ℕ) (s : SymmetricMatrix) (sums : ℕ) where
 
 module _ {w : List ℕ} {s : SymmetricMatrix} {sums : ℕ} where
   -- A row: its bounds are known by equations.
-  pub sum-rowed : {row lo hi : ℕ} {F G : List Float} → lo ≡ startOf w s row → hi ≡ startOf w s (row + 1) → SumFaced w s sums row lo hi F G → SumRowed w s sums row F G
+  pub sum-rowed : {row lo hi : ℕ} {F G : List Float} → lo ≡ startOf w s row → hi ≡ endOf w s row → SumFaced w s sums row lo hi F G → SumRowed w s sums row F G
   unfolding sumRowTurn
   sum-rowed a b e = record { is = e .is ∙ rw (a, b) }
 
