@@ -1,2 +1,3 @@
+pub mod Contract
 pub mod Dic
 pub mod Turns

@@ -14,7 +14,8 @@ use Rattle.store.specs.Region.{at, idx, part, splice, Wrote}
 use Rattle.store.proofs.store.Loop.{for-map, for-same}
 use Rattle.store.proofs.store.Region.{length-part, length-splice, getD-part, getD-splice-in, getD-splice-below, set-splice, set-splice-below, splice-part}
 use Rattle.matrix.specs.declared.matrix.SymmetricMatrix.{SymmetricMatrix}
-use Rattle.matrix.specs.Kernel.{Kernel, kernelAt, residualOf, KernelOk}
+use Rattle.matrix.specs.Contract.{KernelOk}
+use Rattle.matrix.specs.Kernel.{Kernel, kernelAt, residualOf}
 use Rattle.matrix.specs.Turns.{facesOf, startOf, endOf, VectorsOk}
 use Rattle.matrix.proofs.matrix.Kernel.{kernel-above, vectors-ready}
 use Rattle.gauss_seidel.specs.Sweep.{Swept, gatherFace, castFace, freshOf, forwardRow, backwardRow, gaussSeidelOf, lowerRow, upperRow, dicSweepOf}

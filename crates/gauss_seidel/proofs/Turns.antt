@@ -18,13 +18,12 @@ use Rattle.gauss_seidel.specs.Turns.{Stored, Watched, Handed, gatherTurn
 
 -- ---- layouts
 
--- What lies beside one vector lies beside another.
 module _ {w : List ℕ} {size u v : ℕ} {s : SymmetricMatrix} (ok : VectorsOk w size s u v) where
-  -- the first of two vectors
+  -- The first of two vectors lies in the stores,
   pub first-ok : VectorsOk w size s u u
   first-ok = record { kernel = ok .kernel; us = ok .us; vs = ok .us }
 
-  -- the second, in a store of the same size
+  -- and so does the second, in a store of the same size.
   pub second-ok : {size' : ℕ} → size' ≡ size → VectorsOk w size' s v v
   second-ok e = rw e (record { kernel = ok .kernel; us = ok .vs; vs = ok .vs })
 

@@ -6,7 +6,7 @@ use lib.Ieee.{Float}
 use lib.ListN.{length}
 use Rattle.store.specs.Region.{splice}
 use Rattle.matrix.specs.declared.matrix.SymmetricMatrix.{SymmetricMatrix}
-use Rattle.matrix.specs.Kernel.{KernelOk}
+use Rattle.matrix.specs.Contract.{KernelOk}
 use Rattle.gauss_seidel.specs.Sweep.{Swept}
 
 -- matrix, rhs, x and work follow one another

@@ -1,14 +1,15 @@
 -- `SymmetricMatrix` of matrix.rs over lists: a diagonal with its reciprocals, and for each row its faces, the columns above
 -- the diagonal with the upper value. Definitions only.
 use mathlib.Core.List.{List}
-use Prim.Native.Nat.{ℕ, _+_, _≤_, _<_}
-use lib.ListN.{length, set}
+use Prim.Native.Nat.{ℕ, _+_}
+use lib.ListN.{set}
 use lib.Ieee.{Float}
 use Rattle.float.specs.Float.{add64, sub64, mul64}
 use Rattle.store.specs.Loop.{for}
 use Rattle.store.specs.Region.{at, idx, part}
 use Rattle.store.specs.Vector.{tab}
 use Rattle.matrix.specs.declared.matrix.SymmetricMatrix.{SymmetricMatrix}
+pub use Rattle.matrix.specs.Contract.{KernelOk}
 
 -- a symmetric matrix by its faces: those of row r stand from offsets[r] up to offsets[r + 1]
 pub record Kernel : Type 0 where
@@ -79,14 +80,3 @@ module _ (k : Kernel) where
   -- the faces of one row, by the name that proofs have for them
   unfoldable pub sumRow : ℕ → List Float → List Float
   sumRow row v = for (sumFace row) (idx (k .offsets) row) (idx (k .offsets) (row + 1)) v
-
--- The layout of a kernel: its words lie in w, its floats end at or below `low`, a row's faces end by the last, and a
--- neighbour is a row.
-pub record KernelOk (w : List ℕ) (low : ℕ) (s : SymmetricMatrix) : Type 0 where
-  pub starts : s .offsets + s .rows + 1 ≤ length w
-  pub columns : s .neighbors + idx w (s .offsets + s .rows) ≤ length w
-  pub own : s .diagonal + s .rows ≤ low
-  pub recip : s .inverse + s .rows ≤ low
-  pub faces : s .coefficients + idx w (s .offsets + s .rows) ≤ low
-  pub falls : (k : ℕ) → k < s .rows → idx w (s .offsets + k + 1) ≤ idx w (s .offsets + s .rows)
-  pub near : (e : ℕ) → e < idx w (s .offsets + s .rows) → idx w (s .neighbors + e) < s .rows

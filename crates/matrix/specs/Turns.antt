@@ -8,7 +8,8 @@ use Rattle.float.specs.Float.{add64, sub64, mul64}
 use Rattle.store.specs.Loop.{for}
 use Rattle.store.specs.Region.{at, idx}
 use Rattle.matrix.specs.declared.matrix.SymmetricMatrix.{SymmetricMatrix}
-use Rattle.matrix.specs.Kernel.{Owned, KernelOk}
+use Rattle.matrix.specs.Contract.{KernelOk}
+use Rattle.matrix.specs.Kernel.{Owned}
 
 -- how many faces the matrix has
 abbrev pub facesOf : List ℕ → SymmetricMatrix → ℕ

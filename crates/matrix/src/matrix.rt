@@ -5,7 +5,8 @@ ghost use lib.ListN.{length};
 ghost use Rattle.float.specs.Float.{add64};
 ghost use Rattle.store.specs.Loop.{for};
 ghost use Rattle.store.specs.Region.{at, part, Wrote};
-ghost use Rattle.matrix.specs.Kernel.{kernelAt, applyOf, KernelOk};
+ghost use Rattle.matrix.specs.Contract.{KernelOk};
+ghost use Rattle.matrix.specs.Kernel.{kernelAt, applyOf};
 ghost use Rattle.matrix.specs.Turns.{facesOf, startOf, VectorsOk, productTurn, Faced, Rowed, Spread};
 
 // Where a matrix lies: offsets and neighbors in the words, the others in the floats. Each coefficient is stored once.

@@ -5,7 +5,8 @@ ghost use lib.ListN.{length};
 ghost use Rattle.float.specs.Float.{sub64};
 ghost use Rattle.store.specs.Loop.{for};
 ghost use Rattle.store.specs.Region.{at, part, Wrote};
-ghost use Rattle.matrix.specs.Kernel.{kernelAt, residualOf, KernelOk};
+ghost use Rattle.matrix.specs.Contract.{KernelOk};
+ghost use Rattle.matrix.specs.Kernel.{kernelAt, residualOf};
 ghost use Rattle.matrix.specs.Turns.{facesOf, startOf, VectorsOk, lessTurn, Faced, Rowed, Spread};
 use crate::matrix::SymmetricMatrix;
 

@@ -2,7 +2,8 @@
 ghost use Prim.Native.Nat.{_+_, _<_, _≤_};
 ghost use lib.ListN.{length};
 ghost use Rattle.store.specs.Region.{Wrote};
-ghost use Rattle.matrix.specs.Kernel.{kernelAt, rowSumsOf, KernelOk};
+ghost use Rattle.matrix.specs.Contract.{KernelOk};
+ghost use Rattle.matrix.specs.Kernel.{kernelAt, rowSumsOf};
 ghost use Rattle.matrix.specs.Turns.{facesOf, SumHeld, SumFaced, SumRowed, Summed};
 use crate::matrix::SymmetricMatrix;
 

@@ -28,7 +28,8 @@ use Rattle.matrix.specs.Turns.{facesOf, startOf, endOf}
 use Rattle.matrix.proofs.matrix.Kernel.{kernel-kept}
 use Rattle.gauss_seidel.specs.Sweep.{eachFace}
 use Rattle.gauss_seidel.specs.Turns.{scatterTurn}
-use Rattle.dic.specs.Dic.{isPivot, pivotFace, pivotRow, pivotsOf, reciprocalAsked, invertedOf, reciprocalsOf, dicOf, DicOk, settled, Settled, Inverted, ReciprocalsAsked}
+use Rattle.dic.specs.Dic.{isPivot, pivotFace, pivotRow, pivotsOf, dicOf}
+use Rattle.dic.specs.Contract.{reciprocalAsked, invertedOf, reciprocalsOf, DicOk, settled, Settled, Inverted, ReciprocalsAsked}
 use Rattle.dic.specs.Turns.{pivotTurn, PivotRowed}
 
 -- ---- the pivots

@@ -11,7 +11,7 @@ use Rattle.matrix.specs.declared.matrix.SymmetricMatrix.{SymmetricMatrix}
 use Rattle.matrix.specs.Turns.{startOf, endOf, VectorsOk}
 use Rattle.matrix.proofs.matrix.Kernel.{kernel-above}
 use Rattle.gauss_seidel.specs.Turns.{Watched}
-use Rattle.dic.specs.Dic.{DicOk}
+use Rattle.dic.specs.Contract.{DicOk}
 use Rattle.dic.specs.Turns.{pivotTurn, PivotRowed}
 
 -- The layout holds in a store of the same size.

@@ -14,7 +14,8 @@ use Rattle.store.proofs.store.Loop.{for-map, for-keeps}
 use Rattle.store.proofs.store.Region.{getD-part, getD-splice-in, getD-splice-below, set-splice, wrote, kept-part}
 use Rattle.store.proofs.store.Vector.{length-tab, tab-same, for-each}
 use Rattle.matrix.specs.declared.matrix.SymmetricMatrix.{SymmetricMatrix}
-use Rattle.matrix.specs.Kernel.{Kernel, kernelAt, Owned, spreadFace, spreadRow, spreadOf, applyOf, residualOf, sumFace, sumRow, rowSumsOf, KernelOk}
+use Rattle.matrix.specs.Contract.{KernelOk}
+use Rattle.matrix.specs.Kernel.{Kernel, kernelAt, Owned, spreadFace, spreadRow, spreadOf, applyOf, residualOf, sumFace, sumRow, rowSumsOf}
 use Rattle.matrix.specs.Turns.{VectorsOk, productTurn, lessTurn, faceTurn, rowTurn, sumTurn, sumRowTurn, Spread, Summed}
 
 -- ---- lengths

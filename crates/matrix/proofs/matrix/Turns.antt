@@ -12,7 +12,8 @@ use Rattle.store.specs.Loop.{for}
 use Rattle.store.specs.Region.{at, idx}
 use Rattle.store.proofs.store.Loop.{for-step, for-done, Left, left-start, left-on, left-end, for-one}
 use Rattle.matrix.specs.declared.matrix.SymmetricMatrix.{SymmetricMatrix}
-use Rattle.matrix.specs.Kernel.{Owned, KernelOk}
+use Rattle.matrix.specs.Contract.{KernelOk}
+use Rattle.matrix.specs.Kernel.{Owned}
 use Rattle.matrix.specs.Turns.{facesOf, startOf, endOf, VectorsOk, faceTurn, rowTurn, sumTurn, sumRowTurn, Faced, Rowed, Spread, SumFaced, SumRowed, Summed}
 
 -- ---- layouts
