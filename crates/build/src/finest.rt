@@ -74,7 +74,7 @@ fn first_kernel(w: &[u32], rows: usize, entries: usize) -> SymmetricMatrix
     ensures { λ r. ⌜ r ≡ kernelIn (locate (now (w .entry)) 0 0) ⌝ }
 {
     let faces = store::wide(w[2 * rows + entries + 4]);
-    layout::kernel_in(layout::place_at(0, 0, rows, entries, faces))
+    layout::kernel_in(layout::place_of(0, 0, rows, entries, faces))
 }
 
 // The row sums of the finest level at `end`, where the norm needs them; else zeros.

@@ -66,7 +66,7 @@ fn lay_words(w: &mut [u32], t: Workspace, s: Frontier) -> usize
     ensures { λ r. ⌜ WordsLaid (now (w .entry)) (now (w .exit)) t s r ⌝ }
 {
     lay_pattern(w, t, s);
-    let p = layout::place_at(s.a, s.b, s.rows, s.entries, 0);
+    let p = layout::place_of(s.a, s.b, s.rows, s.entries, 0);
     let bare = layout::faces_in(p);
     faces::face_offsets(w, bare)
 }
@@ -106,7 +106,7 @@ pub fn lay(
     ensures { λ r. ⌜ Laid (now (w .entry)) (now (w .exit)) (now (f .entry)) (now (f .exit)) given t s r ⌝ }
 {
     let faces = lay_words(w, t, s);
-    let p = layout::place_at(s.a, s.b, s.rows, s.entries, faces);
+    let p = layout::place_of(s.a, s.b, s.rows, s.entries, faces);
     let whole = lay_faces(w, p, s.level);
     match whole {
         Verdict::Passed => {

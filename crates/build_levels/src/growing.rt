@@ -96,7 +96,7 @@ fn advance(
     match build_level::lay(w, f, o, given, t, s) {
         Laying::Refused(q) => Onward::Ended(Growth::Refused(q)),
         Laying::Done(faces) => {
-            let p = layout::place_at(s.a, s.b, s.rows, s.entries, faces);
+            let p = layout::place_of(s.a, s.b, s.rows, s.entries, faces);
             lead(w, f, o, given, t, s, p)
         }
     }

@@ -21,55 +21,36 @@ use Rattle.vector.specs.Finite.{allFinite}
 use Rattle.cholesky.specs.Triangle.{tri}
 use Rattle.matrix.specs.declared.matrix.SymmetricMatrix.{SymmetricMatrix}
 use Rattle.cholesky.specs.declared.Terminal.{Terminal}
+use Rattle.smoother.specs.declared.LevelScratch.{LevelScratch}
+use Rattle.smoother.specs.Scratch.{scratchOf}
 use Rattle.coarse.specs.Terminal.{terminalSolution, terminalOf}
 use Rattle.coarse.specs.Contract.{SolutionOk, Solved, Outside}
 use Rattle.layout.specs.declared.Place.{Place}
-use Rattle.layout.specs.Layout.{placeOf, rowsAt, coupledAt, locate, floatsEnd}
+use Rattle.layout.specs.Layout.{rowsAt, locate}
 use Rattle.layout.specs.Parts as parts
-use Rattle.layout.proofs.Places.{ends-above}
 use Rattle.cycle.specs.declared.visit.Inner.{Inner}
-use Rattle.cycle.specs.Visit.{InnerOk, rhsAt, xAt, raisedAt, Moved, Downed}
+use Rattle.cycle.specs.Visit.{InnerOk, raisedAt, Moved, Downed}
 use Rattle.cycle.proofs.visit.Laws.{same-accepted}
 use Rattle.cycle.specs.declared.Way.{Way}
 use Rattle.cycle.specs.Cycle.{Cycled, cycled, countOf, swept, iterated, ended}
-use Rattle.cycle.specs.Contract.{levelIn, nextIn, innerAt, PlaceOk, NextOk, EndOk, StepOk, Visited, WentDown, endAt, upAt, workOk, workDone}
+use Rattle.cycle.specs.Contract.{levelIn, nextIn, innerAt, NextOk, EndOk, StepOk, Visited, WentDown, endAt, upAt, workOk, workDone}
 
 -- ---- the place
 
-module _ (w : List ℕ) (a b : ℕ) {rows entries faces : ℕ} (r : rows ≡ rowsAt w a) (e : entries ≡ idx w (a + 3 + rows))
-    (f : faces ≡ idx w (a + 3 + rows + 1 + entries + rows)) where
-  -- Where the floats end, by those sizes.
-  floats-at : floatsEnd w a b ≡ placeOf a b rows entries faces .factor + tri (coupledAt w a)
-  unfolding floatsEnd
-  floats-at = rw (← r, ← e, ← f)
-
-  -- The sizes of a level that lies in the words fit its place.
-  pub place-fits : PlaceOk w a b → 4 * length w ≤ 18446744073709551615
-      → (a + 4 * rows + entries + 3 * faces + 5 ≤ 18446744073709551615) × (b + 3 * rows + entries + faces ≤ 18446744073709551615)
-  place-fits ok h =
-      let words = ends-above w a r e f (ok .words) in
-      let floats = ok .floats in
-      let most : rows ≤ 65536 = omega (arith, ok .most, r) in
-      let at = floats-at in
-      (omega arith, omega arith)
-
-  -- It is where the words tell.
-  pub place-is : {p : Place} → p ≡ placeOf a b rows entries faces → p ≡ locate w a b
-  place-is h = h ∙ rw (← r, ← e, ← f)
-
--- The three words before the arrays of a level lie in the store.
-pub head-within : {w : List ℕ} {a b : ℕ} → PlaceOk w a b → a + 2 < length w
-head-within {w} {a} ok = omega (arith, ends-above w a refl refl refl (ok .words))
-
-module _ {w : List ℕ} {a b : ℕ} (ok : NextOk w a b) {p : Place} (e : p ≡ locate w a b) where
+module _ {w : List ℕ} {a b s : ℕ} (ok : NextOk w a b s) {p : Place} (e : p ≡ locate w a b) where
   -- The words of a level that is not the last end in the store.
   pub after-within : p .positions + p .entries < length w
   after-within = rw e (ok .within)
 
+  -- Where its vectors and those of the next level end is an index.
+  pub vectors-fit : {next : ℕ} → next ≡ nextIn w p → s + 5 * p .rows + 5 * next ≤ 18446744073709551615
+  vectors-fit n = rw (n, e) (ok .vectors)
+
 -- A level as its visit has it.
-pub inner-is : (w : List ℕ) (a b s : ℕ) {p : Place} {m : SymmetricMatrix} {next : ℕ} → p ≡ locate w a b → m ≡ parts.kernelIn p → next ≡ nextIn w p
-    → _≡_ {A = Inner} (record { matrix = m; dic = p .dic; links = p .links; start = s; next = next }) (innerAt w a b s)
-inner-is w a b s e k n = rw (k, n, e)
+pub inner-is : (w : List ℕ) (a b s : ℕ) {p : Place} {m : SymmetricMatrix} {next : ℕ} {v u : LevelScratch} → p ≡ locate w a b → m ≡ parts.kernelIn p
+    → next ≡ nextIn w p → v ≡ scratchOf s (p .rows) → u ≡ scratchOf (s + 5 * p .rows) next
+    → _≡_ {A = Inner} (record { matrix = m; dic = p .dic; links = p .links; vectors = v; below = u; next = next }) (innerAt w a b s)
+inner-is w a b s e k n v u = rw (k, v, u, n, e)
 
 -- ---- the way down and the way up
 
@@ -92,12 +73,12 @@ sum-count i a b t =
 
 module _ (o : MultigridOptions) (w : List ℕ) {F G : List Float} (t : List ℕ) (depth a b s : ℕ) {g : Inner} {pre post : ℕ} {v : Verdict}
     (e : g ≡ innerAt w a b s) (p : pre ≡ preSweepsOf o depth) (q : post ≡ postSweepsOf o depth)
-    (m : Moved (g .start) (g .matrix .rows) (raisedAt w F g (o .smoother) (o .«scale_correction») pre post) F G v) where
+    (m : Moved (g .vectors .x) (g .matrix .rows) (raisedAt w F g (o .smoother) (o .«scale_correction») pre post) F G v) where
   -- the way up of the level with the sweeps of the controls
   abbrev raisedTo : Outcome (List Float)
   raisedTo = raisedAt w F (innerAt w a b s) (o .smoother) (o .«scale_correction») (preSweepsOf o depth) (postSweepsOf o depth)
 
-  m' : Moved s (rowsAt w a) raisedTo F G v
+  m' : Moved (s + rowsAt w a) (rowsAt w a) raisedTo F G v
   m' = rw (e, p, q) at m
 
   -- The way up refuses.
@@ -122,7 +103,7 @@ module _ (o : MultigridOptions) (w : List ℕ) {F G : List Float} (t : List ℕ)
       let all : out ≡ accepted (cycled (yes .0) after) = then-accepted raisedTo (λ z. accepted (cycled z after)) (yes .1) in
       record {
         answer = sym (verdict-passed out all);
-        x = λ c y. m' .x (yes .0) (yes .1) ∙ ap (λ (z : Cycled). z .x) (same-accepted all y);
+        x = λ c y. m' .is (yes .0) (yes .1) ∙ ap (λ (z : Cycled). z .x) (same-accepted all y);
         counts = λ c y. counts ∙ ap (λ (z : Cycled). z .counts) (same-accepted all y);
         floats = m' .floats;
       }
@@ -137,8 +118,8 @@ ask-is false q y v e = let none : _≡_ {A = ℕ} 0 1 = cc in absurd (omega arit
 module _ {w : List ℕ} {size depth a b s : ℕ} {p : Place} {coupled : ℕ} {k : Terminal} (ok : EndOk w size depth a b s) (e : p ≡ locate w a b)
     (c : coupled ≡ idx w (a + 2)) (is : k ≡ parts.terminalIn p coupled) where
   -- What the terminal solve requires.
-  pub solve-ok : SolutionOk w size k (p .inverse) s (s + p .rows) (s + 2 * p .rows)
-  solve-ok = let last = ok .last in rw (is, c, e) (record {
+  pub solve-ok : {v : LevelScratch} → v ≡ scratchOf s (p .rows) → SolutionOk w size k (p .inverse) (v .rhs) (v .x) (v .work)
+  solve-ok at = let last = ok .last in rw (at, is, c, e) (record {
     coupled = record {
       rows = last .links;
       near = last .near;
@@ -168,7 +149,7 @@ terminal-is n size inverse factor rhs v coupled e =
 
 -- An x with its counters, by the cases of its outcome.
 visit-of : {s n : ℕ} {F G : List Float} {u : List ℕ} {r : Verdict} (out : Outcome (List Float)) (counts : List ℕ) → r ≡ verdictOf out
-    → ((v : List Float) → out ≡ accepted v → xAt s n G ≡ v) → u ≡ counts → Kept (s + n) F G
+    → ((v : List Float) → out ≡ accepted v → part (s + n) n G ≡ v) → u ≡ counts → Kept (s + n) F G
     → Visited s n (_>>=_ out (λ x. accepted (cycled x counts))) F G u r
 visit-of (accepted a) counts e x c k = record {
   answer = e;
@@ -184,21 +165,21 @@ visit-of (refused q) counts e x c k = record {
 }
 
 -- The last level's visit.
-pub end-done : {w : List ℕ} {F G : List Float} (t : List ℕ) {u : List ℕ} {depth a b s : ℕ} {p : Place} {coupled : ℕ} {k : Terminal} {r : Verdict}
+pub end-done : {w : List ℕ} {F G : List Float} (t : List ℕ) {u : List ℕ} {depth a b s : ℕ} {p : Place} {coupled : ℕ} {k : Terminal} {v : LevelScratch} {r : Verdict}
     → EndOk w (length F) depth a b s → p ≡ locate w a b → coupled ≡ idx w (a + 2) → k ≡ parts.terminalIn p coupled
-    → Solved k w (p .inverse) s (s + p .rows) (s + 2 * p .rows) F G r → u ≡ countOf (3 * depth + 2) 0 t
+    → v ≡ scratchOf s (p .rows) → Solved k w (p .inverse) (v .rhs) (v .x) (v .work) F G r → u ≡ countOf (3 * depth + 2) 0 t
     → Visited s (rowsAt w a) (endAt w F t depth a b s) F G u r
 unfolding endAt
-end-done {w} {F} {G} t {u} {depth} {a} {b} {s} {p} {coupled} {k} {r} ok at-p at-c is d c =
+end-done {w} {F} {G} t {u} {depth} {a} {b} {s} {p} {coupled} {k} {v} {r} ok at-p at-c is at-v d c =
     let P = locate w a b in
     let n = rowsAt w a in
     let m = idx w (a + 2) in
-    let d' : Solved (parts.terminalIn P m) w (P .inverse) s (s + n) (s + 2 * n) F G r = rw (is, at-c, at-p) at d in
+    let d' : Solved (parts.terminalIn P m) w (P .inverse) s (s + n) (s + 2 * n) F G r = rw (at-v, is, at-c, at-p) at d in
     let long : length (part (P .links) m w) ≡ m = length-part (P .links) m w (ok .last .links) in
-    let out = ended (levelIn w F P true m) (rhsAt s n F) in
-    let same : out ≡ terminalOf n (part (P .inverse) n F) m (part (P .links) m w) (part (P .factor) (tri m) F) (rhsAt s n F) = rw long in
+    let out = ended (levelIn w F P true m) (part s n F) in
+    let same : out ≡ terminalOf n (part (P .inverse) n F) m (part (P .links) m w) (part (P .factor) (tri m) F) (part s n F) = rw long in
     visit-of out (iterated depth 0 t) (d' .answer ∙ ap verdictOf (sym same))
-    (λ v e. d' .solution ∙ terminal-is n m (part (P .inverse) n F) (part (P .factor) (tri m) F) (rhsAt s n F) v (part (P .links) m w) (sym same ∙ e))
+    (λ v e. d' .solution ∙ terminal-is n m (part (P .inverse) n F) (part (P .factor) (tri m) F) (part s n F) v (part (P .links) m w) (sym same ∙ e))
     c (outside-kept (d' .frame) (omega arith))
 
 -- ---- the work, by its way

@@ -26,15 +26,16 @@ use Rattle.correction.specs.Transfer.{restrictOf, prolongOf}
 use Rattle.hierarchy.specs.Level.{Level}
 use Rattle.layout.specs.declared.Place.{Place}
 use Rattle.layout.specs.Layout.{rowsAt, lastAt, entriesAt, facesAt, locate, levelAt, wordsEnd, floatsEnd, levelsAt, wordsTo, imageEnd}
+use Rattle.layout.specs.PlaceContract.{PlaceOk}
 use Rattle.layout.proofs.Views.{floats-to, levels-kept}
 use Rattle.index_check.specs.declared.sound.Walk.{Walk}
 use Rattle.index_check.specs.Sound.{walkOf, scratchEnd}
 use Rattle.index_check.proofs.sound.Facts.{Here, Passed, passed, endsOf, targetsOf, sumsOf}
 use Rattle.cycle.specs.declared.visit.Inner.{Inner}
-use Rattle.cycle.specs.Visit.{InnerOk, rhsAt, xAt, residualAt, residualPlace, matrixAt, residualIn, smoothedAt}
+use Rattle.cycle.specs.Visit.{InnerOk, residualAt, residualPlace, matrixAt, residualIn, smoothedAt}
 use Rattle.cycle.proofs.visit.Laws.{residual-ends}
 use Rattle.cycle.specs.Cycle.{Cycled, cycled, countOf, visited, swept, rowsFirst, residualAfter, corrected, endOf, upOf, cycleOf}
-use Rattle.cycle.specs.Contract.{cycleAt, CycleOk, CycleDone, levelIn, innerIn, nextIn, innerAt, PlaceOk, EndOk, StepOk}
+use Rattle.cycle.specs.Contract.{cycleAt, CycleOk, CycleDone, levelIn, innerIn, nextIn, innerAt, EndOk, StepOk}
 use Rattle.cycle.specs.Contract.{Visited, DownDone, endAt, upAt}
 
 -- ---- the levels, the first apart
@@ -77,6 +78,11 @@ unfolding wordsTo
 walk-to zero w level a h e = h
 walk-to (suc k) w level a h e = let p = passed k e in walk-to k w (level + 1) (wordsEnd w a) (p .here .words) (p .rest)
 
+-- The floats of a level end with its factor.
+floats-from : (w : List ℕ) (a b : ℕ) → locate w a b .factor ≤ floatsEnd w a b
+unfolding floatsEnd
+floats-from w a b = omega arith
+
 -- ---- what the requirement tells of the first level
 
 module _ {left : ℕ} {w : List ℕ} {size depth a b s : ℕ} (ok : CycleOk left w size depth a b s) where
@@ -100,7 +106,7 @@ module _ {left : ℕ} {w : List ℕ} {size depth a b s : ℕ} (ok : CycleOk left
 
   -- What its place requires.
   pub place-ok : s ≤ 18446744073709551615 → PlaceOk w a b
-  place-ok h = record { words = opened .here .words; most = opened .here .most; floats = omega (arith, first-image) }
+  place-ok h = record { words = opened .here .words; floats = omega (arith, first-image, floats-from w a b) }
 
   -- Its counters are among those there are.
   pub deep-enough : depth < 128
@@ -206,6 +212,12 @@ module _ {left : ℕ} {w : List ℕ} {size depth a b s : ℕ} (ok : CycleOk left
           dics = omega arith;
           links = linked;
           near = rw next near;
+          xs = omega arith;
+          works = omega arith;
+          corrections = omega arith;
+          products = omega arith;
+          nexts = omega arith;
+          coarses = omega arith;
           room = omega arith;
         }
       where
@@ -215,9 +227,20 @@ module _ {left : ℕ} {w : List ℕ} {size depth a b s : ℕ} (ok : CycleOk left
             let c = scratch-open left' (k .some) w a' s' in
             omega (arith, scratch-to (left' - 1) w (wordsEnd w a') (s' + 5 * rowsAt w a'))
 
+    -- The next level's vectors end in the store.
+    next-room : s + 5 * rowsAt w a + 5 * nextIn w (locate w a b) ≤ size
+    next-room =
+        let d = deep-in in
+        let h = d .scratch in
+        let c = scratch-open (left - 1) (d .some) w (wordsEnd w a) (s + 5 * rowsAt w a) in
+        let next = next-is in
+        omega (arith, scratch-to (left - 1 - 1) w (wordsEnd w (wordsEnd w a)) (s + 5 * rowsAt w a + 5 * rowsAt w (wordsEnd w a)))
+
     -- What the ways down and up require.
-    pub step-ok : s ≤ 18446744073709551615 → StepOk w size depth a b s
-    step-ok fits = record { next = record { place = place-ok fits; within = next-within }; inner = inner-ok; deep = deep-enough }
+    pub step-ok : size ≤ 18446744073709551615 → StepOk w size depth a b s
+    step-ok fits =
+        let room = next-room in
+        record { next = record { place = place-ok (omega arith); within = next-within; vectors = omega arith }; inner = inner-ok; deep = deep-enough }
 
     -- The place of the next level.
     pub after-within : {p : Place} → p ≡ locate w a b → p .positions + p .entries < length w
@@ -232,7 +255,7 @@ module _ {left : ℕ} {w : List ℕ} {size depth a b s : ℕ} (ok : CycleOk left
     deep-on e same = rw (e, same, words-inner, floats-inner) deep-in
 
     -- and the way up.
-    pub step-on : {k : ℕ} → s ≤ 18446744073709551615 → k ≡ size → StepOk w k depth a b s
+    pub step-on : {k : ℕ} → size ≤ 18446744073709551615 → k ≡ size → StepOk w k depth a b s
     step-on fits same = let all = step-ok fits in rw same all
 
 -- ---- the definition, by its cases
@@ -260,7 +283,7 @@ module _ (o : MultigridOptions) (w : List ℕ) (F : List Float) (depth a b s : �
 
   -- The last level ends the cycle.
   cycle-last : (x : List Float)
-      → cycleOf o (levelIn w F (locate w a b) true (idx w (a + 2)) ∷ deeper) depth (rhsAt s rows F) x t
+      → cycleOf o (levelIn w F (locate w a b) true (idx w (a + 2)) ∷ deeper) depth (part s rows F) x t
       ≡ endAt w F (visited depth t) depth a b s
   unfolding cycleOf endOf endAt
   cycle-last x = refl
@@ -272,14 +295,14 @@ module _ (o : MultigridOptions) (w : List ℕ) (F : List Float) (depth a b s : �
 
   -- the way up from what they gave
   abbrev afterOf : List Float → Cycled → Outcome Cycled
-  afterOf y d = upOf o (innerIn w F (locate w a b)) depth (rhsAt s rows F) (residualIn w F I pre y) y d
+  afterOf y d = upOf o (innerIn w F (locate w a b)) depth (part s rows F) (residualIn w F I pre y) y d
 
   -- down, the deeper levels, and up
   abbrev innerOf : ℕ → Outcome Cycled
   innerOf n = _>>=_ (smoothedAt w F I (o .smoother) pre) (λ y. _>>=_ (deepOf n y) (λ d. afterOf y d))
 
   -- Another level goes down, deeper and up.
-  cycle-inner : cycleOf o (innerIn w F (locate w a b) ∷ deeper) depth (rhsAt s rows F) (xAt s rows F) t ≡ innerOf (rowsFirst deeper)
+  cycle-inner : cycleOf o (innerIn w F (locate w a b) ∷ deeper) depth (part s rows F) (part (s + rows) rows F) t ≡ innerOf (rowsFirst deeper)
   unfolding cycleOf residualAfter kernelAt
   cycle-inner = refl
 
@@ -300,14 +323,14 @@ module _ (o : MultigridOptions) (depth n : ℕ) (links : List ℕ) where
 -- It is the definition's chain.
 up-chain : (o : MultigridOptions) (w : List ℕ) (F : List Float) (depth a b s : ℕ) (r x : List Float) (d : Cycled)
     → upWith o depth (rowsAt w a) (part (locate w a b .links) (rowsAt w a) w) (matrixAt w F (innerAt w a b s)) (part (locate w a b .dic) (rowsAt w a) F)
-    (rhsAt s (rowsAt w a) F) r (d .x) x (d .counts)
-    ≡ upOf o (innerIn w F (locate w a b)) depth (rhsAt s (rowsAt w a) F) r x d
+    (part s (rowsAt w a) F) r (d .x) x (d .counts)
+    ≡ upOf o (innerIn w F (locate w a b)) depth (part s (rowsAt w a) F) r x d
 unfolding upOf corrected kernelAt
 up-chain o w F depth a b s r x d =
     let P = locate w a b in
     let n = rowsAt w a in
     then-then (corrected (o .«scale_correction») (matrixAt w F (innerAt w a b s)) r (prolongOf n (part (P .links) n w) (d .x)) x)
-    (λ y. smoothOf (matrixAt w F (innerAt w a b s)) (part (P .dic) n F) (rhsAt s n F) (o .smoother) (postSweepsOf o depth) y)
+    (λ y. smoothOf (matrixAt w F (innerAt w a b s)) (part (P .dic) n F) (part s n F) (o .smoother) (postSweepsOf o depth) y)
     (λ z. accepted (cycled z (swept depth (preSweepsOf o depth + postSweepsOf o depth) (d .counts))))
 
 -- ---- the ways out
@@ -359,7 +382,7 @@ module _ (o : MultigridOptions) (left : ℕ) (w : List ℕ) (F : List Float) (t 
       let rest = levelsAt (left - 1) w F (wordsEnd w a) (floatsEnd w a b) in
       let levels = levels-open left (ok .some) w F a b ∙ ap (λ (l : Level). l ∷ rest) (level-last w F a b (last-is ok one)) in
       done-as (endAt w F (visited depth t) depth a b s)
-      (ap (λ (ls : List Level). cycleOf o ls depth (rhsAt s n F) (xAt s n F) t) levels ∙ cycle-last o w F depth a b s rest t (xAt s n F)) v'
+      (ap (λ (ls : List Level). cycleOf o ls depth (part s n F) (part (s + n) n F) t) levels ∙ cycle-last o w F depth a b s rest t (part (s + n) n F)) v'
 
   module _ (more : left ≡ 1 → ⊥) {D : List Float} {t₂ : List ℕ} {v : Verdict} (d : DownDone o w F D t₁ t₂ depth a b s v) where
     -- the levels after it, the next one's rows, and the outcomes on the way
@@ -382,7 +405,7 @@ module _ (o : MultigridOptions) (left : ℕ) (w : List ℕ) (F : List Float) (t 
     whole-is : whole ≡ innerOf o w F depth a b s deeper t N
     whole-is =
         let levels = levels-open left (ok .some) w F a b ∙ ap (λ (l : Level). l ∷ deeper) (level-inner w F a b (inner-is ok more)) in
-        ap (λ (ls : List Level). cycleOf o ls depth (rhsAt s n F) (xAt s n F) t) levels
+        ap (λ (ls : List Level). cycleOf o ls depth (part s n F) (part (s + n) n F) t) levels
         ∙ cycle-inner o w F depth a b s deeper t
         ∙ ap (innerOf o w F depth a b s deeper t) (first-rows (left - 1) (two ok more) w F (wordsEnd w a) (floatsEnd w a b) ∙ sym (next-is ok more))
 
@@ -470,11 +493,11 @@ module _ (o : MultigridOptions) (left : ℕ) (w : List ℕ) (F : List Float) (t 
             let low : Kept s F E = kept-less held (omega arith) in
             let kernel : matrixAt w E g ≡ matrixAt w F g = kernel-kept (ok' .kernel) low in
             let dic : part (P .dic) n E ≡ part (P .dic) n F = kept-part low (P .dic) n (ok' .dics) in
-            let rhs : rhsAt s n E ≡ rhsAt s n F = kept-part held s n (omega arith) in
+            let rhs : part s n E ≡ part s n F = kept-part held s n (omega arith) in
             let l = d .down .visit .left y (y-as .1) in
-            let res : residualAt s n pre' E ≡ residualIn w F g pre' y =
-            kept-part (c' .floats) (residualPlace s n pre') n (omega (arith, residual-ends s n pre')) ∙ l .residual in
-            let xs : xAt s n E ≡ y = kept-part (c' .floats) (s + n) n (omega arith) ∙ d .down .visit .moved .x y (y-as .1) in
+            let res : residualAt (g .vectors) n pre' E ≡ residualIn w F g pre' y =
+            kept-part (c' .floats) (residualPlace (g .vectors) pre') n (omega (arith, residual-ends ok' pre')) ∙ l .residual in
+            let xs : part (s + n) n E ≡ y = kept-part (c' .floats) (s + n) n (omega arith) ∙ d .down .visit .moved .is y (y-as .1) in
             let cx : part (s + 5 * n + N) N E ≡ z .x =
             ap (λ (k : ℕ). part (s + 5 * n + k) k E) (next-is ok more) ∙ c' .x z (same ∙ z-as .1) in
             let cu : u ≡ z .counts = c' .counts z (same ∙ z-as .1) in

@@ -13,14 +13,16 @@ use Rattle.options.specs.Counts.{preSweepsOf, postSweepsOf}
 use Rattle.refusal.specs.declared.Verdict.{Verdict}
 use Rattle.refusal.specs.Outcome.{Outcome, accepted, verdictOf, _>>=_}
 use Rattle.cholesky.specs.Triangle.{tri}
+use Rattle.smoother.specs.Scratch.{scratchOf}
 use Rattle.hierarchy.specs.Level.{Level}
 use Rattle.layout.specs.declared.Place.{Place}
-use Rattle.layout.specs.Layout.{rowsAt, shapeAt, numbersAt, locate, levelsAt, wordsEnd, floatsEnd, imageEnd}
+use Rattle.layout.specs.Layout.{rowsAt, shapeAt, numbersAt, locate, levelsAt, imageEnd}
 use Rattle.layout.specs.Parts.{kernelIn}
+use Rattle.layout.specs.PlaceContract.{PlaceOk}
 use Rattle.index_check.specs.declared.sound.Walk.{Walk}
 use Rattle.index_check.specs.Sound.{walkOf, scratchEnd}
 use Rattle.cycle.specs.declared.visit.Inner.{Inner}
-use Rattle.cycle.specs.Visit.{InnerOk, rhsAt, xAt, raisedAt, Downed}
+use Rattle.cycle.specs.Visit.{InnerOk, raisedAt, Downed}
 use Rattle.cycle.specs.declared.Way.{Way}
 use Rattle.cycle.specs.Cycle.{Cycled, cycled, swept, iterated, ended, cycleOf}
 
@@ -64,18 +66,21 @@ nextIn w p = idx w (p .positions + p .entries)
 -- a level that is not the last, as its visit has it
 abbrev pub innerAt : List ℕ → ℕ → ℕ → ℕ → Inner
 innerAt w a b s =
-    let p = locate w a b in record { matrix = kernelIn p; dic = p .dic; links = p .links; start = s; next = nextIn w p }
+    let p = locate w a b in record {
+      matrix = kernelIn p;
+      dic = p .dic;
+      links = p .links;
+      vectors = scratchOf s (p .rows);
+      below = scratchOf (s + 5 * p .rows) (nextIn w p);
+      next = nextIn w p;
+    }
 
--- The level at a lies in the words, its rows are those of a matrix that question 1 passes, and its floats end where an offset can reach.
-pub record PlaceOk (w : List ℕ) (a b : ℕ) : Type 0 where
-  pub words : wordsEnd w a ≤ length w
-  pub most : rowsAt w a ≤ 65536
-  pub floats : floatsEnd w a b ≤ 18446744073709551615
-
--- So does a level that is not the last, and another follows it in the words.
-pub record NextOk (w : List ℕ) (a b : ℕ) : Type 0 where
+-- The place of a level that is not the last may be read, another level follows it in the words, and where the vectors of that one end is an
+-- index.
+pub record NextOk (w : List ℕ) (a b s : ℕ) : Type 0 where
   pub place : PlaceOk w a b
   pub within : locate w a b .positions + locate w a b .entries < length w
+  pub vectors : s + 5 * rowsAt w a + 5 * nextIn w (locate w a b) ≤ 18446744073709551615
 
 -- The last level at p, with so many coupled rows.
 pub record LastOk (w : List ℕ) (size : ℕ) (p : Place) (s coupled : ℕ) : Type 0 where
@@ -89,7 +94,7 @@ pub record LastOk (w : List ℕ) (size : ℕ) (p : Place) (s coupled : ℕ) : Ty
 -- x and what lies above it apart, nothing changed; `out` is the verdict's, and accepted it gives x and the counters
 pub record Visited (s n : ℕ) (out : Outcome Cycled) (F G : List Float) (u : List ℕ) (r : Verdict) : Type 0 where
   pub answer : r ≡ verdictOf out
-  pub x : (c : Cycled) → out ≡ accepted c → xAt s n G ≡ c .x
+  pub x : (c : Cycled) → out ≡ accepted c → part (s + n) n G ≡ c .x
   pub counts : (c : Cycled) → out ≡ accepted c → u ≡ c .counts
   pub floats : Kept (s + n) F G
 
@@ -103,14 +108,14 @@ pub record EndOk (w : List ℕ) (size depth a b s : ℕ) : Type 0 where
 
 -- Another level in the stores.
 pub record StepOk (w : List ℕ) (size depth a b s : ℕ) : Type 0 where
-  pub next : NextOk w a b
+  pub next : NextOk w a b s
   pub inner : InnerOk w size (innerAt w a b s)
   pub deep : depth < 128
 
 -- the last level's x, and no iteration counted
 unfoldable pub endAt : List ℕ → List Float → List ℕ → ℕ → ℕ → ℕ → ℕ → Outcome Cycled
 endAt w F t depth a b s = do
-  x ← ended (levelIn w F (locate w a b) true (idx w (a + 2))) (rhsAt s (rowsAt w a) F)
+  x ← ended (levelIn w F (locate w a b) true (idx w (a + 2))) (part s (rowsAt w a) F)
   accepted (cycled x (iterated depth 0 t))
 
 -- x after the way up of another level, and the sweeps counted

@@ -1,15 +1,11 @@
-// cycle.rs: one visit of each level. A level's vectors stand one after the other in its scratch: right-hand side, x, work, which also
-// holds the residual, correction and product; after them come those of the next level.
+// cycle.rs: one visit of each level. A level's vectors stand one after the other in its scratch; after them come those of the next level.
 ghost use mathlib.Core.Path.{_≡_};
 ghost use Prim.Native.Nat.{_+_, _*_, _<_};
 ghost use lib.ListN.{length};
-ghost use Rattle.layout.specs.Layout.{rowsAt, locate};
-ghost use Rattle.layout.specs.Parts.{terminalIn};
+ghost use Rattle.layout.specs.Layout.{rowsAt};
 ghost use Rattle.cycle.specs.Cycle.{countOf};
-ghost use Rattle.cycle.specs.Contract.{CycleOk, CycleDone, PlaceOk, NextOk, innerAt, EndOk, StepOk};
+ghost use Rattle.cycle.specs.Contract.{CycleOk, CycleDone, NextOk, innerAt, EndOk, StepOk};
 ghost use Rattle.cycle.specs.Contract.{Visited, WentDown, endAt, upAt, workOk, workDone};
-use cholesky::Terminal;
-use layout::Place;
 use options::MultigridOptions;
 use refusal::Verdict;
 use visit::Inner;
@@ -32,33 +28,6 @@ fn count(t: &mut [u64; 384], depth: u64, counter: u64, more: u64)
     t[i] = float::saturating_add(t[i], more);
 }
 
-// The place of the level whose words start at a and whose floats start at b.
-fn level_place(w: &[u32], a: usize, b: usize) -> Place
-    requires { ⌜ PlaceOk (now w) a b ⌝ }
-    ensures { λ r. ⌜ r ≡ locate (now (w .entry)) a b ⌝ }
-{
-    let rows = store::wide(w[a]);
-    let entries = store::wide(w[a + 3 + rows]);
-    let faces = store::wide(w[a + 3 + rows + 1 + entries + rows]);
-    layout::place_at(a, b, rows, entries, faces)
-}
-
-// The terminal solve of so many coupled rows.
-fn terminal_in(p: Place, coupled: usize) -> Terminal
-    ensures { λ r. ⌜ r ≡ terminalIn p coupled ⌝ }
-{
-    Terminal {
-        rows: p.rows,
-        entries: p.entries,
-        offsets: p.offsets,
-        columns: p.columns,
-        values: p.values,
-        size: coupled,
-        coupled: p.links,
-        factor: p.factor,
-    }
-}
-
 // The last level: every row by its diagonal, the coupled ones by the factor, which takes no iteration.
 fn end(
     w: &[u32],
@@ -72,28 +41,32 @@ fn end(
     requires { ⌜ EndOk (now w) (length (now f)) depth a b s ⌝ }
     ensures { λ r. ⌜ Visited s (rowsAt (now (w .entry)) a) (endAt (now (w .entry)) (now (f .entry)) (now (t .entry)) depth a b s) (now (f .entry)) (now (f .exit)) (now (t .exit)) r ⌝ }
 {
-    let p = level_place(w, a, b);
-    let terminal = terminal_in(p, store::wide(w[a + 2]));
-    let n = p.rows;
-    let r = coarse::solve(w, f, terminal, p.inverse, s, s + n, s + 2 * n);
+    let p = layout::place_at(w, a, b);
+    let terminal = layout::terminal_in(p, store::wide(w[a + 2]));
+    let v = smoother::level_scratch(s, p.rows);
+    let r = coarse::solve(w, f, terminal, p.inverse, v.rhs, v.x, v.work);
     count(t, depth, 2, 0);
     r
 }
 
 // A level that is not the last, as its visit takes it.
 fn inner_at(w: &[u32], a: usize, b: usize, s: usize) -> Inner
-    requires { ⌜ NextOk (now w) a b ⌝ }
+    requires { ⌜ NextOk (now w) a b s ⌝ }
     ensures { λ r. ⌜ r ≡ innerAt (now (w .entry)) a b s ⌝ }
 {
-    let p = level_place(w, a, b);
+    let p = layout::place_at(w, a, b);
     let matrix = layout::kernel_in(p);
     let after = p.positions + p.entries;
+    let next = store::wide(w[after]);
+    let vectors = smoother::level_scratch(s, p.rows);
+    let below = smoother::level_scratch(s + 5 * p.rows, next);
     Inner {
         matrix: matrix,
         dic: p.dic,
         links: p.links,
-        start: s,
-        next: store::wide(w[after]),
+        vectors: vectors,
+        below: below,
+        next: next,
     }
 }
 
@@ -188,7 +161,7 @@ pub fn cycle(
     if down.refused() {
         return down;
     }
-    let p = level_place(w, a, b);
+    let p = layout::place_at(w, a, b);
     let deeper = p.positions + p.entries;
     let scratch = s + 5 * p.rows;
     let below = cycle(w, f, t, o, left - 1, depth + 1, deeper, p.factor, scratch);

@@ -2,9 +2,8 @@
 use mathlib.Core.Path.{_≡_}
 use mathlib.Core.Bool.{true}
 use mathlib.Core.List.{List}
-use Prim.Native.Nat.{ℕ, _+_, _*_, _≤_, _<_}
+use Prim.Native.Nat.{ℕ, _≤_, _<_}
 use Rattle.store.specs.Region.{idx}
-use Rattle.layout.specs.Layout.{rowsAt, entriesAt, facesAt}
 use Rattle.index_check.specs.declared.sound.Walk.{Walk}
 use Rattle.index_check.specs.Sound.{headSound, walkOf}
 
@@ -18,11 +17,6 @@ pub record WordAt (w : List ℕ) (i r : ℕ) : Type 0 where
 -- The level whose words start at a has a sound head.
 pub record HeadOk (w : List ℕ) (a : ℕ) : Type 0 where
   pub head : headSound w a ≡ true
-
--- So has the one whose floats start at b, and their end is an index.
-pub record PlaceOk (w : List ℕ) (a b : ℕ) : Type 0 where
-  pub head : headSound w a ≡ true
-  pub floats : b + 3 * rowsAt w a + entriesAt w a + facesAt w a ≤ 18446744073709551615
 
 -- ---- sizes
 

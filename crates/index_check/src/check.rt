@@ -47,7 +47,7 @@ fn walk_rows(w: &[u32], levels: u64) -> Walk
     let mut level: u64 = 0;
     let mut a: usize = 0;
     'walk: while level < levels {
-        let p = sound::place_at(w, a, 0);
+        let p = layout::place_at(w, a, 0);
         let t = tables::targets_at(w, a, levels - level - 1);
         if !tables::level_sound(w, p, t) {
             let mut row = 0;
@@ -94,7 +94,7 @@ fn sizes_sound(h: Handle, w: &[u32], floats: usize) -> bool
     requires { ⌜ SizesOk h (now w) ⌝ }
     ensures { λ r. ⌜ r ≡ sizesAsked h (now (w .entry)) floats ⌝ }
 {
-    let p = sound::place_at(w, 0, 0);
+    let p = layout::place_at(w, 0, 0);
     let start = sound::cycle_start(w, h.levels, h.options.krylov_dimension);
     (p.rows as u64 == h.rows)
         & (p.entries as u64 == h.entries)

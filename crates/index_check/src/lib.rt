@@ -6,5 +6,4 @@ pub mod sound;
 pub mod tables;
 
 pub use sound::cycle_start;
-pub use sound::place_at;
-pub use sound::scratch_start;
+pub use sound::shadow_start;

@@ -33,7 +33,7 @@ pub fn targets_at(w: &[u32], a: usize, more: u64) -> Targets
             entries: 0,
         };
     }
-    let next = sound::place_at(w, layout::words_end(w, a), 0);
+    let next = layout::place_at(w, layout::words_end(w, a), 0);
     Targets {
         last: false,
         links: rows,

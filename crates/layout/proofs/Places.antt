@@ -3,8 +3,9 @@
 use mathlib.Core.Path.{_≡_, refl, sym, ap, _∙_}
 use mathlib.Core.Bool.{Bool, true, false, cond}
 use mathlib.Core.List.{List}
-use Prim.Native.Nat.{ℕ, _+_, _*_, _≤_}
+use Prim.Native.Nat.{ℕ, _+_, _*_, _≤_, _<_}
 use native.Mathlib.Omega.{arith}
+use lib.ListN.{length}
 use borrow.Author.Tests.{eq-eqb, ne-eqb}
 use Rattle.store.specs.Region.{idx}
 use Rattle.store.proofs.store.Region.{getD-part}
@@ -14,6 +15,7 @@ use Rattle.faces.proofs.faces.Laws.{starts-last}
 use Rattle.layout.specs.declared.Place.{Place}
 use Rattle.layout.specs.Layout.{placeOf, rowsAt, lastAt, coupledAt, locate, wordsEnd}
 use Rattle.layout.specs.Placed.{Placed, Shapes}
+use Rattle.layout.specs.PlaceContract.{PlaceOk}
 
 -- The place of so many rows, entries and faces meets the equations.
 pub placed : {a b rows entries faces : ℕ} → Placed a b (placeOf a b rows entries faces)
@@ -97,11 +99,35 @@ module _ (w : List ℕ) (a : ℕ) {rows entries faces : ℕ} (r : rows ≡ rowsA
       go true h = omega arith
       go false h = omega arith
 
-  -- So are the coupled rows,
-  pub within-last : {coupled size : ℕ} → wordsEnd w a ≤ size → idx w (a + 1) ≡ 1 → coupled ≡ idx w (a + 2)
-      → linksOf a rows entries faces + coupled ≤ size
-  within-last h t c = omega (arith, ends-last t c)
+  -- The sizes of a level whose place may be read fit it,
+  pub place-fits : {b : ℕ} → PlaceOk w a b → 4 * length w ≤ 18446744073709551615
+      → (a + 4 * rows + entries + 3 * faces + 5 ≤ 18446744073709551615) × (b + 3 * rows + entries + faces ≤ 18446744073709551615)
+  place-fits {b} ok h =
+      let words = ends-above (ok .words) in
+      let floats : placeOf a b rows entries faces .factor ≤ 18446744073709551615 = rw (← r, ← e, ← f) at (ok .floats) in
+      (omega arith, omega arith)
 
-  -- and the positions.
-  pub within-inner : {size : ℕ} → wordsEnd w a ≤ size → (idx w (a + 1) ≡ 1 → ⊥) → linksOf a rows entries faces + rows + entries ≤ size
-  within-inner h t = omega (arith, ends-inner t)
+  -- and tell it.
+  pub place-is : {b : ℕ} {p : Place} → p ≡ placeOf a b rows entries faces → p ≡ locate w a b
+  place-is q = q ∙ rw (← r, ← e, ← f)
+
+-- ---- the place that the words tell
+
+-- Where the words of a level end in the store, its place may be read, its floats starting at 0.
+pub words-place : {w : List ℕ} {a : ℕ} → wordsEnd w a ≤ length w → 4 * length w ≤ 18446744073709551615 → PlaceOk w a 0
+words-place {w} {a} h fits = record { words = h; floats = omega (arith, ends-above w a refl refl refl h) }
+
+-- Its header lies in the store.
+pub head-within : (w : List ℕ) (a : ℕ) → wordsEnd w a ≤ length w → a + 2 < length w
+head-within w a h = omega (arith, ends-above w a refl refl refl h)
+
+module _ (w : List ℕ) (a : ℕ) {p : Place} (is : p ≡ locate w a 0) where
+  -- The words of the last level end with its coupled rows,
+  pub end-last : {coupled : ℕ} → idx w (a + 1) ≡ 1 → coupled ≡ idx w (a + 2) → p .links + coupled ≡ wordsEnd w a
+  unfolding wordsEnd
+  end-last t c = rw (is, c, eq-eqb (idx w (a + 1)) 1 t)
+
+  -- those of any other with a position for each entry.
+  pub end-inner : (idx w (a + 1) ≡ 1 → ⊥) → p .positions + p .entries ≡ wordsEnd w a
+  unfolding wordsEnd
+  end-inner t = rw (is, ne-eqb (idx w (a + 1)) 1 t)

@@ -2,7 +2,8 @@
 ghost use mathlib.Core.Path.{_≡_};
 ghost use Prim.Native.Nat.{_+_, _*_, _≤_};
 ghost use lib.ListN.{length};
-ghost use Rattle.layout.specs.Layout.{placeOf, wordsEnd};
+ghost use Rattle.layout.specs.Layout.{placeOf, locate, wordsEnd};
+ghost use Rattle.layout.specs.PlaceContract.{PlaceOk};
 ghost use Rattle.layout.specs.Parts.{kernelIn, entriesIn, facesIn};
 use coefficients::Entries;
 use faces::Faces;
@@ -38,7 +39,7 @@ pub struct Place {
 }
 
 // The place of a level of so many rows, entries and faces whose words start at a and whose floats start at b.
-pub fn place_at(a: usize, b: usize, rows: usize, entries: usize, faces: usize) -> Place
+pub fn place_of(a: usize, b: usize, rows: usize, entries: usize, faces: usize) -> Place
     requires { ⌜ a + 4 * rows + entries + 3 * faces + 5 ≤ 18446744073709551615 ⌝ }
     requires { ⌜ b + 3 * rows + entries + faces ≤ 18446744073709551615 ⌝ }
     ensures { λ r. ⌜ r ≡ placeOf a b rows entries faces ⌝ }
@@ -75,6 +76,17 @@ pub fn place_at(a: usize, b: usize, rows: usize, entries: usize, faces: usize) -
         dic: dic,
         factor: dic + rows,
     }
+}
+
+// The place of the level whose words start at a and whose floats start at b: what its words tell of its sizes is read here alone.
+pub fn place_at(w: &[u32], a: usize, b: usize) -> Place
+    requires { ⌜ PlaceOk (now w) a b ⌝ }
+    ensures { λ r. ⌜ r ≡ locate (now (w .entry)) a b ⌝ }
+{
+    let rows = store::wide(w[a]);
+    let entries = store::wide(w[a + 3 + rows]);
+    let faces = store::wide(w[a + 3 + rows + 1 + entries + rows]);
+    place_of(a, b, rows, entries, faces)
 }
 
 // The kernel of the level.
@@ -126,12 +138,9 @@ pub fn words_end(w: &[u32], a: usize) -> usize
     requires { ⌜ wordsEnd (now w) a ≤ length (now w) ⌝ }
     ensures { λ r. ⌜ r ≡ wordsEnd (now (w .entry)) a ⌝ }
 {
-    let rows = store::wide(w[a]);
-    let entries = store::wide(w[a + 3 + rows]);
-    let faces = store::wide(w[a + 3 + rows + 1 + entries + rows]);
-    let links = a + 5 + 3 * rows + entries + 3 * faces;
+    let p = place_at(w, a, 0);
     if w[a + 1] == 1 {
-        return links + store::wide(w[a + 2]);
+        return p.links + store::wide(w[a + 2]);
     }
-    links + rows + entries
+    p.positions + p.entries
 }

@@ -13,6 +13,7 @@ ghost use Rattle.probe.specs.Probe.{symmetricOf, Told};
 use export::smoother_of;
 use matrix::SymmetricMatrix;
 use meshprobe::answer;
+use smoother::LevelScratch;
 
 #[no_mangle]
 pub extern "C" fn probe_update_dic_diagonal(
@@ -156,9 +157,14 @@ pub extern "C" fn probe_smooth(
         neighbors: neighbors,
         coefficients: coefficients,
     };
+    // A smoother takes no product.
+    let v = LevelScratch {
+        rhs: rhs,
+        x: x,
+        work: work,
+        correction: correction,
+        product: correction,
+    };
     let smoother = smoother_of(kind as u64);
-    answer(
-        smoother::smooth(w, f, s, dic, smoother, rhs, x, work, correction, sweeps),
-        place,
-    )
+    answer(smoother::smooth(w, f, s, dic, smoother, v, sweeps), place)
 }

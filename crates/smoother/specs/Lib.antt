@@ -1,1 +1,2 @@
 pub mod Smooth
+pub mod Scratch

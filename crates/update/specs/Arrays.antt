@@ -13,7 +13,7 @@ use Rattle.hierarchy.specs.Level.{Shape}
 use Rattle.layout.specs.declared.Place.{Place}
 use Rattle.layout.specs.Layout.{locate}
 use Rattle.index_check.specs.Sound.{shapeIn}
-use Rattle.index_check.specs.SoundContract.{PlaceOk}
+use Rattle.layout.specs.PlaceContract.{PlaceOk}
 use Rattle.update_levels.specs.Level.{FacesReady}
 use Rattle.update_levels.specs.Update.{samePattern}
 

@@ -15,7 +15,7 @@ use Rattle.hierarchy.specs.Refresh.{needsSums}
 use Rattle.layout.specs.declared.Place.{Place}
 use Rattle.layout.specs.Layout.{rowsAt, entriesAt, locate, imageEnd}
 use Rattle.layout.specs.Parts.{kernelIn}
-use Rattle.index_check.specs.SoundContract.{PlaceOk}
+use Rattle.layout.specs.PlaceContract.{PlaceOk}
 use Rattle.update_levels.specs.Steps.{Chain}
 
 -- where the image ends

@@ -61,7 +61,7 @@ pub fn asked(
     requires { ⌜ AskOk (now w) (length (now f)) image ⌝ }
     ensures { λ r. ⌜ Asked (now (w .entry)) (now (f .entry)) (now (f .exit)) (now (offsets .entry)) (now (columns .entry)) (now (values .entry)) image r ⌝ }
 {
-    let p = index_check::place_at(w, 0, image);
+    let p = layout::place_at(w, 0, image);
     if same_pattern(w, p, offsets, columns, values) {
         if coefficients::take_faces(w, values, f, p.faces, p.uppers, p.lowers, p.coefficients) {
             return Verdict::Passed;

@@ -21,14 +21,14 @@ fn commit(w: &[u32], f: &mut [f64], levels: u64, image: usize)
 {
     let mut level = 0;
     let mut a = 0;
-    let mut p = index_check::place_at(w, 0, 0);
+    let mut p = layout::place_at(w, 0, 0);
     // The row sums end the image. They are not copied: no question is asked of them, so they are made in their place.
     let end = image - p.rows;
     while level + 1 < levels {
         let from = p.coefficients;
         store::copy(f, p.factor - from, image + from, from);
         a = layout::words_end(w, a);
-        p = index_check::place_at(w, a, p.factor);
+        p = layout::place_at(w, a, p.factor);
         level += 1;
     }
     let first = p.coefficients;
@@ -49,8 +49,7 @@ fn attempt(
     requires { ⌜ AttemptOk levels (now w) (length (now f)) ⌝ }
     ensures { λ r. ⌜ With kind norm (λ o. Attempted levels (now (w .entry)) (now (f .entry)) (now (f .exit)) (attemptOf o levels (now (w .entry)) (now (f .entry)) (now (offsets .entry)) (now (columns .entry)) (now (values .entry))) r) ⌝ }
 {
-    // The image and its shadow end where the scratch of a solve starts.
-    let image = index_check::scratch_start(w, levels) / 2;
+    let image = index_check::shadow_start(w, levels);
     let asked = questions::asked(w, f, offsets, columns, values, image);
     if asked.refused() {
         return asked;

@@ -30,7 +30,7 @@ pub fn sums(w: &[u32], f: &mut [f64], norm: MultigridResidualNorm, image: usize)
     requires { ⌜ SumOk (now w) (length (now f)) image ⌝ }
     ensures { λ _. ⌜ Summed (now (w .entry)) (now (f .entry)) (now (f .exit)) norm image ⌝ }
 {
-    let p = index_check::place_at(w, 0, 0);
+    let p = layout::place_at(w, 0, 0);
     let start = image - p.rows;
     match norm {
         MultigridResidualNorm::AbsoluteL2 => store::fill(f, start, p.rows, 0.0),

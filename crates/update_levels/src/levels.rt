@@ -58,7 +58,7 @@ fn renew_rest(
     let mut p = q;
     while level + 1 < levels {
         a = layout::words_end(w, a);
-        let t = index_check::place_at(w, a, p.factor);
+        let t = layout::place_at(w, a, p.factor);
         let answer = turn(w, f, dic, p, t, level);
         if answer.refused() {
             return answer;
@@ -98,13 +98,13 @@ pub fn renew(
     requires { ⌜ FacesReady (now w) (now given) (now f) (locate (now w) 0 image) ⌝ }
     ensures { λ r. ⌜ Under dic (λ o. Renewed o levels 0 (now (w .entry)) (now (given .entry)) (now (f .entry)) (now (f .exit)) 0 image r) ⌝ }
 {
-    let p = index_check::place_at(w, 0, image);
+    let p = layout::place_at(w, 0, image);
     if levels < 2 {
         load(f, given, image);
         return renew_rest(w, f, dic, levels, 0, 0, p);
     }
     let a = layout::words_end(w, 0);
-    let t = index_check::place_at(w, a, p.factor);
+    let t = layout::place_at(w, a, p.factor);
     let answer = first_turn(w, given, f, dic, p, t);
     if answer.refused() {
         return answer;

@@ -12,7 +12,7 @@ use Rattle.cycle.proofs.cycle.Reads as cycle
 use Rattle.cycle.proofs.cycle.Kinds as cycle-kinds
 use Rattle.cycle.proofs.+cycle.Lts-cycle as cycle-lts
 use Rattle.cycle.proofs.count.Reads as count-reads
-use Rattle.cycle.proofs.level_place.Reads as level-place-reads
+use Rattle.layout.proofs.place_at.Reads as place-at-reads
 use Rattle.refusal.proofs.Verdict.refused.Reads as refused-reads
 use Rattle.cycle.proofs.work.Reads as work-reads
 use Rattle.cycle.proofs.+cycle.{statement}
@@ -36,8 +36,8 @@ calls t = (
   work-reads.Learnt,
   refused-reads.Asked,
   refused-reads.Learnt,
-  level-place-reads.Asked,
-  level-place-reads.Learnt,
+  place-at-reads.Asked,
+  place-at-reads.Learnt,
   cycle-below t,
   cycle.Post,
 )
@@ -67,17 +67,17 @@ cycle-work-requires-2 t c κs =
     let start = at-if1 .before .before .before .before .before in
     step-ok (start .pre .1) (at-if1 .if1 .left) (omega (arith, start .fits))
 
-cycle-level-place-requires : (t : ℕ) → cycle-lts.Need-level-place-requires (calls t) (cycle-at t) cycle.Post
-cycle-level-place-requires t c κs =
+cycle-place-at-requires : (t : ℕ) → cycle-lts.Need-place-at-requires (calls t) (cycle-at t) cycle.Post
+cycle-place-at-requires t c κs =
     let start = c .before .before .before .before .before .before .before .before .before .before .before .before in
     place-ok (start .pre .1) (omega (arith, start .fits))
 
 cycle-add-deeper : (t : ℕ) → cycle-lts.Need-add-deeper (calls t) (cycle-at t) cycle.Post
 cycle-add-deeper t c =
-    let at-level-place = c .before in
-    let at-if1 = at-level-place .before .before .before .before .before .before .before .before in
+    let at-place-at = c .before in
+    let at-if1 = at-place-at .before .before .before .before .before .before .before .before in
     let start = at-if1 .before .before .before .before .before in
-    omega (arith, start .good, after-within (start .pre .1) (at-if1 .if1 .left) (at-level-place .level-place .ensures))
+    omega (arith, start .good, after-within (start .pre .1) (at-if1 .if1 .left) (at-place-at .place-at .ensures))
 
 cycle-sub-cycle : (t : ℕ) → cycle-lts.Need-sub-cycle (calls t) (cycle-at t) cycle.Post
 cycle-sub-cycle t c =
@@ -91,25 +91,25 @@ cycle-add-cycle t c =
 
 cycle-mul-scratch : (t : ℕ) → cycle-lts.Need-mul-scratch (calls t) (cycle-at t) cycle.Post
 cycle-mul-scratch t c =
-    let at-level-place = c .before .before in
-    let at-if1 = at-level-place .before .before .before .before .before .before .before .before in
+    let at-place-at = c .before .before in
+    let at-if1 = at-place-at .before .before .before .before .before .before .before .before in
     let start = at-if1 .before .before .before .before .before in
-    omega (arith, start .good, scratch-within (start .pre .1) (at-if1 .if1 .left) (at-level-place .level-place .ensures))
+    omega (arith, start .good, scratch-within (start .pre .1) (at-if1 .if1 .left) (at-place-at .place-at .ensures))
 
 cycle-add-scratch : (t : ℕ) → cycle-lts.Need-add-scratch (calls t) (cycle-at t) cycle.Post
 cycle-add-scratch t c =
-    let at-level-place = c .before .before in
-    let at-if1 = at-level-place .before .before .before .before .before .before .before .before in
+    let at-place-at = c .before .before in
+    let at-if1 = at-place-at .before .before .before .before .before .before .before .before in
     let start = at-if1 .before .before .before .before .before in
-    omega (arith, start .good, scratch-within (start .pre .1) (at-if1 .if1 .left) (at-level-place .level-place .ensures))
+    omega (arith, start .good, scratch-within (start .pre .1) (at-if1 .if1 .left) (at-place-at .place-at .ensures))
 
 cycle-cycle-requires : (t : ℕ) → cycle-lts.Need-cycle-requires (calls t) (cycle-at t) cycle.Post
 cycle-cycle-requires t c κs =
-    let at-level-place = c .before .before .before .before in
-    let at-work2 = at-level-place .before .before .before .before .before in
+    let at-place-at = c .before .before .before .before in
+    let at-work2 = at-place-at .before .before .before .before .before in
     let at-if1 = at-work2 .before .before .before in
     let start = at-if1 .before .before .before .before .before in
-    (omega (arith, start .pre .0, start .pre .1 .some), deep-on (start .pre .1) (at-if1 .if1 .left) (at-level-place .level-place .ensures) (at-work2 .work2 .ensures .down .visit .moved .floats .size))
+    (omega (arith, start .pre .0, start .pre .1 .some), deep-on (start .pre .1) (at-if1 .if1 .left) (at-place-at .place-at .ensures) (at-work2 .work2 .ensures .down .visit .moved .floats .size))
 
 cycle-work-requires-3 : (t : ℕ) → cycle-lts.Need-work-requires-3 (calls t) (cycle-at t) cycle.Post
 cycle-work-requires-3 t c κs =
@@ -132,14 +132,14 @@ cycle-returns-3 : (t : ℕ) → cycle-lts.Need-returns-3 (calls t) (cycle-at t) 
 cycle-returns-3 t c =
     let at-refused2 = c .before in
     let at-cycle = at-refused2 .before .before .before in
-    let at-level-place = at-cycle .before .before .before .before .before in
-    let at-if2 = at-level-place .before in
+    let at-place-at = at-cycle .before .before .before .before .before in
+    let at-if2 = at-place-at .before in
     let at-refused = at-if2 .before in
     let at-work2 = at-refused .before .before .before in
     let at-if1 = at-work2 .before .before .before in
     let at-count = at-if1 .before in
     let start = at-count .before .before .before .before in
-    stop-deep _ _ _ _ _ _ _ _ _ (start .pre .1) (at-count .count .ensures) (at-if1 .if1 .left) (at-work2 .work2 .ensures) (at-refused .refused .ensures) (at-if2 .if2 .left) (at-level-place .level-place .ensures) (at-cycle .cycle .ensures) (at-refused2 .refused2 .ensures) (c .if3 .taken)
+    stop-deep _ _ _ _ _ _ _ _ _ (start .pre .1) (at-count .count .ensures) (at-if1 .if1 .left) (at-work2 .work2 .ensures) (at-refused .refused .ensures) (at-if2 .if2 .left) (at-place-at .place-at .ensures) (at-cycle .cycle .ensures) (at-refused2 .refused2 .ensures) (c .if3 .taken)
 
 cycle-returns-4 : (t : ℕ) → cycle-lts.Need-returns-4 (calls t) (cycle-at t) cycle.Post
 cycle-returns-4 t c =
@@ -147,14 +147,14 @@ cycle-returns-4 t c =
     let at-if3 = at-work3 .before .before .before in
     let at-refused2 = at-if3 .before in
     let at-cycle = at-refused2 .before .before .before in
-    let at-level-place = at-cycle .before .before .before .before .before in
-    let at-if2 = at-level-place .before in
+    let at-place-at = at-cycle .before .before .before .before .before in
+    let at-if2 = at-place-at .before in
     let at-refused = at-if2 .before in
     let at-work2 = at-refused .before .before .before in
     let at-if1 = at-work2 .before .before .before in
     let at-count = at-if1 .before in
     let start = at-count .before .before .before .before in
-    done-up _ _ _ _ _ _ _ _ _ (start .pre .1) (at-count .count .ensures) (at-if1 .if1 .left) (at-work2 .work2 .ensures) (at-refused .refused .ensures) (at-if2 .if2 .left) (at-level-place .level-place .ensures) (at-cycle .cycle .ensures) (at-refused2 .refused2 .ensures) (at-if3 .if3 .left) (at-work3 .work3 .ensures)
+    done-up _ _ _ _ _ _ _ _ _ (start .pre .1) (at-count .count .ensures) (at-if1 .if1 .left) (at-work2 .work2 .ensures) (at-refused .refused .ensures) (at-if2 .if2 .left) (at-place-at .place-at .ensures) (at-cycle .cycle .ensures) (at-refused2 .refused2 .ensures) (at-if3 .if3 .left) (at-work3 .work3 .ensures)
 
 pub +cycle-spec : {M : Type 1} → statement M
 +cycle-spec = close μ-cycle λ t. cycle-lts.spec (calls t)
@@ -168,7 +168,7 @@ pub +cycle-spec : {M : Type 1} → statement M
     (λ c κs. search needs)
     (λ c. search needs)
     (cycle-returns-2 t)
-    (cycle-level-place-requires t)
+    (cycle-place-at-requires t)
     (cycle-add-deeper t)
     (cycle-mul-scratch t)
     (cycle-add-scratch t)

@@ -1,77 +1,44 @@
 -- `cycle::end` meets its contract.
 -- Assumes nothing.
+use Rattle.layout.proofs.Places.{head-within}
+use Rattle.cycle.proofs.Steps.{last-room, solve-ok, end-done}
 use native.Mathlib.Omega.{arith}
-use Rattle.cycle.proofs.Steps.{head-within, last-room, solve-ok, end-done}
 use borrow.Author.Needs.{needs}
 use Rattle.cycle.proofs.end.Statement.{statement}
 use Rattle.cycle.proofs.end.Tie as tie
 
-level-place-requires : tie.Need-level-place-requires
-level-place-requires c κs = c .before .before .pre .place
+place-at-requires : tie.Need-place-at-requires
+place-at-requires c κs = c .before .before .pre .place
 
 add-wide : tie.Need-add-wide
-add-wide c =
-    let start = c .before .before .before in
-    omega (arith, head-within (start .pre .place))
+add-wide c = omega (arith, head-within _ _ (c .before .before .before .pre .place .words))
 
 mul-wide : tie.Need-mul-wide
-mul-wide c =
-    let start = c .before .before .before in
-    omega (arith, head-within (start .pre .place))
+mul-wide c = omega (arith, head-within _ _ (c .before .before .before .pre .place .words))
 
 shared-slice-read-wide : tie.Need-shared-slice-read-wide
-shared-slice-read-wide c =
-    let start = c .before .before .before .before in
-    omega (arith, head-within (start .pre .place))
+shared-slice-read-wide c = omega (arith, head-within _ _ (c .before .before .before .before .pre .place .words))
 
-add-solve : tie.Need-add-solve
-add-solve c =
-    let at-level-place = c .before .before .before .before in
-    let start = at-level-place .before .before .before in
-    omega (arith, last-room (start .pre) (at-level-place .level-place .ensures))
-
-mul-solve : tie.Need-mul-solve
-mul-solve c =
-    let at-level-place = c .before .before .before .before in
-    let start = at-level-place .before .before .before in
-    omega (arith, last-room (start .pre) (at-level-place .level-place .ensures))
-
-add-solve-2 : tie.Need-add-solve-2
-add-solve-2 c =
-    let at-level-place = c .before .before .before .before in
-    let start = at-level-place .before .before .before in
-    omega (arith, last-room (start .pre) (at-level-place .level-place .ensures))
+level-scratch-requires : tie.Need-level-scratch-requires
+level-scratch-requires c κs = omega (arith, c .before .before .before .before .before .before .good, last-room (c .before .before .before .before .before .before .pre) (c .before .before .before .place-at .ensures))
 
 solve-requires : tie.Need-solve-requires
-solve-requires c κs =
-    let at-terminal-in = c .before in
-    let at-wide = at-terminal-in .before in
-    let at-level-place = at-wide .before .before in
-    let start = at-level-place .before .before .before in
-    solve-ok (start .pre) (at-level-place .level-place .ensures) (at-wide .wide .ensures) (at-terminal-in .terminal-in .ensures)
+solve-requires c κs = solve-ok (c .before .before .before .before .before .before .before .before .pre) (c .before .before .before .before .before .place-at .ensures) (c .before .before .before .wide .ensures) (c .before .before .terminal-in .ensures) (c .before .level-scratch .ensures)
 
 returns : tie.Need-returns
-returns c =
-    let at-solve = c .before .before .before .before in
-    let at-terminal-in = at-solve .before .before in
-    let at-wide = at-terminal-in .before in
-    let at-level-place = at-wide .before .before in
-    let start = at-level-place .before .before .before in
-    end-done _ (start .pre) (at-level-place .level-place .ensures) (at-wide .wide .ensures) (at-terminal-in .terminal-in .ensures) (at-solve .solve .ensures) (c .count .ensures)
+returns c = end-done _ (c .before .before .before .before .before .before .before .before .before .before .before .before .before .pre) (c .before .before .before .before .before .before .before .before .before .before .place-at .ensures) (c .before .before .before .before .before .before .before .before .wide .ensures) (c .before .before .before .before .before .before .before .terminal-in .ensures) (c .before .before .before .before .before .before .level-scratch .ensures) (c .before .before .before .before .solve .ensures) (c .count .ensures)
 
 pub end-spec : {M : Type 1} → statement M
 end-spec =
     tie.close
     (tie.spec
-    level-place-requires
+    place-at-requires
     add-wide
     mul-wide
     shared-slice-read-wide
     (λ c κs. search needs)
     (λ c κs. search needs)
-    add-solve
-    mul-solve
-    add-solve-2
+    level-scratch-requires
     solve-requires
     (λ c κs. search needs)
     (λ c. search needs)

@@ -1,4 +1,4 @@
--- What a sound head tells of a level: its sizes, its place and its coupled rows.
+-- What a sound head tells of a level: its sizes and its coupled rows.
 -- Assumes nothing.
 use mathlib.Core.Path.{_≡_}
 use mathlib.Core.Bool.{Bool, true, _&&_}
@@ -10,11 +10,9 @@ use lib.ListN.{length}
 use borrow.Author.Tests.{leb-true, eq-eqb, ne-eqb}
 use Rattle.store.specs.Region.{idx}
 use Rattle.store.proofs.store.Each.{both-l, both-r}
-use Rattle.layout.specs.declared.Place.{Place}
-use Rattle.layout.specs.Layout.{placeOf, rowsAt, coupledAt, entriesAt, facesAt, locate, wordsEnd}
+use Rattle.layout.specs.Layout.{rowsAt, coupledAt, entriesAt, facesAt, wordsEnd}
 use Rattle.layout.proofs.Places.{ends-above}
 use Rattle.index_check.specs.Sound.{headSound}
-use Rattle.index_check.specs.SoundContract.{PlaceOk}
 
 -- Where five tests hold, each does.
 pub all-five : (a b c d e : Bool) → a && b && c && d && e ≡ true → (a ≡ true) × (b ≡ true) × (c ≡ true) × (d ≡ true) × (e ≡ true)
@@ -57,14 +55,6 @@ module _ (w : List ℕ) (a : ℕ) {rows entries faces : ℕ} (r : rows ≡ rowsA
       let es = h .entries in
       let fs = h .faces in
       (ends-above w a r e f (h .ends), omega arith, omega arith, omega arith)
-
-  -- The floats of a place that `PlaceOk` tells of, by those sizes.
-  pub place-fits : {b : ℕ} → PlaceOk w a b → b + 3 * rows + entries + faces ≤ 18446744073709551615
-  place-fits {b} ok = rw (← r, ← e, ← f) at (ok .floats)
-
-  -- They tell the place.
-  pub place-told : {b : ℕ} {p : Place} → p ≡ placeOf a b rows entries faces → p ≡ locate w a b
-  place-told q = rw (← r, ← e, ← f) q
 
 module _ (w : List ℕ) (a : ℕ) where
   -- The coupled rows of the last level,

@@ -9,10 +9,11 @@ use native.Mathlib.Omega.{arith}
 use Rattle.cholesky.specs.Triangle.{tri}
 use Rattle.layout.specs.declared.Place.{Place}
 use Rattle.layout.specs.Layout.{rowsAt, coupledAt, locate, wordsEnd, floatsEnd, imageEnd}
+use Rattle.layout.specs.PlaceContract.{PlaceOk}
 use Rattle.layout.proofs.Views.{floats-to}
 use Rattle.index_check.specs.declared.sound.Walk.{Walk}
 use Rattle.index_check.specs.Sound.{headSound, walkOf, scratchStart, scratchEnd, cycleStart}
-use Rattle.index_check.specs.SoundContract.{PlaceOk, LevelsOk, FloatsOk, ScratchOk}
+use Rattle.index_check.specs.SoundContract.{LevelsOk, FloatsOk, ScratchOk}
 use Rattle.index_check.proofs.sound.Laws.{Head, head-told}
 use Rattle.index_check.proofs.sound.Walks.{fits-head, opened}
 
@@ -84,7 +85,7 @@ place-ok {w} {a} {b} ok =
     let e = h .entries in
     let f = h .faces in
     let s = ok .start in
-    record { head = ok .head; floats = omega arith }
+    record { words = h .ends; floats = omega arith }
 
 -- The place of a level whose floats start at 0.
 pub place-zero : (w : List ℕ) (a : ℕ) → headSound w a ≡ true → PlaceOk w a 0

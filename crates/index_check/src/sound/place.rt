@@ -1,10 +1,9 @@
-// One level with a sound head: its words, its place and its coupled rows.
+// One level with a sound head: its words and its coupled rows.
 ghost use mathlib.Core.Path.{_≡_};
 ghost use Prim.Native.Nat.{_<_};
 ghost use lib.ListN.{length};
-ghost use Rattle.layout.specs.Layout.{coupledAt, locate};
-ghost use Rattle.index_check.specs.SoundContract.{WordAt, HeadOk, PlaceOk};
-use layout::Place;
+ghost use Rattle.layout.specs.Layout.{coupledAt};
+ghost use Rattle.index_check.specs.SoundContract.{WordAt, HeadOk};
 
 // The word at i as an index, which is below 2^32.
 pub fn word_at(w: &[u32], i: usize) -> usize
@@ -12,17 +11,6 @@ pub fn word_at(w: &[u32], i: usize) -> usize
     ensures { λ r. ⌜ WordAt (now (w .entry)) i r ⌝ }
 {
     store::wide(w[i])
-}
-
-// The place of the level whose words start at a and whose floats start at b.
-pub fn place_at(w: &[u32], a: usize, b: usize) -> Place
-    requires { ⌜ PlaceOk (now w) a b ⌝ }
-    ensures { λ r. ⌜ r ≡ locate (now (w .entry)) a b ⌝ }
-{
-    let rows = word_at(w, a);
-    let entries = word_at(w, a + 3 + rows);
-    let faces = word_at(w, a + 3 + rows + 1 + entries + rows);
-    layout::place_at(a, b, rows, entries, faces)
 }
 
 // The coupled rows of the level at a; none but on the last.

@@ -1,10 +1,10 @@
 // Where the floats of the levels end, and where the scratch behind them starts and ends.
 ghost use mathlib.Core.Path.{_≡_};
-ghost use Rattle.layout.specs.Layout.{floatsEnd, imageEnd};
+ghost use Prim.Native.Nat.{_+_};
+ghost use Rattle.layout.specs.Layout.{rowsAt, floatsEnd, imageEnd};
 ghost use Rattle.index_check.specs.Sound.{scratchStart, cycleStart, scratchEnd};
 ghost use Rattle.index_check.specs.SoundContract.{FloatsOk, LevelsOk, MemoryOk, ScratchOk};
 use crate::sound::place::coupled_at;
-use crate::sound::place::place_at;
 use crate::sound::place::word_at;
 
 // Where the floats end of the level whose words start at a and whose floats start at b.
@@ -12,7 +12,7 @@ fn floats_end(w: &[u32], a: usize, b: usize) -> usize
     requires { ⌜ FloatsOk (now w) a b ⌝ }
     ensures { λ r. ⌜ r ≡ floatsEnd (now (w .entry)) a b ⌝ }
 {
-    let p = place_at(w, a, b);
+    let p = layout::place_at(w, a, b);
     p.factor + cholesky::triangle(coupled_at(w, a))
 }
 
@@ -32,12 +32,20 @@ fn image_end(w: &[u32], levels: u64) -> usize
     b
 }
 
-// Where the scratch of a solve starts: behind the image, the row sums of the finest level and their shadow.
+// Where the shadow starts: behind the image, which the row sums of the finest level end.
+pub fn shadow_start(w: &[u32], levels: u64) -> usize
+    requires { ⌜ LevelsOk (now w) levels ⌝ }
+    ensures { λ r. ⌜ r ≡ imageEnd levels (now (w .entry)) 0 0 + rowsAt (now (w .entry)) 0 ⌝ }
+{
+    image_end(w, levels) + word_at(w, 0)
+}
+
+// Where the scratch of a solve starts: behind the image and its shadow.
 pub fn scratch_start(w: &[u32], levels: u64) -> usize
     requires { ⌜ LevelsOk (now w) levels ⌝ }
     ensures { λ r. ⌜ r ≡ scratchStart levels (now (w .entry)) ⌝ }
 {
-    2 * (image_end(w, levels) + word_at(w, 0))
+    2 * shadow_start(w, levels)
 }
 
 // Where the scratch of its cycles starts: behind right-hand side, solution and the memory of GCR.

@@ -17,6 +17,7 @@ use Rattle.layout.specs.Parts as parts
 use Rattle.layout.proofs.Views.{floats-to, levels-kept}
 use Rattle.index_check.specs.declared.sound.Walk.{Walk}
 use Rattle.index_check.specs.Sound.{walkOf, scratchStart, scratchEnd, cycleStart}
+use Rattle.layout.specs.PlaceContract.{PlaceOk}
 use Rattle.index_check.specs.SoundContract as index
 use Rattle.index_check.proofs.sound.Facts.{Passed, passed}
 use Rattle.index_check.proofs.sound.Sizes.{place-zero, first-head}
@@ -33,14 +34,14 @@ memory-is krylov n = add-mul 2 (2 * krylov) n ∙ ap (λ (m : ℕ). 2 * n + m) (
 
 -- the places as the code adds them up
 abbrev placed : SymmetricMatrix → ℕ → ℕ → ℕ → ℕ → Regions
-placed matrix n start krylov residual = record {
+placed matrix n image krylov residual = record {
   matrix = matrix;
   rows = n;
-  sums = start / 2 - n;
-  rhs = start;
-  solution = start + n;
-  directions = start + 2 * n;
-  images = start + 2 * n + krylov * n;
+  sums = image - n;
+  rhs = 2 * image;
+  solution = 2 * image + n;
+  directions = 2 * image + 2 * n;
+  images = 2 * image + 2 * n + krylov * n;
   residual = residual;
   correction = residual + n;
   product = residual + 2 * n;
@@ -84,14 +85,14 @@ module _ {h : Handle} {w : List ℕ} {size : ℕ} (o : Opened h w size) where
   pub memory-ok : index.MemoryOk w (h .levels) (h .options .«krylov_dimension»)
   memory-ok = record { walked = levels-ok; directions = o .krylov }
 
-  pub first-ok : index.PlaceOk w 0 0
+  pub first-ok : PlaceOk w 0 0
   first-ok = place-zero w 0 (first-head levels-ok)
 
   -- No sum of the places wraps where the store's size does not.
-  pub places-fit : {start residual : ℕ} → start ≡ scratchStart (h .levels) w → residual ≡ cycleStart (h .options .«krylov_dimension») (h .levels) w
-      → (start + 2 * h .rows + 2 * (h .options .«krylov_dimension» * h .rows) ≡ residual) × (residual + 5 * h .rows ≤ size)
-      × (2 * h .rows ≤ start)
-  places-fit {start} {residual} s r =
+  pub places-fit : {image residual : ℕ} → image ≡ imageEnd (h .levels) w 0 0 + rowsAt w 0 → residual ≡ cycleStart (h .options .«krylov_dimension») (h .levels) w
+      → (2 * image + 2 * h .rows + 2 * (h .options .«krylov_dimension» * h .rows) ≡ residual) × (residual + 5 * h .rows ≤ size)
+      × (h .rows ≤ image)
+  places-fit {image} {residual} s r =
       let room = room-first in
       let rows = o .rows in
       let memory : (2 + 2 * h .options .«krylov_dimension») * rowsAt w 0 ≡ 2 * h .rows + 2 * (h .options .«krylov_dimension» * h .rows) =
@@ -99,12 +100,12 @@ module _ {h : Handle} {w : List ℕ} {size : ℕ} (o : Opened h w size) where
       (omega arith, omega arith, omega arith)
 
   -- The places are those of the definition.
-  pub places-are : {start residual : ℕ} {matrix : SymmetricMatrix} → start ≡ scratchStart (h .levels) w
+  pub places-are : {image residual : ℕ} {matrix : SymmetricMatrix} → image ≡ imageEnd (h .levels) w 0 0 + rowsAt w 0
       → residual ≡ cycleStart (h .options .«krylov_dimension») (h .levels) w → matrix ≡ parts.kernelIn (locate w 0 0)
-      → placed matrix (h .rows) start (h .options .«krylov_dimension») residual ≡ regionsAt h w
-  places-are {start} {residual} {matrix} s r m =
+      → placed matrix (h .rows) image (h .options .«krylov_dimension») residual ≡ regionsAt h w
+  places-are {image} {residual} {matrix} s r m =
       let rows = o .rows in
-      let sums : start / 2 - h .rows ≡ imageEnd (h .levels) w 0 0 = omega arith in
+      let sums : image - h .rows ≡ imageEnd (h .levels) w 0 0 = omega arith in
       rw (sums, m, r, s, ← rows)
 
   -- The finest matrix lies below the row sums.

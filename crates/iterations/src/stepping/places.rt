@@ -13,13 +13,14 @@ pub fn regions(h: Handle, w: &[u32]) -> Regions
 {
     let n = h.rows as usize;
     let krylov = h.options.krylov_dimension;
-    let start = index_check::scratch_start(w, h.levels);
+    let image = index_check::shadow_start(w, h.levels);
+    let start = 2 * image;
     let residual = index_check::cycle_start(w, h.levels, krylov);
-    let matrix = layout::kernel_in(index_check::place_at(w, 0, 0));
+    let matrix = layout::kernel_in(layout::place_at(w, 0, 0));
     Regions {
         matrix: matrix,
         rows: n,
-        sums: start / 2 - n,
+        sums: image - n,
         rhs: start,
         solution: start + n,
         directions: start + 2 * n,

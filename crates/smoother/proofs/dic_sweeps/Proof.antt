@@ -10,10 +10,10 @@ use Rattle.smoother.proofs.dic_sweeps.Statement.{statement}
 use Rattle.smoother.proofs.dic_sweeps.Tie as tie
 
 abbrev Inv-loop : tie.InvT-loop
-Inv-loop w f₀ s dic rhs x work correction sweeps i₀ f i = (length f ≡ length f₀) × DicSweeping w s dic rhs x work correction sweeps i f₀ f
+Inv-loop w f₀ s dic v sweeps i₀ f i = (length f ≡ length f₀) × DicSweeping w s dic (v .rhs) (v .x) (v .work) (v .correction) sweeps i f₀ f
 
 abbrev μ-loop : tie.MeasureT-loop
-μ-loop w f₀ s dic rhs x work correction sweeps i₀ f i = sweeps - i
+μ-loop w f₀ s dic v sweeps i₀ f i = sweeps - i
 
 loop-holds : tie.Need-loop-holds Inv-loop μ-loop
 loop-holds c = (refl, dic-start)

@@ -10,10 +10,10 @@ use Rattle.smoother.proofs.gauss_seidels.Statement.{statement}
 use Rattle.smoother.proofs.gauss_seidels.Tie as tie
 
 abbrev Inv-loop : tie.InvT-loop
-Inv-loop w f₀ s dic rhs x work correction symmetric sweeps i₀ f i = (length f ≡ length f₀) × GaussSeideling w s rhs x work correction symmetric sweeps i f₀ f
+Inv-loop w f₀ s dic v symmetric sweeps i₀ f i = (length f ≡ length f₀) × GaussSeideling w s (v .rhs) (v .x) (v .work) (v .correction) symmetric sweeps i f₀ f
 
 abbrev μ-loop : tie.MeasureT-loop
-μ-loop w f₀ s dic rhs x work correction symmetric sweeps i₀ f i = sweeps - i
+μ-loop w f₀ s dic v symmetric sweeps i₀ f i = sweeps - i
 
 loop-holds : tie.Need-loop-holds Inv-loop μ-loop
 loop-holds c = (refl, gauss-seidel-start)

@@ -13,7 +13,7 @@ use Rattle.hierarchy.specs.Level.{Level}
 use Rattle.layout.specs.declared.Place.{Place}
 use Rattle.layout.specs.Layout.{rowsAt, locate, levelAt, wordsEnd, floatsEnd, levelsAt, imageEnd}
 use Rattle.layout.proofs.Views.{floats-to}
-use Rattle.index_check.specs.SoundContract.{PlaceOk}
+use Rattle.layout.specs.PlaceContract.{PlaceOk}
 use Rattle.update_levels.specs.Steps.{RenewOk}
 use Rattle.update_levels.proofs.levels.Chains.{opened}
 use Rattle.update_levels.proofs.levels.Renewing.{renew-place, inner-words, next-place, next-ready, ends-at, levels-some}

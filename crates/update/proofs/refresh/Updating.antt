@@ -23,7 +23,7 @@ use Rattle.hierarchy.specs.Refresh.{withSums}
 use Rattle.hierarchy.proofs.Accepted.{ask-split}
 use Rattle.layout.specs.Layout.{entriesAt, locate, wordsEnd, floatsEnd, levelsAt, viewOf}
 use Rattle.layout.proofs.Views.{floats-to}
-use Rattle.index_check.specs.Sound.{shapeIn, scratchStart}
+use Rattle.index_check.specs.Sound.{shapeIn}
 use Rattle.index_check.specs.SoundContract.{LevelsOk}
 use Rattle.update_levels.specs.Update.{samePattern, renewOf, updateOf}
 use Rattle.update_levels.specs.Steps.{shapesAt, Renewed}
@@ -56,28 +56,24 @@ module _ {levels : ℕ} {w : List ℕ} {size : ℕ} (ok : AttemptOk levels w siz
       let room = ok .room in
       opened (record { walk = ok .walk; room = omega arith; few = omega arith; fits = ok .fits }) (ok .some)
 
-  -- What the start of the scratch requires.
+  -- What the start of the shadow requires.
   pub start-ready : LevelsOk w levels
   start-ready = record { sound = ok .walk; some = ok .some; few = ok .few }
 
-  module _ {start : ℕ} (at : start ≡ scratchStart levels w) where
-    -- Half of what lies below it is the image.
-    image-is : start / 2 ≡ imageOf levels w
-    image-is = omega arith
-
+  module _ {image : ℕ} (at : image ≡ imageOf levels w) where
     -- What the questions require.
-    pub ask-ready : AskOk w size (start / 2)
+    pub ask-ready : AskOk w size (image)
     ask-ready =
         let o = finest in
         let heads = o .here .heads in
-        let is = image-is in
+        let is = at in
         let room = ok .room in
         let fits = ok .fits in
         let opens = o .is in
         let up = floats-to (levels - 1) w (wordsEnd w 0) (floatsEnd w 0 0) in
         let e = floats-end w 0 0 in
         record {
-          place = record { head = o .place .head; floats = omega arith };
+          place = record { words = o .place .words; floats = omega arith };
           inside = heads;
           pattern = record { offsets = omega arith; columns = omega arith };
           uppers = o .here .uppers;
@@ -86,9 +82,9 @@ module _ {levels : ℕ} {w : List ℕ} {size : ℕ} (ok : AttemptOk levels w siz
         }
 
     -- What the copy requires.
-    pub commit-ready : {now : ℕ} → now ≡ size → CommitOk levels w now (start / 2)
+    pub commit-ready : {now : ℕ} → now ≡ size → CommitOk levels w now (image)
     commit-ready e =
-        let is = image-is in
+        let is = at in
         let room = ok .room in
         let few = ok .few in
         rw e (record {
@@ -99,10 +95,10 @@ module _ {levels : ℕ} {w : List ℕ} {size : ℕ} (ok : AttemptOk levels w siz
         })
 
     -- What the row sums require.
-    pub sums-ready-at : {now : ℕ} → now ≡ size → SumOk w now (start / 2)
+    pub sums-ready-at : {now : ℕ} → now ≡ size → SumOk w now (image)
     sums-ready-at e = let c = commit-ready e in let room = c .room in sums-ready (c .some) (c .is) (c .chain) (omega arith)
 
-    module _ {A B : List Float} (offsets columns : List ℕ) (values : List Float) {v : Verdict} (told : Asked w A B offsets columns values (start / 2) v)
+    module _ {A B : List Float} (offsets columns : List ℕ) (values : List Float) {v : Verdict} (told : Asked w A B offsets columns values (image) v)
         (pass : isRefused v ≡ false) where
       -- There are as many values as entries.
       many : length values ≡ entriesAt w 0
@@ -114,16 +110,16 @@ module _ {levels : ℕ} {w : List ℕ} {size : ℕ} (ok : AttemptOk levels w siz
           (passes (askedOf s offsets columns values) (told .answer) (went-on v pass)) .0)
 
       -- The coefficients of the finest level stand in the shadow.
-      pub faces-ready : FacesReady w values B (locate w 0 (start / 2))
+      pub faces-ready : FacesReady w values B (locate w 0 (image))
       faces-ready = told .taken (went-on v pass)
 
       -- What the shadow requires.
-      pub shadow-ready : {now : ℕ} → now ≡ size → ShadowOk levels w now (length values) (start / 2)
+      pub shadow-ready : {now : ℕ} → now ≡ size → ShadowOk levels w now (length values) (image)
       shadow-ready {now} same =
           let few = ok .few in
           let room = ok .room in
-          let is = image-is in
-          let far = shadow-end levels w (start / 2) in
+          let is = at in
+          let far = shadow-end levels w (image) in
           let fits : now ≤ 18446744073709551615 = omega (arith, ok .fits) in
           record {
             chain = record { walk = ok .walk; room = omega arith; few = omega arith; fits = fits };
@@ -174,16 +170,16 @@ module _ {levels : ℕ} {w : List ℕ} (F : List Float) (ok : AttemptOk levels w
         size = k .size;
       }
 
-  module _ {start : ℕ} (at : start ≡ scratchStart levels w) {E : List Float} {v : Verdict} (told : Asked w F E offsets columns values (start / 2) v) where
+  module _ {image : ℕ} (at : image ≡ imageOf levels w) {E : List Float} {v : Verdict} (told : Asked w F E offsets columns values (image) v) where
     -- Question 31 or 10 refuses: nothing below the shadow was written.
     pub attempt-asked-no : isRefused v ≡ true → Attempted levels w F E out v
     attempt-asked-no stop =
         let no = told-refused asked (told .answer) stop in
-        refused-done (out-is ∙ then-refused asked (λ _. summed) (no .1)) (no .2) (subst (λ (n : ℕ). Kept n F E) (image-is ok at) (told .kept))
+        refused-done (out-is ∙ then-refused asked (λ _. summed) (no .1)) (no .2) (subst (λ (n : ℕ). Kept n F E) at (told .kept))
 
-    module _ (pass : isRefused v ≡ false) {G : List Float} {r : Verdict} (done : Renewed o levels 0 w values E G 0 (start / 2) r) where
+    module _ (pass : isRefused v ≡ false) {G : List Float} {r : Verdict} (done : Renewed o levels 0 w values E G 0 (image) r) where
       -- What the levels leave.
-      frame : Kept (start / 2) F G
+      frame : Kept (image) F G
       frame = kept-on (told .kept) (done .kept)
 
       -- Once 31 and 10 have passed, the levels are renewed.
@@ -194,17 +190,17 @@ module _ {levels : ℕ} {w : List ℕ} (F : List Float) (ok : AttemptOk levels w
       pub attempt-no : isRefused r ≡ true → Attempted levels w F G out r
       attempt-no stop =
           let no = told-refused renewed (done .answer) stop in
-          refused-done (through ∙ then-refused renewed (λ ls. accepted (withSums o ls)) (no .1)) (no .2) (subst (λ (n : ℕ). Kept n F G) (image-is ok at) frame)
+          refused-done (through ∙ then-refused renewed (λ ls. accepted (withSums o ls)) (no .1)) (no .2) (subst (λ (n : ℕ). Kept n F G) at frame)
 
       -- The levels of the shadow are those of the image, and the row sums are made.
-      pub attempt-yes : isRefused r ≡ false → {H : List Float} → Committed levels w G H (start / 2)
-          → {norm : MultigridResidualNorm} → o .«residual_norm» ≡ norm → {K : List Float} → Summed w H K norm (start / 2)
+      pub attempt-yes : isRefused r ≡ false → {H : List Float} → Committed levels w G H (image)
+          → {norm : MultigridResidualNorm} → o .«residual_norm» ≡ norm → {K : List Float} → Summed w H K norm (image)
           → Attempted levels w F K out r
       attempt-yes go {H} copied under {K} sums =
           let a = told-accepted renewed (done .answer) go in
           let is-out : out ≡ accepted (withSums o (a .0)) = through ∙ then-accepted renewed (λ ls. accepted (withSums o ls)) (a .1) in
           let room = ok .room in
-          let im = image-is ok at in
+          let im = at in
           let size : length H ≡ length F = copied .size ∙ frame .size in
           let view : viewOf levels w K 0 ≡ withSums o (levelsAt levels w H 0 0) = with-sums (ok .some) im o under (omega arith) sums in
           record {

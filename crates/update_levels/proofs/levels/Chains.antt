@@ -9,7 +9,7 @@ use native.Mathlib.Omega.{arith}
 use Rattle.layout.specs.Layout.{lastAt, wordsEnd, floatsEnd, imageEnd}
 use Rattle.layout.proofs.Views.{floats-to}
 use Rattle.index_check.specs.Sound.{headSound}
-use Rattle.index_check.specs.SoundContract.{PlaceOk}
+use Rattle.layout.specs.PlaceContract.{PlaceOk}
 use Rattle.index_check.proofs.sound.Facts.{Here, targetsOf, sumsOf, endsOf, Passed, passed}
 use Rattle.index_check.proofs.sound.Sizes.{ahead}
 use Rattle.update_levels.specs.Steps.{Chain}
@@ -37,7 +37,7 @@ opened-suc {w} {size} {more} {level} {a} {b} c head p =
     record {
       last = rw one (p .last);
       here = rw one (p .here);
-      place = record { head = head; floats = omega arith };
+      place = record { words = p .here .words; floats = omega arith };
       ends = ends;
       rest = rw one (record { walk = p .rest; room = room; few = omega arith; fits = fits });
       is = rw one refl;

@@ -27,7 +27,7 @@ use Rattle.layout.specs.declared.Place.{Place}
 use Rattle.layout.specs.Layout.{rowsAt, lastAt, coupledAt, entriesAt, facesAt, locate, numbersAt, levelAt, wordsEnd, floatsEnd, levelsAt}
 use Rattle.layout.proofs.Views.{level-kept}
 use Rattle.index_check.specs.Sound.{shapeIn}
-use Rattle.index_check.specs.SoundContract.{PlaceOk}
+use Rattle.layout.specs.PlaceContract.{PlaceOk}
 use Rattle.index_check.proofs.sound.Facts.{Here, targetsOf, sumsOf, endsOf}
 use Rattle.update_levels.specs.Standing.{diagonalsStand}
 use Rattle.update_levels.specs.Update.{renewOf}

@@ -8,8 +8,8 @@ use Rattle.build_levels.proofs.growing.advance.Tie as tie
 lay-requires : tie.Need-lay-requires
 lay-requires c κs = c .before .before .before .before .pre
 
-place-at-requires : tie.Need-place-at-requires
-place-at-requires c κs =
+place-of-requires : tie.Need-place-of-requires
+place-of-requires c κs =
     let laid = c .before .before .before .before .before .before .before in
     let start = laid .before .before .before .before .before in
     place-ok (start .pre) (laid .lay .ensures) (c .before .faces .given .1) (search needs) (search needs)
@@ -19,7 +19,7 @@ lead-requires c κs =
     let told = c .before .before .before .before in
     let laid = told .before .before .before .before .before .before in
     let start = laid .before .before .before .before .before in
-    lead-ok (start .pre) (laid .lay .ensures) (told .faces .given .1) (c .before .before .place-at .ensures)
+    lead-ok (start .pre) (laid .lay .ensures) (told .faces .given .1) (c .before .before .place-of .ensures)
 
 returns : tie.Need-returns
 returns c =
@@ -34,7 +34,7 @@ returns-2 c =
     let told = place .before .before in
     let laid = told .before .before .before .before .before .before in
     let start = laid .before .before .before .before .before in
-    laid-led (start .pre) (laid .lay .ensures) (told .faces .given .1) (place .place-at .ensures) (led .lead .ensures)
+    laid-led (start .pre) (laid .lay .ensures) (told .faces .given .1) (place .place-of .ensures) (led .lead .ensures)
 
 pub advance-spec : {M : Type 1} → statement M
 advance-spec =
@@ -43,7 +43,7 @@ advance-spec =
     lay-requires
     (λ c. search needs)
     (λ c. search needs)
-    place-at-requires
+    place-of-requires
     lead-requires
     (λ c. search needs)
     (λ c. search needs)

@@ -6,46 +6,16 @@ use Rattle.cycle.proofs.visit.restrict.Statement.{statement}
 use Rattle.cycle.proofs.visit.restrict.Tie as tie
 
 residual-requires : tie.Need-residual-requires
-residual-requires c κs =
-    let start = c .before .before .before in
-    start .pre
+residual-requires c κs = c .before .before .before .pre
 
 restrict-requires : tie.Need-restrict-requires
-restrict-requires c κs =
-    let at-residual-at = c .before in
-    let at-residual = at-residual-at .before .before .before in
-    let start = at-residual .before .before .before .before in
-    restrict-ok (start .pre) (at-residual .residual .ensures) (at-residual-at .residual-at .ensures)
+restrict-requires c κs = restrict-ok (c .before .before .before .before .before .before .before .before .pre) (c .before .before .before .before .residual .ensures) (c .before .residual-at .ensures)
 
 fill-requires : tie.Need-fill-requires
-fill-requires c κs =
-    let at-restrict = c .before .before .before in
-    let at-residual-at = at-restrict .before .before in
-    let at-residual = at-residual-at .before .before .before in
-    let start = at-residual .before .before .before .before in
-    zeros-ok (start .pre) (at-residual .residual .ensures) (at-residual-at .residual-at .ensures) (at-restrict .restrict .ensures)
+fill-requires c κs = zeros-ok (c .before .before .before .before .before .before .before .before .before .before .before .before .pre) (c .before .before .before .before .before .before .before .before .residual .ensures) (c .before .before .before .before .before .residual-at .ensures) (c .before .before .before .restrict .ensures)
 
 returns : tie.Need-returns
-returns c =
-    let at-fill = c .before .before in
-    let at-restrict = at-fill .before .before .before .before in
-    let at-residual-at = at-restrict .before .before in
-    let at-residual = at-residual-at .before .before .before in
-    let start = at-residual .before .before .before .before in
-    restricted (start .pre) (at-residual .residual .ensures) (at-residual-at .residual-at .ensures) (at-restrict .restrict .ensures) (at-fill .fill .ensures)
+returns c = restricted (c .before .before .before .before .before .before .before .before .before .before .before .before .before .before .before .pre) (c .before .before .before .before .before .before .before .before .before .before .before .residual .ensures) (c .before .before .before .before .before .before .before .before .residual-at .ensures) (c .before .before .before .before .before .before .restrict .ensures) (c .before .before .fill .ensures)
 
 pub restrict-spec : {M : Type 1} → statement M
-restrict-spec =
-    tie.close
-    (tie.spec
-    residual-requires
-    (λ c κs. search needs)
-    (λ c. search needs)
-    (λ c. search needs)
-    restrict-requires
-    (λ c. search needs)
-    (λ c. search needs)
-    (λ c. search needs)
-    fill-requires
-    (λ c. search needs)
-    returns)
+restrict-spec = tie.close (tie.spec residual-requires (λ c κs. search needs) restrict-requires fill-requires (λ c. search needs) returns)

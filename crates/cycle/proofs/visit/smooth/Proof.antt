@@ -6,25 +6,10 @@ use Rattle.cycle.proofs.visit.smooth.Statement.{statement}
 use Rattle.cycle.proofs.visit.smooth.Tie as tie
 
 smooth-requires : tie.Need-smooth-requires
-smooth-requires c κs =
-    let start = c .before .before .before in
-    smooth-ok (start .pre)
+smooth-requires c κs = smooth-ok (c .before .before .before .pre)
 
 returns : tie.Need-returns
-returns c =
-    let at-smooth = c .before .before in
-    let start = at-smooth .before .before .before .before in
-    smooth-done (start .args .w .now) (start .args .g) _ _ (at-smooth .smooth .ensures)
+returns c = smooth-done (c .before .before .before .before .before .before .args .w .now) (c .before .before .before .before .before .before .args .g) _ _ (c .before .before .smooth .ensures) (c .before .before .before .before .before .before .pre)
 
 pub smooth-spec : {M : Type 1} → statement M
-smooth-spec =
-    tie.close
-    (tie.spec
-    (λ c. search needs)
-    (λ c. search needs)
-    (λ c. search needs)
-    (λ c. search needs)
-    (λ c. search needs)
-    smooth-requires
-    (λ c. search needs)
-    returns)
+smooth-spec = tie.close (tie.spec smooth-requires (λ c. search needs) returns)

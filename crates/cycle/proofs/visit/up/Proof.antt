@@ -6,49 +6,24 @@ use Rattle.cycle.proofs.visit.up.Statement.{statement}
 use Rattle.cycle.proofs.visit.up.Tie as tie
 
 prolong-requires : tie.Need-prolong-requires
-prolong-requires c κs =
-    let start = c .before .before .before in
-    prolong-ok (start .pre)
+prolong-requires c κs = prolong-ok (c .before .before .before .pre)
 
 correct-requires : tie.Need-correct-requires
-correct-requires c κs =
-    let at-prolong = c .before .before .before in
-    let start = at-prolong .before .before .before .before in
-    inner-on (start .pre) (at-prolong .prolong .ensures .size)
+correct-requires c κs = inner-on (c .before .before .before .before .before .before .before .pre) (c .before .before .before .prolong .ensures .size)
 
 smooth-requires : tie.Need-smooth-requires
-smooth-requires c κs =
-    let at-correct = c .before .before .before .before .before in
-    let at-prolong = at-correct .before .before .before .before in
-    let start = at-prolong .before .before .before .before in
-    inner-on (inner-on (start .pre) (at-prolong .prolong .ensures .size)) (at-correct .correct .ensures .floats .size)
+smooth-requires c κs = inner-on (inner-on (c .before .before .before .before .before .before .before .before .before .before .before .before .before .pre) (c .before .before .before .before .before .before .before .before .before .prolong .ensures .size)) (c .before .before .before .before .before .correct .ensures .floats .size)
 
 returns : tie.Need-returns
-returns c =
-    let at-q = c .before in
-    let at-correct = at-q .before .before .before .before in
-    let at-prolong = at-correct .before .before .before .before in
-    let start = at-prolong .before .before .before .before in
-    up-no (start .pre) (at-prolong .prolong .ensures) (start .args .kind) (start .args .scale) (start .args .pre) (at-correct .correct .ensures) (start .args .post) (at-q .q .given .1)
+returns c = up-no (c .before .before .before .before .before .before .before .before .before .before .before .before .before .pre) (c .before .before .before .before .before .before .before .before .before .prolong .ensures) (c .before .before .before .before .before .before .before .before .before .before .before .before .before .args .kind) (c .before .before .before .before .before .before .before .before .before .before .before .before .before .args .scale) (c .before .before .before .before .before .before .before .before .before .before .before .before .before .args .pre) (c .before .before .before .before .before .correct .ensures) (c .before .before .before .before .before .before .before .before .before .before .before .before .before .args .post) (c .before .q .given .1)
 
 returns-2 : tie.Need-returns-2
-returns-2 c =
-    let at-smooth = c .before .before in
-    let at-enum-told = at-smooth .before .before in
-    let at-correct = at-enum-told .before .before .before .before in
-    let at-prolong = at-correct .before .before .before .before in
-    let start = at-prolong .before .before .before .before in
-    up-yes (start .pre) (at-prolong .prolong .ensures) (start .args .kind) (start .args .scale) (start .args .pre) (at-correct .correct .ensures) (start .args .post) (at-enum-told .enum-told .given .1) (at-smooth .smooth .ensures)
+returns-2 c = up-yes (c .before .before .before .before .before .before .before .before .before .before .before .before .before .before .before .before .pre) (c .before .before .before .before .before .before .before .before .before .before .before .before .prolong .ensures) (c .before .before .before .before .before .before .before .before .before .before .before .before .before .before .before .before .args .kind) (c .before .before .before .before .before .before .before .before .before .before .before .before .before .before .before .before .args .scale) (c .before .before .before .before .before .before .before .before .before .before .before .before .before .before .before .before .args .pre) (c .before .before .before .before .before .before .before .before .correct .ensures) (c .before .before .before .before .before .before .before .before .before .before .before .before .before .before .before .before .args .post) (c .before .before .before .before .enum-told .given .1) (c .before .before .smooth .ensures)
 
 pub up-spec : {M : Type 1} → statement M
 up-spec =
     tie.close
     (tie.spec
-    (λ c. search needs)
-    (λ c. search needs)
-    (λ c. search needs)
-    (λ c. search needs)
-    (λ c. search needs)
     prolong-requires
     correct-requires
     (λ c. search needs)

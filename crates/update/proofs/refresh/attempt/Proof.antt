@@ -6,11 +6,11 @@ use borrow.Author.Needs.{needs}
 use Rattle.update.proofs.refresh.attempt.Statement.{statement}
 use Rattle.update.proofs.refresh.attempt.Tie as tie
 
-scratch-start-requires : tie.Need-scratch-start-requires
-scratch-start-requires c κs = start-ready (c .before .before .before .before .before .pre)
+shadow-start-requires : tie.Need-shadow-start-requires
+shadow-start-requires c κs = start-ready (c .before .before .before .before .before .pre)
 
 asked-requires : tie.Need-asked-requires
-asked-requires c κs = ask-ready (c .before .before .before .before .before .before .before .pre) (c .before .scratch-start .ensures)
+asked-requires c κs = ask-ready (c .before .before .before .before .before .before .before .pre) (c .before .shadow-start .ensures)
 
 returns : tie.Need-returns
 returns c o by under =
@@ -18,7 +18,7 @@ returns c o by under =
     let at-start = at-asked .before .before in
     let start = at-start .before .before .before .before .before .before in
     attempt-asked-no (start .args .f .now) (start .pre) o (start .args .offsets .now) (start .args .columns .now) (start .args .values .now)
-    (at-start .scratch-start .ensures) (at-asked .asked .ensures) (sym (c .before .refused .ensures) ∙ c .if1 .taken)
+    (at-start .shadow-start .ensures) (at-asked .asked .ensures) (sym (c .before .refused .ensures) ∙ c .if1 .taken)
 
 shadow-requires : tie.Need-shadow-requires
 shadow-requires c κs =
@@ -27,9 +27,9 @@ shadow-requires c κs =
     let at-start = at-asked .before .before in
     let start = at-start .before .before .before .before .before .before in
     let pass = sym (at-pass .before .refused .ensures) ∙ at-pass .if1 .left in (
-      shadow-ready (start .pre) (at-start .scratch-start .ensures) (start .args .offsets .now) (start .args .columns .now) (start .args .values .now)
+      shadow-ready (start .pre) (at-start .shadow-start .ensures) (start .args .offsets .now) (start .args .columns .now) (start .args .values .now)
           (at-asked .asked .ensures) pass (at-asked .asked .ensures .kept .size),
-      faces-ready (start .pre) (at-start .scratch-start .ensures) (start .args .offsets .now) (start .args .columns .now) (start .args .values .now)
+      faces-ready (start .pre) (at-start .shadow-start .ensures) (start .args .offsets .now) (start .args .columns .now) (start .args .values .now)
           (at-asked .asked .ensures) pass,
     )
 
@@ -41,7 +41,7 @@ returns-2 c o by under =
     let at-start = at-asked .before .before in
     let start = at-start .before .before .before .before .before .before in
     attempt-no (start .args .f .now) (start .pre) o (start .args .offsets .now) (start .args .columns .now) (start .args .values .now)
-    (at-start .scratch-start .ensures) (at-asked .asked .ensures) (sym (at-pass .before .refused .ensures) ∙ at-pass .if1 .left)
+    (at-start .shadow-start .ensures) (at-asked .asked .ensures) (sym (at-pass .before .refused .ensures) ∙ at-pass .if1 .left)
     (at-shadow .shadow .ensures o by) (sym (c .before .refused2 .ensures) ∙ c .if2 .taken)
 
 commit-requires : tie.Need-commit-requires
@@ -50,7 +50,7 @@ commit-requires c κs =
     let at-asked = at-shadow .before .before .before .before .before .before in
     let at-start = at-asked .before .before in
     let start = at-start .before .before .before .before .before .before in
-    commit-ready (start .pre) (at-start .scratch-start .ensures) (at-shadow .shadow .kept .1 .0 ∙ at-asked .asked .ensures .kept .size)
+    commit-ready (start .pre) (at-start .shadow-start .ensures) (at-shadow .shadow .kept .1 .0 ∙ at-asked .asked .ensures .kept .size)
 
 sums-requires : tie.Need-sums-requires
 sums-requires c κs =
@@ -59,7 +59,7 @@ sums-requires c κs =
     let at-asked = at-shadow .before .before .before .before .before .before in
     let at-start = at-asked .before .before in
     let start = at-start .before .before .before .before .before .before in
-    sums-ready-at (start .pre) (at-start .scratch-start .ensures) (at-commit .commit .ensures .size ∙ at-shadow .shadow .kept .1 .0 ∙ at-asked .asked .ensures .kept .size)
+    sums-ready-at (start .pre) (at-start .shadow-start .ensures) (at-commit .commit .ensures .size ∙ at-shadow .shadow .kept .1 .0 ∙ at-asked .asked .ensures .kept .size)
 
 returns-3 : tie.Need-returns-3
 returns-3 c o by under =
@@ -72,7 +72,7 @@ returns-3 c o by under =
     let at-start = at-asked .before .before in
     let start = at-start .before .before .before .before .before .before in
     attempt-yes (start .args .f .now) (start .pre) o (start .args .offsets .now) (start .args .columns .now) (start .args .values .now)
-    (at-start .scratch-start .ensures) (at-asked .asked .ensures) (sym (at-pass .before .refused .ensures) ∙ at-pass .if1 .left)
+    (at-start .shadow-start .ensures) (at-asked .asked .ensures) (sym (at-pass .before .refused .ensures) ∙ at-pass .if1 .left)
     (at-shadow .shadow .ensures o by) (sym (at-made .before .refused2 .ensures) ∙ at-made .if2 .left) (at-commit .commit .ensures)
     under (at-sums .sums .ensures)
 
@@ -80,7 +80,7 @@ pub attempt-spec : {M : Type 1} → statement M
 attempt-spec =
     tie.close
     (tie.spec
-    scratch-start-requires
+    shadow-start-requires
     asked-requires
     (λ c κs. search needs)
     (λ c. search needs)

@@ -1,12 +1,11 @@
--- `cycle::level_place` meets its contract: all sizes that it reads stand below the links.
+-- `layout::place_at` meets its contract: all sizes that it reads stand below the links.
 -- Assumes nothing.
 use mathlib.Core.Path.{refl}
 use native.Mathlib.Omega.{arith}
-use Rattle.layout.proofs.Places.{ends-above}
-use Rattle.cycle.proofs.Steps.{place-fits, place-is}
+use Rattle.layout.proofs.Places.{ends-above, place-fits, place-is}
 use borrow.Author.Needs.{needs}
-use Rattle.cycle.proofs.level_place.Statement.{statement}
-use Rattle.cycle.proofs.level_place.Tie as tie
+use Rattle.layout.proofs.place_at.Statement.{statement}
+use Rattle.layout.proofs.place_at.Tie as tie
 
 mul-wide : tie.Need-mul-wide
 mul-wide c = omega (arith, ends-above _ _ refl refl refl (c .before .pre .words))
@@ -78,12 +77,12 @@ shared-slice-read-wide-3 c =
     let start = read .before .before .before in
     omega (arith, ends-above _ _ (read .wide .ensures) (read2 .wide2 .ensures) refl (start .pre .words))
 
-place-at-requires : tie.Need-place-at-requires
-place-at-requires c κs =
+place-of-requires : tie.Need-place-of-requires
+place-of-requires c κs =
     let read2 = c .before .before in
     let read = read2 .before .before in
     let start = read .before .before .before in
-    place-fits _ _ _ (read .wide .ensures) (read2 .wide2 .ensures) (c .wide3 .ensures) (start .pre) (search needs)
+    place-fits _ _ (read .wide .ensures) (read2 .wide2 .ensures) (c .wide3 .ensures) (start .pre) (search needs)
 
 returns : tie.Need-returns
 returns c =
@@ -91,10 +90,10 @@ returns c =
     let read2 = read3 .before .before in
     let read = read2 .before .before in
     let start = read .before .before .before in
-    place-is (start .args .w .now) _ _ (read .wide .ensures) (read2 .wide2 .ensures) (read3 .wide3 .ensures) (c .place-at .ensures)
+    place-is (start .args .w .now) _ (read .wide .ensures) (read2 .wide2 .ensures) (read3 .wide3 .ensures) (c .place-of .ensures)
 
-pub level-place-spec : {M : Type 1} → statement M
-level-place-spec =
+pub place-at-spec : {M : Type 1} → statement M
+place-at-spec =
     tie.close
     (tie.spec
     mul-wide
@@ -113,5 +112,5 @@ level-place-spec =
     mul-wide-3
     shared-slice-read-wide-3
     (λ c κs. search needs)
-    place-at-requires
+    place-of-requires
     returns)
