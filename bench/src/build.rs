@@ -4,7 +4,7 @@ use crate::grid::{Grid, noise};
 use crate::measure::Kernel;
 use compare::library;
 use compare::random::Random;
-use multigrid::{MultigridOptions, Stores, lent};
+use multigrid::{MultigridLevelStatistics, MultigridOptions, Stores, lent};
 use oracle::{AlgebraicMultigrid, CsrMatrix, LinearAlgebraError, MultigridCoarseSolver};
 use std::hint::black_box;
 
@@ -75,8 +75,10 @@ impl Build {
         self.ours();
         let theirs = self.rust_build().expect("a grid has a hierarchy");
         let cells = theirs.statistics().iter().map(|level| level.cells as u64);
-        let records = self.stores.statistics.chunks_exact(4);
-        let ours = records.map(|record| record[0]).take_while(|&rows| rows > 0);
+        let records = self.stores.statistics.iter();
+        let ours = records
+            .map(|record| record.cells)
+            .take_while(|&rows| rows > 0);
         assert!(ours.eq(cells), "the answers differ");
     }
 }
@@ -85,7 +87,15 @@ impl Kernel for Build {
     fn clear(&mut self) {
         noise(&mut self.stores.words, &mut self.random);
         self.stores.floats.fill_with(|| self.random.unit());
-        self.stores.statistics.fill_with(|| self.random.bits());
+        let random = &mut self.random;
+        self.stores
+            .statistics
+            .fill_with(|| MultigridLevelStatistics {
+                cells: random.bits(),
+                visits: random.bits(),
+                smoothing_sweeps: random.bits(),
+                coarse_iterations: random.bits(),
+            });
     }
 
     fn rust(&mut self) {
