@@ -1,4 +1,4 @@
-/* What nobody should hand over, handed over: empty slices, SIZE_MAX rows, all-maximum controls, wild handles, damaged stores. Every slice is memory of its own and of
+/* What nobody should hand over, handed over: empty slices, SIZE_MAX rows, all-maximum controls, wild handles, damaged stores, boundless loads. Every slice is memory of its own and of
  * exactly its length, so that valgrind sees a read or a write beside it. Every call has to answer, and by a question where it cannot do what it is asked to. */
 #include "multigrid.h"
 
@@ -102,18 +102,12 @@ static void empty_slices(void) {
     drop(none);
 }
 
-/* A path of so many rows, built, damaged and called. */
+/* A load of one row of cells, built, damaged and called. */
 static void damaged(size_t rows, struct multigrid_options o) {
-    size_t entries = 3 * rows - 2, at = 0;
+    size_t entries = 3 * rows - 2;
     uint32_t *offsets = memory(rows + 1, 4), *columns = memory(entries, 4);
     double *values = memory(entries, 8);
-    for (size_t row = 0; row < rows; row++) {
-        for (size_t column = row ? row - 1 : 0; column <= row + 1 && column < rows; column++) {
-            columns[at] = (uint32_t)column;
-            values[at++] = column == row ? 2.5 : -1;
-        }
-        offsets[row + 1] = (uint32_t)at;
-    }
+    expect(multigrid_load(rows, rows, 1, 1, offsets, rows + 1, columns, entries, values, entries).answer.question == 0, "a row of cells");
     struct multigrid_charge c = multigrid_charge(rows, entries, o, 2);
     if (c.floats == UINT64_MAX) c.floats = c.statistics = 1000;
     struct stores s = stores_of(c.words, c.floats, c.statistics);
@@ -157,8 +151,35 @@ static void wild_handles(void) {
     }
 }
 
+/* Loads in slices of exactly their length, in slices that are too short by one, and of extents whose product does not fit. */
+static void loads(void) {
+    for (int round = 0; round < 200; round++) {
+        uint64_t wide = 1 + draw() % 6, high = 1 + draw() % 6, deep = 1 + draw() % 6, cells = wide * high * deep;
+        uint64_t due = cells + 2 * (3 * cells - wide * high - wide * deep - high * deep);
+        size_t short_offsets = round % 4 == 1, short_columns = round % 4 == 2, short_values = round % 4 == 3;
+        uint32_t *offsets = memory(cells + 1 - short_offsets, 4), *columns = memory(due - short_columns, 4);
+        double *values = memory(due - short_values, 8);
+        struct multigrid_loaded l = multigrid_load(draw(), wide, high, deep, offsets, cells + 1 - short_offsets, columns, due - short_columns,
+                                                   values, due - short_values);
+        expect(l.answer.question == (round % 4 ? MULTIGRID_BAD_LOAD : MULTIGRID_DONE), "a load and its room");
+        expect(l.rows == (round % 4 ? 0 : cells) && l.entries == (round % 4 ? 0 : due), "the size of a load");
+        expect(round % 4 ? values[0] == 0 : offsets[cells] == due && columns[due - 1] == cells - 1, "what a load writes");
+        free(offsets);
+        free(columns);
+        free(values);
+    }
+    uint64_t extents[] = {0, 1, 65537, UINT64_C(1) << 22, UINT64_C(1) << 32, UINT64_C(1) << 63, UINT64_MAX};
+    uint32_t u = 7;
+    double f = 7;
+    for (int k = 0; k < 343; k++) {
+        struct multigrid_loaded l = multigrid_load(1, extents[k % 7], extents[k / 7 % 7], extents[k / 49], &u, 1, &u + 1, 0, &f, 0);
+        expect(l.answer.question == MULTIGRID_BAD_LOAD && u == 7, "a load with no room");
+    }
+}
+
 int main(void) {
     empty_slices();
+    loads();
     wild_handles();
     for (size_t rows = 1; rows < 60; rows += 7) {
         damaged(rows, multigrid_default_options());

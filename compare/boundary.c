@@ -23,19 +23,6 @@ static int equal(const uint32_t *found, const uint32_t *due, size_t n) {
     return memcmp(found, due, n * sizeof *due) == 0;
 }
 
-/* The load of seed 1 on two cells by two, and one refused. */
-static void loads(void) {
-    const uint32_t due[5] = {0, 3, 6, 9, 12};
-    uint32_t offsets[5], columns[12];
-    double values[12];
-
-    expect(multigrid_load(1, 2, 2, 1, offsets, 5, columns, 12, values, 12) == 0 && equal(offsets, due, 5) &&
-               columns[11] == 3 && values[0] == 135 && values[11] == 595 &&
-               multigrid_load(0, 2, 2, 1, offsets, 5, columns, 12, values, 12) == 35 &&
-               multigrid_load(1, 2, 2, 1, offsets, 5, columns, 11, values, 12) == 35,
-           "multigrid_load");
-}
-
 /* The matrix [2 -1; -1 2] in compressed rows, and arrays that each question refuses. */
 static void arrays(void) {
     const uint32_t offsets[3] = {0, 2, 4}, columns[4] = {0, 1, 0, 1}, falling[4] = {1, 0, 0, 1};
@@ -236,7 +223,6 @@ int main(void) {
     expect(probe_norm_l2(store, 6, 1, 2, out, 1) == 1 && out[0] == 5.0, "probe_norm_l2");
     expect(probe_all_finite(store, 6, 4, 2) == 1, "probe_all_finite");
     arrays();
-    loads();
     path();
     faces();
     kernel();

@@ -121,9 +121,25 @@ static void later_calls(void) {
     expect(report.answer.question == MULTIGRID_UNSOUND_STORES && report.iterations == 0 && x[0] == 0.25, "multigrid_solve");
 }
 
+/* The load of seed 1 on two cells by two, and two that are refused, which leave what was there. */
+static void loads(void) {
+    const uint32_t due[5] = {0, 3, 6, 9, 12};
+    uint32_t starts[5], places[12];
+    double found[12];
+    struct multigrid_loaded loaded = multigrid_load(1, 2, 2, 1, starts, 5, places, 12, found, 12);
+    expect(loaded.answer.question == MULTIGRID_DONE && loaded.rows == 4 && loaded.entries == 12 &&
+               memcmp(starts, due, sizeof due) == 0 && places[11] == 3 && found[0] == 135 && found[11] == 595,
+           "multigrid_load");
+    loaded = multigrid_load(0, 2, 2, 1, starts, 5, places, 12, found, 12);
+    expect(loaded.answer.question == MULTIGRID_BAD_LOAD && loaded.rows == 0 && loaded.entries == 0, "multigrid_load");
+    loaded = multigrid_load(7, 2, 2, 1, starts, 5, places, 11, found, 12);
+    expect(loaded.answer.question == MULTIGRID_BAD_LOAD && loaded.answer.level == 0 && found[0] == 135, "multigrid_load");
+}
+
 int main(void) {
     sizes();
     builds();
     later_calls();
+    loads();
     return failures != 0;
 }

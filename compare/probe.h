@@ -25,11 +25,6 @@ uint8_t probe_validate(uint8_t smoother, uint8_t residual_norm, uint64_t pre_swe
                        double coarse_relative_tolerance, uint64_t coarse_max_iterations,
                        uint8_t scale_correction);
 
-/* The load of a seed on a box of cells, written over the starts of the slices: 0, or 35 with nothing written. Nothing is required. */
-uint64_t multigrid_load(uint64_t seed, uint64_t width, uint64_t height, uint64_t depth, uint32_t *offsets,
-                        size_t offsets_length, uint32_t *columns, size_t columns_length, double *values,
-                        size_t values_length);
-
 /* Whether the answer is finite, and then the answer in out[0].
  * Required: a + n <= f_length, b + n <= f_length, 1 <= out_length; out does not overlap f. */
 uint8_t probe_dot(const double *f, size_t f_length, size_t a, size_t b, size_t n, double *out,

@@ -8,7 +8,7 @@
  *   length 0 may have any pointer that is not null.
  * - Pointers are aligned as their type is: 4 bytes for uint32_t, 8 bytes for double and the records.
  * - No slice that is written may overlap another slice of the call. Written are words, floats and statistics of a build, floats
- *   of an update, floats, statistics and x of a solve; the others are only read.
+ *   of an update, floats, statistics and x of a solve, offsets, columns and values of a load; the others are only read.
  * - Stores of one hierarchy are in one call at a time. Calls with stores of their own may run in any number of threads.
  * - The floating-point environment is the usual one of a C program: rounding to nearest, exceptions masked, subnormal numbers
  *   neither flushed to zero nor read as zero (no FTZ, no DAZ in MXCSR; -ffast-math may set them when it links a program).
@@ -128,6 +128,13 @@ struct multigrid_charge {
     uint64_t statistics;
 };
 
+/* What a load answers. Refused, rows and entries are 0. */
+struct multigrid_loaded {
+    struct multigrid_answer answer;
+    uint64_t rows;    /* one for each cell */
+    uint64_t entries; /* at most 7 in a row */
+};
+
 /* ---- calls */
 
 /* The defaults of the Rust, but for the coarse solver: Cholesky, as its own is refused by question 7. */
@@ -181,6 +188,15 @@ struct multigrid_count multigrid_statistics(struct multigrid_hierarchy hierarchy
                                             size_t words_length, const double *floats, size_t floats_length,
                                             const struct multigrid_level_statistics *statistics,
                                             size_t statistics_length);
+
+/* A load: a box of cells from a seed, the same on every machine, to try the library on and to compare results with others. Cells
+ * are numbered along the width, then the height, then the depth; a depth of 1 is a flat box. Each face takes a conductance of 1 to
+ * 1,024 from the draws of the seed: entries off the diagonal are its negative, those on it the sum of the cell's faces plus 1.
+ * Offsets, columns and values of the matrix stand at the starts of the three slices, whose rest stays as it was. Refused, nothing is
+ * written. Asks question 35: seed and extents are not 0, there are at most 65,536 cells, the slices have room. */
+struct multigrid_loaded multigrid_load(uint64_t seed, uint64_t width, uint64_t height, uint64_t depth, uint32_t *offsets,
+                                       size_t offsets_length, uint32_t *columns, size_t columns_length, double *values,
+                                       size_t values_length);
 
 /* ---- refusals (docs/sentences writes this part from the table of docs/REFUSALS.md) */
 

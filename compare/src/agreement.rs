@@ -3,14 +3,13 @@
 
 use crate::report::Report;
 
-const RATTLE: [&str; 12] = [
+const RATTLE: [&str; 11] = [
     include_str!("../../crates/meshprobe/src/numbers.rt"),
     include_str!("../../crates/meshprobe/src/controls.rt"),
     include_str!("../../crates/meshprobe/src/vectors.rt"),
     include_str!("../../crates/meshprobe/src/arrays.rt"),
     include_str!("../../crates/meshprobe/src/coarsening.rt"),
     include_str!("../../crates/meshprobe/src/topology.rt"),
-    include_str!("../../crates/load_c/src/lib.rt"),
     include_str!("../../crates/probe/src/kernels.rt"),
     include_str!("../../crates/probe/src/smoothing.rt"),
     include_str!("../../crates/probe/src/terminals.rt"),
@@ -28,6 +27,7 @@ const LIBRARY: Texts = Texts {
     name: "library",
     rattle: &[
         include_str!("../../crates/multigrid_c/src/calls.rt"),
+        include_str!("../../crates/multigrid_c/src/loads.rt"),
         include_str!("../../crates/multigrid_c/src/sizes.rt"),
         include_str!("../../crates/export/src/structs.rt"),
         include_str!("../../crates/charge/src/lib.rt"),

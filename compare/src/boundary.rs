@@ -7,7 +7,6 @@ pub mod corrections;
 pub mod csr;
 pub mod galerkin;
 pub mod kernels;
-pub mod load;
 pub mod measures;
 pub mod smoothing;
 pub mod terminals;
@@ -17,7 +16,6 @@ use oracle::{MultigridCoarseSolver, MultigridOptions, MultigridResidualNorm, Mul
 
 #[link(name = "probe", kind = "static")]
 #[link(name = "meshprobe", kind = "static")]
-#[link(name = "load_c", kind = "static")]
 unsafe extern "C" {
     safe fn probe_is_finite(x: f64) -> u8;
     safe fn probe_abs(x: f64) -> f64;
@@ -46,18 +44,6 @@ unsafe extern "C" {
         coarse_max_iterations: u64,
         scale_correction: u8,
     ) -> u8;
-    fn multigrid_load(
-        seed: u64,
-        width: u64,
-        height: u64,
-        depth: u64,
-        offsets: *mut u32,
-        offsets_length: usize,
-        columns: *mut u32,
-        columns_length: usize,
-        values: *mut f64,
-        values_length: usize,
-    ) -> u64;
     fn probe_dot(
         f: *const f64,
         f_length: usize,

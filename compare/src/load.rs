@@ -2,9 +2,9 @@
 //! order of work nor a line with the proved code. Every word of the slices is compared, those past the load too.
 
 use crate::Effort;
-use crate::boundary::load::load;
 use crate::random::Random;
 use crate::report::Report;
+use multigrid::{Refusal, lent};
 
 const MOST_CELLS: u128 = 65_536;
 /// What the slices are filled with: no load writes it.
@@ -271,15 +271,25 @@ fn case(report: &mut Report, kind: &str, seed: u64, extents: &[u64], lent: Lent)
     let mut columns = vec![WORD; length(due_sizes.1, lent.columns)];
     let mut values = vec![f64::from_bits(FLOAT); length(due_sizes.1, lent.values)];
     let short = lent.offsets < 0 || lent.columns < 0 || lent.values < 0;
-    let answer = load(seed, extents, &mut offsets, &mut columns, &mut values);
+    // A flat box is one cell deep.
+    let box_of = [extents[0], extents[1], extents.get(2).copied().unwrap_or(1)];
+    let answer = lent::load(seed, box_of, &mut offsets, &mut columns, &mut values);
     let made = due.filter(|_| !short);
-    let number = if made.is_some() { 0 } else { 35 };
+    let due_answer = made
+        .as_ref()
+        .map(|made| (made.offsets.len() - 1, made.columns.len()))
+        .ok_or(Refusal::BadLoad);
+    report.answer(if made.is_some() {
+        "load/made"
+    } else {
+        "load/refused-35"
+    });
     let made = made.unwrap_or(Model {
         offsets: Vec::new(),
         columns: Vec::new(),
         values: Vec::new(),
     });
-    let agrees = answer == number
+    let agrees = answer == due_answer
         && over(&offsets, &made.offsets, &WORD)
         && over(&columns, &made.columns, &WORD)
         && over(
@@ -294,13 +304,8 @@ fn case(report: &mut Report, kind: &str, seed: u64, extents: &[u64], lent: Lent)
                 .collect::<Vec<_>>(),
             &FLOAT,
         );
-    report.answer(if number == 0 {
-        "load/made"
-    } else {
-        "load/refused-35"
-    });
     report.case(kind, agrees, || {
-        format!("seed {seed:x}, extents {extents:?}, answer {answer}")
+        format!("seed {seed:x}, extents {extents:?}, answer {answer:?}")
     });
 }
 

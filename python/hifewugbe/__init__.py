@@ -8,6 +8,7 @@ converged after 1 iterations, relative residual 0.0e+00
 
 from . import refusals
 from .hierarchy import Level, Levels, LevelStatistics, Report
+from .loads import load
 from .multigrid import Multigrid
 from .options import CoarseSolver, Options, ResidualNorm, Smoother
 from .refusals import Refusal
@@ -24,6 +25,7 @@ __all__ = [
     "Report",
     "ResidualNorm",
     "Smoother",
+    "load",
     "refusals",
     "__version__",
 ]

@@ -89,6 +89,12 @@ class Charge(ctypes.Structure):
     _fields_ = [("words", _word), ("floats", _word), ("statistics", _word)]
 
 
+class Loaded(ctypes.Structure):
+    """struct multigrid_loaded"""
+
+    _fields_ = [("answer", Answer), ("rows", _word), ("entries", _word)]
+
+
 # A slice crosses as its address and its number of elements.
 _slice = [ctypes.c_void_p, _size]
 _stores = 3 * _slice
@@ -103,6 +109,7 @@ CALLS = {
     "multigrid_update_values": ([Handle, *_matrix, *_stores], Answer),
     "multigrid_solve": ([Handle, *_stores, *_slice, *_slice, _float, _float, _word], Solved),
     "multigrid_statistics": ([Handle, *_stores], Count),
+    "multigrid_load": ([_word, _word, _word, _word, *_matrix], Loaded),
 }
 
 

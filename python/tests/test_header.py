@@ -18,6 +18,7 @@ NAMES = {
     "multigrid_count": ("Count", "Count"),
     "multigrid_level_statistics": ("MultigridLevelStatistics", "Record"),
     "multigrid_charge": ("Charge", "Charge"),
+    "multigrid_loaded": ("Loaded", "Loaded"),
 }
 NUMBERS = {"uint64_t": "u64", "double": "f64"}
 
@@ -80,7 +81,7 @@ def called_in_python():
 class Header(unittest.TestCase):
     def test_calls_agree(self):
         header = called_in_header()
-        self.assertEqual(len(header), 7)
+        self.assertEqual(len(header), 8)
         self.assertEqual(header, called_in_rust())
         plain = {name: ([re.sub(r"\*.*", "pointer", re.sub("usize|u64", "word", kind)) for kind in takes], answer) for name, (takes, answer) in header.items()}
         self.assertEqual(plain, called_in_python())

@@ -81,10 +81,31 @@ pub struct Charge {
     pub statistics: u64,
 }
 
+/// `struct multigrid_loaded`
+#[repr(C)]
+#[derive(Clone, Copy)]
+pub struct Loaded {
+    pub answer: Answer,
+    pub rows: u64,
+    pub entries: u64,
+}
+
 #[link(name = "multigrid_c", kind = "static")]
 extern "C" {
     pub fn multigrid_default_options() -> Options;
     pub fn multigrid_charge(rows: u64, entries: u64, options: Options, levels: u64) -> Charge;
+    pub fn multigrid_load(
+        seed: u64,
+        width: u64,
+        height: u64,
+        depth: u64,
+        offsets: *mut u32,
+        offsets_length: usize,
+        columns: *mut u32,
+        columns_length: usize,
+        values: *mut f64,
+        values_length: usize,
+    ) -> Loaded;
     pub fn multigrid_new(
         rows: usize,
         offsets: *const u32,

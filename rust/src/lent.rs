@@ -87,7 +87,7 @@ pub struct Charge {
 }
 
 /// The greatest matrix and controls that pass questions 1 and 6: what is greater is refused whatever is lent.
-const MOST_ROWS: usize = 65_536;
+pub(crate) const MOST_ROWS: usize = 65_536;
 const MOST_ENTRIES: usize = 1_048_576;
 const MOST_CELLS: u64 = 256;
 const MOST_LEVELS: u64 = 128;
@@ -361,6 +361,44 @@ pub fn statistics(handle: &Handle, stores: &Stores) -> Result<usize, Refusal> {
     };
     answered(count.answer)?;
     Ok(count.levels as usize)
+}
+
+/// The load of a seed on a box of so many cells along its width, height and depth, written over the starts of the three slices, of which the rest
+/// stays as it was: its rows and entries. Refused, nothing is written.
+///
+/// ```
+/// use multigrid::{lent, Refusal};
+///
+/// let (mut offsets, mut columns, mut values) = ([9; 4], [9; 7], [9.0; 8]);
+/// assert_eq!(lent::load(1, [3, 1, 1], &mut offsets, &mut columns, &mut values), Ok((3, 7)));
+/// assert_eq!((offsets, values[7]), ([0, 2, 5, 7], 9.0));
+/// assert_eq!(lent::load(1, [4, 1, 1], &mut offsets, &mut columns, &mut values), Err(Refusal::BadLoad));
+/// ```
+pub fn load(
+    seed: u64,
+    extents: [u64; 3],
+    offsets: &mut [u32],
+    columns: &mut [u32],
+    values: &mut [f64],
+) -> Result<(usize, usize), Refusal> {
+    let [width, height, depth] = extents;
+    // SAFETY: the pointers are slices' own, with their lengths; what is written is borrowed alone.
+    let loaded = unsafe {
+        calls::multigrid_load(
+            seed,
+            width,
+            height,
+            depth,
+            offsets.as_mut_ptr(),
+            offsets.len(),
+            columns.as_mut_ptr(),
+            columns.len(),
+            values.as_mut_ptr(),
+            values.len(),
+        )
+    };
+    answered(loaded.answer)?;
+    Ok((loaded.rows as usize, loaded.entries as usize))
 }
 
 /// The levels of the hierarchy in the stores, read out of the words: of a level its rows, whether it is the last, its coupled rows, offsets, columns, starts,

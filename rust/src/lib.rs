@@ -22,6 +22,7 @@
 mod calls;
 mod hierarchy;
 pub mod lent;
+mod load;
 mod options;
 mod refusal;
 mod sentences;
@@ -30,6 +31,7 @@ mod solver;
 pub use hierarchy::{Hierarchy, Level, MultigridLevelStatistics};
 use lent::Charge;
 pub use lent::{CsrMatrix, Handle, Stores};
+pub use load::{load, Load};
 pub use options::{
     MultigridCoarseSolver, MultigridOptions, MultigridResidualNorm, MultigridSmoother,
 };

@@ -25,7 +25,13 @@ use Rattle.multigrid.specs.New.{NewDone}
 use Rattle.multigrid.specs.UpdatingCall.{UpdateCall}
 use Rattle.multigrid.specs.SolvingCall.{SolveCall}
 use Rattle.multigrid.specs.CountingCall.{countedOf}
+use Rattle.load.specs.declared.loading.Loaded.{Loaded}
+use Rattle.load.specs.Load.{Load}
+use Rattle.load.specs.Call.{Loading}
+use Rattle.refusal.specs.Outcome.{Outcome}
+use Rattle.multigrid_c.specs.declared.loads.LoadedForC.{LoadedForC}
 use Rattle.multigrid_c.specs.Exported.{BuildExported, UpdateExported, SolveExported, CountExported}
+use Rattle.multigrid_c.specs.Loads.{loadedStruct, LoadExported}
 
 -- A build.
 pub build-exported : {w z : List ℕ} {F G : List Float} {s t : List MultigridLevelStatistics} {n : ℕ} {offsets columns : List ℕ} {values : List Float} {given : Bool} {weights : List Float}
@@ -53,3 +59,8 @@ solve-exported h read limits done told =
 pub count-exported : (h : HierarchyForC) {k : Handle} {w : List ℕ} {F : List Float} {records : ℕ} {b : Counted} {r : CountForC}
     → k ≡ handleOf h → b ≡ countedOf k w F records → r ≡ countedStruct b → CountExported (handleOf h) w F records r
 count-exported h read counted told = record { told = rw (rw read at counted) at told }
+
+-- A load.
+pub load-exported : {o : Outcome Load} {O O' C C' : List ℕ} {F F' : List Float} {b : Loaded} {r : LoadedForC}
+    → Loading o O O' C C' F F' b → r ≡ loadedStruct b → LoadExported o O O' C C' F F' r
+load-exported done told = record { done = rw (done .answer) at done; told = rw (done .answer) at told }

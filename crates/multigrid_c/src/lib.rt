@@ -2,4 +2,5 @@
 // and tells the answer; none has a precondition.
 // include/multigrid.h and rust/src/calls.rs declare the same functions.
 mod calls;
+mod loads;
 mod sizes;
