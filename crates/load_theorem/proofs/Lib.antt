@@ -1,3 +1,4 @@
 pub mod Faces
+pub mod Levels
 pub mod Running
 pub mod Theorem
