@@ -1,4 +1,5 @@
-"""Grids of finite volumes: each cell exchanges with its neighbours, and the cells at the border with the outside, where the pressure is zero."""
+"""Grids of finite volumes: each cell exchanges with its neighbours, and the cells at the border with the outside, where the pressure is zero. They are for what a load has not: a wall with a gate
+(picture.py), long cells, layers, and permeabilities that differ by powers of ten (bench/controls.py)."""
 
 
 def neighbours(shape):
