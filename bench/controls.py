@@ -1,5 +1,6 @@
 #!/usr/bin/env python3
-"""bench/controls.py [--quick] [--hard] [--only NAME]: what each control does, on five meshes; docs/CONTROLS.md has a run of it.
+"""bench/controls.py [--quick] [--hard] [--only NAME]: what each control does, on five meshes; docs/CONTROLS.md has a run of it. The meshes are not loads: they differ in what the controls are for, long cells,
+rough permeabilities and layers.
 
 Each solve goes from zero to 1e-8 of the first residual, at most 200 iterations. Times are the processor's for this thread, the least of three, in milliseconds."""
 

@@ -1,4 +1,4 @@
-/* The memory and the stack of the calls on grids of the plane and of space: bench/footprint builds and runs it. A call runs on a thread whose stack was painted before; what is
+/* The memory and the stack of the calls on loads of the plane and of space: bench/footprint builds and runs it. A call runs on a thread whose stack was painted before; what is
  * no longer painted, less what a thread that does nothing leaves, is what the call took. */
 #include "multigrid.h"
 
@@ -21,25 +21,17 @@ static void *memory(size_t count, size_t size) {
     return found;
 }
 
-/* A box of so many cells along three axes; a plane has one along the first. */
+/* The load of seed 1 on a box of so many cells along three axes; a plane has one along the first. */
 static struct mesh box(size_t deep, size_t high, size_t wide) {
     size_t rows = deep * high * wide;
     struct mesh m = {rows, 0, memory(rows + 1, 4), memory(7 * rows, 4), memory(7 * rows, 8), NULL};
-    for (size_t row = 0; row < rows; row++) {
-        size_t k = row % wide, j = row / wide % high, i = row / wide / high;
-        int inside[7] = {i > 0, j > 0, k > 0, 1, k + 1 < wide, j + 1 < high, i + 1 < deep};
-        size_t beside[7] = {row - wide * high, row - wide, row - 1, row, row + 1, row + wide, row + wide * high};
-        for (int f = 0; f < 7; f++)
-            if (inside[f]) {
-                m.columns[m.entries] = (uint32_t)beside[f];
-                m.values[m.entries++] = f == 3 ? 6 : -1;
-            }
-        m.offsets[row + 1] = (uint32_t)m.entries;
-    }
+    struct multigrid_loaded l = multigrid_load(1, wide, high, deep, m.offsets, rows + 1, m.columns, 7 * rows, m.values, 7 * rows);
+    if (l.answer.question) exit(2);
+    m.entries = l.entries;
     return m;
 }
 
-/* A star whose weights stand in the row of its centre alone: each level takes one row from the one before. */
+/* Loads make few levels. A star whose weights stand in the row of its centre alone makes the most that there are: each level takes one row from the one before. */
 static struct mesh star(size_t rows) {
     struct mesh m = {rows, 3 * rows - 2, memory(rows + 1, 4), memory(3 * rows, 4), memory(3 * rows, 8), memory(3 * rows, 8)};
     for (size_t k = 0; k < rows; k++) {

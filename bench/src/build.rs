@@ -87,15 +87,11 @@ impl Kernel for Build {
     fn clear(&mut self) {
         noise(&mut self.stores.words, &mut self.random);
         self.stores.floats.fill_with(|| self.random.unit());
-        let random = &mut self.random;
-        self.stores
-            .statistics
-            .fill_with(|| MultigridLevelStatistics {
-                cells: random.bits(),
-                visits: random.bits(),
-                smoothing_sweeps: random.bits(),
-                coarse_iterations: random.bits(),
-            });
+        let record = || MultigridLevelStatistics {
+            cells: self.random.bits(),
+            ..MultigridLevelStatistics::default()
+        };
+        self.stores.statistics.fill_with(record);
     }
 
     fn rust(&mut self) {

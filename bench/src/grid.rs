@@ -1,7 +1,7 @@
-//! A matrix on a five-point grid, and what lays it into the stores.
+//! A load on a square of cells, and what lays it into the stores.
 
-use compare::pattern::Pattern;
 use compare::random::Random;
+use multigrid::load;
 use oracle::CsrMatrix;
 
 pub struct Grid {
@@ -10,23 +10,15 @@ pub struct Grid {
 }
 
 impl Grid {
-    /// Random positive weights, equal on both sides of a face; a diagonal of one more than the row's weights.
-    pub fn new(random: &mut Random, side: usize) -> Self {
-        let pattern = Pattern::grid(side);
-        let weights = pattern.numbers(true, || 0.001 + random.unit().abs());
-        let mut values: Vec<f64> = weights.iter().map(|weight| -weight).collect();
-        for row in 0..pattern.rows() {
-            let entries = pattern.offsets[row]..pattern.offsets[row + 1];
-            let sum: f64 = weights[entries.clone()].iter().sum();
-            for entry in entries {
-                if pattern.columns[entry] == row {
-                    values[entry] = 1.0 + sum - weights[entry];
-                }
-            }
-        }
-        let rows = pattern.rows();
-        let matrix = CsrMatrix::new(rows, rows, pattern.offsets, pattern.columns, values)
-            .expect("a grid is a matrix");
+    /// The load of a seed; the weights are its conductances, and on the diagonal zero.
+    pub fn new(seed: u64, side: usize) -> Self {
+        let load = load(seed, [side as u64, side as u64, 1]).expect("a load");
+        let weights = load.values.iter().map(|&value| f64::max(0.0, -value));
+        let weights = weights.collect();
+        let wide = |numbers: Vec<u32>| numbers.into_iter().map(|number| number as usize).collect();
+        let (offsets, columns) = (wide(load.row_offsets), wide(load.column_indices));
+        let matrix = CsrMatrix::new(load.rows, load.rows, offsets, columns, load.values)
+            .expect("a load is a matrix");
         Self { matrix, weights }
     }
 }

@@ -8,18 +8,19 @@ mod galerkin;
 mod grid;
 mod kernels;
 mod level;
+mod load;
 mod measure;
 mod pairs;
 mod solve;
 mod stack;
 mod sweeps;
 
-use compare::random::Random;
 use grid::Grid;
 use measure::{Kernel, Medians, measure};
 use std::process::ExitCode;
 
-const SEED: u64 = 0x0f17_e2c4_ca6e_5eed;
+/// Of the loads.
+const SEED: u64 = 1;
 const SIDES: [usize; 3] = [16, 64, 256];
 
 /// At least seven, and odd, so that a median is one of them.
@@ -170,6 +171,20 @@ const ROWS: &[Row] = &[
         sides: &SIDES,
         kernel: solve::update,
     },
+    Row {
+        name: "load, beside a model",
+        most: Some(1.5),
+        wanted_from: 256,
+        sides: &SIDES,
+        kernel: load::flat,
+    },
+    Row {
+        name: "load with depth",
+        most: Some(1.5),
+        wanted_from: 256,
+        sides: &SIDES,
+        kernel: load::deep,
+    },
 ];
 
 /// What the words of the command ask for: the rounds, the rows whose names start so, and the sides of the grids; or the stack.
@@ -235,7 +250,7 @@ fn number(word: &str) -> Result<usize, String> {
 /// Exit status 1 where a ratio is greater than wanted.
 fn run(asked: &Asked) -> ExitCode {
     println!(
-        "five-point grids, random positive weights; medians of {} rounds; microseconds of the processor",
+        "loads of seed {SEED}; medians of {} rounds; microseconds of the processor",
         asked.rounds
     );
     println!(
@@ -244,7 +259,7 @@ fn run(asked: &Asked) -> ExitCode {
     );
     let mut missed = false;
     for &side in &asked.sides {
-        let grid = Grid::new(&mut Random::new(SEED), side);
+        let grid = Grid::new(SEED, side);
         let rows = ROWS.iter().filter(|row| row.sides.contains(&side));
         for row in rows.filter(|row| row.name.starts_with(&asked.only)) {
             let medians = measure((row.kernel)(&grid).as_mut(), asked.rounds);
