@@ -20,28 +20,28 @@ use Rattle.load.specs.declared.cells.Faces.{Faces}
 use Rattle.load.specs.declared.drawing.Draws.{Draws}
 use Rattle.load.specs.declared.laying.Mirrors.{Mirrors}
 use Rattle.load.specs.declared.laying.Reached.{Reached}
-use Rattle.load.specs.Box.{Mesh}
+use Rattle.load.specs.Box.{Grid}
 use Rattle.load.specs.Draw.{stateOf, drawOf}
-use Rattle.load.specs.Load.{joined, total, conductanceOf, faceOf, columnsIn, ownOf, offOf, wholesIn, startOf}
-use Rattle.load.specs.Steps.{optional, one, countOf, meshOf, Few, Placed, FacesAre, DrewAll, DrawsSmall, MirrorOk, mirrorAt, MirrorsOk, MirrorsAre, ownSum, RoomFor, Pushed, columnsBehind, columnsAhead, valuesBehind, valuesAhead, RowOk, CellOk, CellDone}
+use Rattle.load.specs.Load.{joined, total, conductanceOf, faceOf, columnsIn, ownOf, offOf, wholesIn, rowStart}
+use Rattle.load.specs.Steps.{optional, one, countOf, gridOf, Few, Placed, FacesAre, DrewAll, DrawsSmall, MirrorOk, mirrorAt, MirrorsOk, MirrorsAre, ownSum, RoomFor, Pushed, columnsBehind, columnsAhead, valuesBehind, valuesAhead, RowOk, CellOk, CellDone}
 use Rattle.load.proofs.Lists.{startIn, map-three, total-three, optional-same, joined-end}
 use Rattle.load.proofs.Whole.{neg-off, less-off}
 use Rattle.load.proofs.Rows.{ahead-is, behind-is, columns-are, columns-count, count-small, start-next, start-mono, right-is, down-is, deeper-is, state-next}
 use Rattle.load.proofs.Mirrors.{Across, starts-alike, across-left, across-up, across-shallower}
 
 -- A conductance is 1 to 1,024.
-pub conductance-some : (seed : ℕ) (m : Mesh) (i j : ℕ) → 0 < conductanceOf seed m i j
+pub conductance-some : (seed : ℕ) (m : Grid) (i j : ℕ) → 0 < conductanceOf seed m i j
 unfolding conductanceOf
 conductance-some seed m i j = omega arith
 
-pub conductance-small : (seed : ℕ) (m : Mesh) (i j : ℕ) → conductanceOf seed m i j ≤ 1024
+pub conductance-small : (seed : ℕ) (m : Grid) (i j : ℕ) → conductanceOf seed m i j ≤ 1024
 unfolding conductanceOf
 conductance-small seed m i j = omega (arith, mod-lt (drawOf seed (faceOf m (min i j) (max i j))) {m = 1024} (omega arith))
 
 module _ {seed : ℕ} {e : Extents} {c : Cell} {r : Reached} {offsets : List ℕ} {size : ℕ} {values : List Float}
     (ok : CellOk seed e c r offsets size values) {f : Faces} (a : FacesAre e (c .number) f) where
-  abbrev m : Mesh
-  m = meshOf e
+  abbrev m : Grid
+  m = gridOf e
 
   abbrev i : ℕ
   i = c .number
@@ -71,11 +71,11 @@ module _ {seed : ℕ} {e : Extents} {c : Cell} {r : Reached} {offsets : List ℕ
     next : i - stride + 1 ≤ i
     next = omega (arith, x .before)
 
-    here : idx offsets (i - stride + 1) ≡ startOf m (i - stride + 1)
+    here : idx offsets (i - stride + 1) ≡ rowStart m (i - stride + 1)
     here = ok .starts (i - stride + 1) next
 
     -- its row has so many entries
-    long : back ≤ startOf m (i - stride + 1)
+    long : back ≤ rowStart m (i - stride + 1)
     long =
         let l : length (wholesIn seed m (i - stride)) ≡ length (x .left) + suc (length (x .right)) =
         ap length (x .row) ∙ length-append (x .left) (offOf seed m i (i - stride) ∷ x .right) in
@@ -83,15 +83,15 @@ module _ {seed : ℕ} {e : Extents} {c : Cell} {r : Reached} {offsets : List ℕ
         sum-step (λ k. length (wholesIn seed m k)) (i - stride) in
         rw (add-one (i - stride)) (omega (arith, starts-alike seed m (suc (i - stride)), x .many))
 
-    short : startOf m (i - stride + 1) ≤ startOf m i
+    short : rowStart m (i - stride + 1) ≤ rowStart m i
     short = start-mono m (i - stride + 1) i next
 
     -- its value
     value : at values (idx offsets (i - stride + 1) - back) ≡ ofInt binary64 (offOf seed m i (i - stride))
     value =
-        let q = startOf m (i - stride + 1) - back in
+        let q = rowStart m (i - stride + 1) - back in
         let b = x .many in
-        let k : q < startOf m i = omega (arith, long, short) in
+        let k : q < rowStart m i = omega (arith, long, short) in
         let w : startIn (wholesIn seed m) (suc (i - stride)) - (1 + length (x .right)) ≡ q =
         rw (starts-alike seed m (suc (i - stride)), add-one (i - stride), b) refl in
         rw here (ok .written q k) ∙ ap (ofInt binary64)
@@ -230,6 +230,6 @@ draws-small x = record { right = x .first; down = x .second; deeper = x .third }
 -- The length of a row by its faces.
 pub width-is : {e : Extents} {i : ℕ} {f : Faces} → FacesAre e i f → (s u l r d p n : ℕ)
     → s ≡ one (f .shallower) → u ≡ one (f .up) → l ≡ one (f .left) → r ≡ one (f .right) → d ≡ one (f .down) → p ≡ one (f .deeper)
-    → n ≡ s + u + l + 1 + r + d + p → (n ≡ length (columnsIn (meshOf e) i)) × (n ≤ 7)
+    → n ≡ s + u + l + 1 + r + d + p → (n ≡ length (columnsIn (gridOf e) i)) × (n ≤ 7)
 width-is {f = f} a s u l r d p n es eu el er ed ep en =
     (omega (arith, columns-count a), omega (arith, count-small f))

@@ -7,7 +7,7 @@ use native.Mathlib.Nat.{mod-one}
 use lib.Dec.{eqb, leb, ltb}
 use Rattle.refusal.specs.Outcome.{Outcome, accepted, ask}
 use Rattle.refusal.specs.Refusal.{badLoad}
-use Rattle.load.specs.Box.{Mesh, Axis, axesFrom, along, hasAhead, hasBehind, aheadOf, behindOf, cellsOf, box, allPositive, extentsOk}
+use Rattle.load.specs.Box.{Grid, Axis, axesFrom, along, hasAhead, hasBehind, aheadOf, behindOf, cellsOf, box, allPositive, extentsOk}
 use Rattle.load.specs.Load.{Load, Room, roomOk, loadOn, loadOf}
 
 -- the axis of an extent of 1 has no face
@@ -46,15 +46,15 @@ extents-flat es = rw (positive-flat es, cells-flat es) refl
 
 -- The box stays.
 pub box-flat : (es : List ℕ) → box (es ++ (1 ∷ [])) ≡ box es
-box-flat es = mesh-same (cells-flat es) (fun-ext (λ i. behind-flat es 1 i)) (fun-ext (λ i. ahead-flat es 1 i))
+box-flat es = grid-same (cells-flat es) (fun-ext (λ i. behind-flat es 1 i)) (fun-ext (λ i. ahead-flat es 1 i))
   where
-    mesh-same : {c d : ℕ} {b f a g : ℕ → List ℕ} → c ≡ d → b ≡ f → a ≡ g
-        → _≡_ {A = Mesh} (record { cells = c; behind = b; ahead = a }) (record { cells = d; behind = f; ahead = g })
-    mesh-same x y z = rw (x, y, z) refl
+    grid-same : {c d : ℕ} {b f a g : ℕ → List ℕ} → c ≡ d → b ≡ f → a ≡ g
+        → _≡_ {A = Grid} (record { cells = c; behind = b; ahead = a }) (record { cells = d; behind = f; ahead = g })
+    grid-same x y z = rw (x, y, z) refl
 
 -- The load stays, word for word, and so does its refusal.
 pub load-flat : (seed : ℕ) (es : List ℕ) (room : Room) → loadOf seed (es ++ (1 ∷ [])) room ≡ loadOf seed es room
 load-flat seed es room = ap₂ made (extents-flat es) (box-flat es)
   where
-    made : Bool → Mesh → Outcome Load
+    made : Bool → Grid → Outcome Load
     made ok m = ask (not (eqb seed 0) && ok && roomOk m room) badLoad (accepted (loadOn seed m))

@@ -16,16 +16,16 @@ use Rattle.pattern.specs.Pattern.{sumTo}
 use Rattle.load.specs.declared.cells.Extents.{Extents}
 use Rattle.load.specs.declared.cells.Cell.{Cell}
 use Rattle.load.specs.declared.cells.Faces.{Faces}
-use Rattle.load.specs.Box.{Mesh}
-use Rattle.load.specs.Load.{joined, conductanceOf, columnsIn, ownOf, offOf, wholesIn, startOf}
-use Rattle.load.specs.Steps.{optional, one, countOf, meshOf, Few, Placed, FacesAre, columnsBehind, columnsAhead}
+use Rattle.load.specs.Box.{Grid}
+use Rattle.load.specs.Load.{joined, conductanceOf, columnsIn, ownOf, offOf, wholesIn, rowStart}
+use Rattle.load.specs.Steps.{optional, one, countOf, gridOf, Few, Placed, FacesAre, columnsBehind, columnsAhead}
 use Rattle.load.proofs.Lists.{startIn, map-three, sum-same, joined-end, last-first, last-second, last-third}
 use Rattle.load.proofs.Rows.{ahead-is, behind-is, conductance-both}
 use Rattle.load.proofs.cells.Places.{faces-are}
 use Rattle.load.proofs.laying.Pushes.{length-optional}
 
 -- As many whole numbers stand in a row as columns.
-pub length-wholes : (seed : ℕ) (m : Mesh) (i : ℕ) → length (wholesIn seed m i) ≡ length (columnsIn m i)
+pub length-wholes : (seed : ℕ) (m : Grid) (i : ℕ) → length (wholesIn seed m i) ≡ length (columnsIn m i)
 unfolding wholesIn columnsIn
 length-wholes seed m i =
     let u = length-append (map (offOf seed m i) (m .behind i)) (pos (ownOf seed m i) ∷ map (offOf seed m i) (m .ahead i)) in
@@ -33,12 +33,12 @@ length-wholes seed m i =
     omega (arith, length-map (m .behind i) (offOf seed m i), length-map (m .ahead i) (offOf seed m i))
 
 -- So their rows start where those of the columns do.
-pub starts-alike : (seed : ℕ) (m : Mesh) (i : ℕ) → startIn (wholesIn seed m) i ≡ startOf m i
-unfolding startOf
+pub starts-alike : (seed : ℕ) (m : Grid) (i : ℕ) → startIn (wholesIn seed m) i ≡ rowStart m i
+unfolding rowStart
 starts-alike seed m i = sum-same (λ c. length (wholesIn seed m c)) (λ c. length (columnsIn m c)) i (length-wholes seed m)
 
 -- A cell j behind cell i: where the entry of row i in column j stands mirrored in row j.
-pub record Across (seed : ℕ) (m : Mesh) (i stride back : ℕ) : Type 0 where
+pub record Across (seed : ℕ) (m : Grid) (i stride back : ℕ) : Type 0 where
   pub behind : stride ≤ i
   pub before : i - stride < i
   pub left : List ℤ
@@ -48,13 +48,13 @@ pub record Across (seed : ℕ) (m : Mesh) (i stride back : ℕ) : Type 0 where
 
 module _ (seed : ℕ) (e : Extents) (j : ℕ) (f : Faces) (a : FacesAre e j f) where
   -- The row of cell j, by its faces.
-  pub wholes-are : wholesIn seed (meshOf e) j ≡ map (offOf seed (meshOf e) j) (meshOf e .behind j) ++ (pos (ownOf seed (meshOf e) j)
-      ∷ (optional (f .right) (offOf seed (meshOf e) j (j + 1))
-      ++ (optional (f .down) (offOf seed (meshOf e) j (j + e .width)) ++ optional (f .deeper) (offOf seed (meshOf e) j (j + e .width * e .height)))))
+  pub wholes-are : wholesIn seed (gridOf e) j ≡ map (offOf seed (gridOf e) j) (gridOf e .behind j) ++ (pos (ownOf seed (gridOf e) j)
+      ∷ (optional (f .right) (offOf seed (gridOf e) j (j + 1))
+      ++ (optional (f .down) (offOf seed (gridOf e) j (j + e .width)) ++ optional (f .deeper) (offOf seed (gridOf e) j (j + e .width * e .height)))))
   unfolding wholesIn
   wholes-are =
-      let g = offOf seed (meshOf e) j in
-      let t : map g (meshOf e .ahead j) ≡ optional (f .right) (g (j + 1)) ++ (optional (f .down) (g (j + e .width)) ++ optional (f .deeper) (g (j + e .width * e .height))) =
+      let g = offOf seed (gridOf e) j in
+      let t : map g (gridOf e .ahead j) ≡ optional (f .right) (g (j + 1)) ++ (optional (f .down) (g (j + e .width)) ++ optional (f .deeper) (g (j + e .width * e .height))) =
       ap (map g) (ahead-is a) ∙ map-three g (f .right) (f .down) (f .deeper) (j + 1) (j + e .width) (j + e .width * e .height) in
       rw t refl
 
@@ -64,12 +64,12 @@ le-mul : (w n : ℕ) → 0 < w → n ≤ w * n
 le-mul zero n h = absurd (omega arith)
 le-mul (suc w) n h = omega (arith, suc-mul w n)
 
-off-both : (seed : ℕ) (m : Mesh) (i j k : ℕ) → k ≡ i → offOf seed m j k ≡ offOf seed m i j
+off-both : (seed : ℕ) (m : Grid) (i j k : ℕ) → k ≡ i → offOf seed m j k ≡ offOf seed m i j
 off-both seed m i j k e = ap (λ (c : ℕ). negℤ (pos c)) (ap (conductanceOf seed m j) e ∙ conductance-both seed m j i)
 
 module _ (seed : ℕ) {e : Extents} {c : Cell} {f : Faces} (few : Few e) (placed : Placed e c) (deep : c .z < e .depth) (a : FacesAre e (c .number) f) where
-  abbrev m : Mesh
-  m = meshOf e
+  abbrev m : Grid
+  m = gridOf e
 
   abbrev i : ℕ
   i = c .number

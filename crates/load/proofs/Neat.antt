@@ -1,4 +1,4 @@
--- The box of any extents is a neat mesh: its faces are told from both sides, and a cell's neighbours rise. Assumes nothing.
+-- The box of any extents is a neat grid: its faces are told from both sides, and a cell's neighbours rise. Assumes nothing.
 use mathlib.Core.Path.{_≡_, refl, sym, ap, _∙_, subst}
 use mathlib.Core.Bool.{Bool, true, false, _&&_}
 use mathlib.Core.List.{List, [], _∷_, _++_}
@@ -11,7 +11,7 @@ use borrow.Author.Tests.{ltb-true, lt-ltb}
 use Rattle.store.proofs.store.Region.{le-or-lt}
 use Rattle.store.proofs.store.Each.{both-l, both-r}
 use Rattle.pattern.proofs.pattern.Number.{bool?}
-use Rattle.load.specs.Box.{Mesh, Axis, axesFrom, along, hasAhead, hasBehind, aheadOf, behindOf, cellsOf, box, allPositive}
+use Rattle.load.specs.Box.{Grid, Axis, axesFrom, along, hasAhead, hasBehind, aheadOf, behindOf, cellsOf, box, allPositive}
 use Rattle.load.specs.Steps.{optional}
 use Rattle.load.specs.Theorem.{Between, Among, Neat}
 use Rattle.load.proofs.Rising.{between-wide, between-on, between-optional, among-l, among-r, among-which, among-optional, optional-among}

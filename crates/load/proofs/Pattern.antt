@@ -1,4 +1,4 @@
--- The pattern of a load on a neat mesh is valid and rising, each entry has its mirror and each row its diagonal. Assumes nothing.
+-- The pattern of a load on a neat grid is valid and rising, each entry has its mirror and each row its diagonal. Assumes nothing.
 use mathlib.Core.Path.{_≡_, refl, sym, ap, _∙_}
 use mathlib.Core.List.{List, [], _∷_, _++_}
 use mathlib.Core.Logic.{_⊎_, inl, inr, ⊎-elim}
@@ -14,15 +14,15 @@ use Rattle.pattern.specs.Pattern.{sumTo, Pattern, entries, columnOf, rowOf, Val
 use Rattle.pattern.proofs.pattern.Number.{sum-zero, sum-step, sum-which}
 use Rattle.pattern.proofs.pattern.Row.{row-is}
 use mathlib.Core.Bool.{true}
-use Rattle.load.specs.Box.{Mesh, box, allPositive}
-use Rattle.load.specs.Load.{joined, columnsIn, startOf, patternOf}
+use Rattle.load.specs.Box.{Grid, box, allPositive}
+use Rattle.load.specs.Load.{joined, columnsIn, rowStart, patternOf}
 use Rattle.load.specs.Theorem.{Between, Among, Neat}
 use Rattle.load.proofs.Lists.{length-joined, joined-at}
 use Rattle.load.proofs.Rows.{start-next, start-mono}
 use Rattle.load.proofs.Rising.{between-wide, between-on, between-at, between-rise, among-place, place-among, among-l, among-r, among-which}
 use Rattle.load.proofs.Neat.{box-neat}
 
-module _ {m : Mesh} (neat : Neat m) where
+module _ {m : Grid} (neat : Neat m) where
   abbrev p : Pattern
   p = patternOf m
 
@@ -33,12 +33,12 @@ module _ {m : Mesh} (neat : Neat m) where
       between-on 0 i (m .cells) (m .behind i) (i ∷ m .ahead i) (omega arith) (omega arith) (neat .below i h) (omega arith, h, neat .above i h)
 
   -- Where row i starts.
-  pub offset-at : (i : ℕ) → i ≤ m .cells → idx (p .offsets) i ≡ startOf m i
-  offset-at i h = getD-tab (startOf m) (m .cells + 1) i 0 (omega arith)
+  pub offset-at : (i : ℕ) → i ≤ m .cells → idx (p .offsets) i ≡ rowStart m i
+  offset-at i h = getD-tab (rowStart m) (m .cells + 1) i 0 (omega arith)
 
   -- The number of entries.
-  pub entries-are : entries p ≡ startOf m (m .cells)
-  unfolding startOf
+  pub entries-are : entries p ≡ rowStart m (m .cells)
+  unfolding rowStart
   entries-are = length-joined (columnsIn m) (m .cells)
 
   -- Each entry is one of a row.
@@ -47,11 +47,11 @@ module _ {m : Mesh} (neat : Neat m) where
     pub place : ℕ
     pub inside : row < m .cells
     pub within : place < length (columnsIn m row)
-    pub is : e ≡ startOf m row + place
+    pub is : e ≡ rowStart m row + place
     pub column : columnOf p e ≡ idx (columnsIn m row) place
 
   pub standing : (e : ℕ) → e < entries p → Standing e
-  unfolding startOf
+  unfolding rowStart
   standing e h =
       let w = sum-which (λ c. length (columnsIn m c)) (m .cells) e (rw entries-are at h) in
       record {
@@ -65,9 +65,9 @@ module _ {m : Mesh} (neat : Neat m) where
 
   -- The pattern is valid.
   pub load-valid : Valid p
-  unfolding startOf
+  unfolding rowStart
   load-valid = record {
-    size = length-tab (startOf m) (m .cells + 1);
+    size = length-tab (rowStart m) (m .cells + 1);
     first = offset-at 0 (omega arith) ∙ sum-zero (λ c. length (columnsIn m c));
     rises = λ i h. rw (offset-at i (omega arith), offset-at (i + 1) (omega arith)) (start-mono m i (i + 1) (omega arith));
     last = offset-at (m .cells) (omega arith) ∙ sym entries-are;
@@ -77,20 +77,20 @@ module _ {m : Mesh} (neat : Neat m) where
   }
 
   -- An entry of a row stands in that row,
-  pub row-at : (r k : ℕ) → r < m .cells → k < length (columnsIn m r) → rowOf p (startOf m r + k) ≡ r
+  pub row-at : (r k : ℕ) → r < m .cells → k < length (columnsIn m r) → rowOf p (rowStart m r + k) ≡ r
   row-at r k h l =
-      row-is load-valid r (startOf m r + k) h (rw (offset-at r (omega arith)) (omega arith))
+      row-is load-valid r (rowStart m r + k) h (rw (offset-at r (omega arith)) (omega arith))
       (rw (offset-at (r + 1) (omega arith)) (omega (arith, start-next m r)))
 
   pub row-of : (e : ℕ) (h : e < entries p) → rowOf p e ≡ standing e h .row
   row-of e h = let s = standing e h in ap (rowOf p) (s .is) ∙ row-at (s .row) (s .place) (s .inside) (s .within)
 
   -- and is below the number of entries, in its column.
-  pub entry-at : (r k : ℕ) → r < m .cells → k < length (columnsIn m r) → startOf m r + k < entries p
+  pub entry-at : (r k : ℕ) → r < m .cells → k < length (columnsIn m r) → rowStart m r + k < entries p
   entry-at r k h l = omega (arith, entries-are, start-next m r, start-mono m (r + 1) (m .cells) (omega arith))
 
-  pub column-at : (r k : ℕ) → r < m .cells → k < length (columnsIn m r) → columnOf p (startOf m r + k) ≡ idx (columnsIn m r) k
-  unfolding startOf
+  pub column-at : (r k : ℕ) → r < m .cells → k < length (columnsIn m r) → columnOf p (rowStart m r + k) ≡ idx (columnsIn m r) k
+  unfolding rowStart
   column-at r k h l = joined-at (columnsIn m) (m .cells) r k 0 h l
 
   -- The columns rise within each row.
@@ -100,7 +100,7 @@ module _ {m : Mesh} (neat : Neat m) where
         let s = standing e (omega arith) in
         let t = standing (e + 1) h in
         let r : s .row ≡ t .row = sym (row-of e (omega arith)) ∙ same ∙ row-of (e + 1) h in
-        let st : startOf m (s .row) ≡ startOf m (t .row) = ap (startOf m) r in
+        let st : rowStart m (s .row) ≡ rowStart m (t .row) = ap (rowStart m) r in
         let k : t .place ≡ s .place + 1 = omega (arith, s .is, t .is) in
         let c : columnOf p (e + 1) ≡ idx (columnsIn m (s .row)) (s .place + 1) =
         t .column ∙ ap (λ (x : ℕ). idx (columnsIn m x) (t .place)) (sym r) ∙ ap (idx (columnsIn m (s .row))) k in
@@ -113,7 +113,7 @@ module _ {m : Mesh} (neat : Neat m) where
       → (e : ℕ) × (e < entries p) × (rowOf p e ≡ r) × (columnOf p e ≡ j)
   entry-for r j h w =
       let k = among-place j (columnsIn m r) w in
-      (startOf m r + k .0, entry-at r (k .0) h (k .1), row-at r (k .0) h (k .1), column-at r (k .0) h (k .1) ∙ k .2)
+      (rowStart m r + k .0, entry-at r (k .0) h (k .1), row-at r (k .0) h (k .1), column-at r (k .0) h (k .1) ∙ k .2)
 
   -- Columns are told from both sides.
   mirror-columns : (i j : ℕ) → i < m .cells → Among j (columnsIn m i) → Among i (columnsIn m j)

@@ -19,10 +19,10 @@ use Rattle.galerkin.proofs.exact.Whole.{zero-is}
 use Rattle.load.specs.declared.cells.Extents.{Extents}
 use Rattle.load.specs.declared.cells.Faces.{Faces}
 use Rattle.load.specs.declared.drawing.Draws.{Draws}
-use Rattle.load.specs.Box.{Mesh, axesFrom, along, hasAhead, hasBehind, aheadOf, behindOf}
+use Rattle.load.specs.Box.{Grid, axesFrom, along, hasAhead, hasBehind, aheadOf, behindOf}
 use Rattle.load.specs.Draw.{nextOf, stateOf, drawOf}
-use Rattle.load.specs.Load.{joined, placeIn, total, drawsBefore, faceOf, conductanceOf, columnsIn, ownOf, offOf, wholesIn, startOf}
-use Rattle.load.specs.Steps.{optional, one, countOf, meshOf, axis₀, axis₁, axis₂, FacesAre, after, taken, DrewAll, columnsBehind, columnsAhead, valuesAhead}
+use Rattle.load.specs.Load.{joined, placeIn, total, drawsBefore, faceOf, conductanceOf, columnsIn, ownOf, offOf, wholesIn, rowStart}
+use Rattle.load.specs.Steps.{optional, one, countOf, gridOf, axis₀, axis₁, axis₂, FacesAre, after, taken, DrewAll, columnsBehind, columnsAhead, valuesAhead}
 use Rattle.load.proofs.Lists.{map-three, total-three, optional-same, place-hit, place-skip, sum-same}
 use Rattle.load.proofs.Whole.{neg-off}
 use Rattle.load.proofs.laying.Pushes.{length-three, one-small}
@@ -31,12 +31,12 @@ use Rattle.load.proofs.laying.Pushes.{length-three, one-small}
 
 module _ {e : Extents} {i : ℕ} {f : Faces} (a : FacesAre e i f) where
   -- The cells ahead, by the faces.
-  pub ahead-is : meshOf e .ahead i ≡ columnsAhead e i f
+  pub ahead-is : gridOf e .ahead i ≡ columnsAhead e i f
   unfolding aheadOf axesFrom
   ahead-is = rw (← a .right, ← a .down, ← a .deeper, one-mul (e .width), append-nil (optional (f .deeper) (i + e .width * e .height))) refl
 
   -- The cells behind.
-  pub behind-is : meshOf e .behind i ≡ columnsBehind e i f
+  pub behind-is : gridOf e .behind i ≡ columnsBehind e i f
   unfolding behindOf axesFrom
   behind-is = rw (
     ← a .left,
@@ -47,12 +47,12 @@ module _ {e : Extents} {i : ℕ} {f : Faces} (a : FacesAre e i f) where
   ) refl
 
   -- So the columns.
-  pub columns-are : columnsIn (meshOf e) i ≡ columnsBehind e i f ++ (i ∷ columnsAhead e i f)
+  pub columns-are : columnsIn (gridOf e) i ≡ columnsBehind e i f ++ (i ∷ columnsAhead e i f)
   unfolding columnsIn
   columns-are = rw (behind-is, ahead-is) refl
 
   -- As many as the faces say.
-  pub columns-count : length (columnsIn (meshOf e) i) ≡ countOf f
+  pub columns-count : length (columnsIn (gridOf e) i) ≡ countOf f
   columns-count =
       let u = length-append (columnsBehind e i f) (i ∷ columnsAhead e i f) in
       let v = length-three (f .shallower) (f .up) (f .left) (i - e .width * e .height) (i - e .width) (i - 1) in
@@ -78,31 +78,31 @@ pub count-small : (f : Faces) → countOf f ≤ 7
 count-small f = omega (arith, one-small (f .left), one-small (f .up), one-small (f .shallower), one-small (f .right), one-small (f .down), one-small (f .deeper))
 
 -- so row i starts at 7 i at most.
-pub start-small : (e : Extents) (i : ℕ) → startOf (meshOf e) i ≤ 7 * i
-unfolding startOf sumTo
+pub start-small : (e : Extents) (i : ℕ) → rowStart (gridOf e) i ≤ 7 * i
+unfolding rowStart sumTo
 start-small e zero = omega arith
 start-small e (suc i) = omega (arith, start-small e i, columns-count (faces-at e i), count-small (facesAt e i))
 
 -- The next row starts after this one.
-pub start-next : (m : Mesh) (i : ℕ) → startOf m (i + 1) ≡ startOf m i + length (columnsIn m i)
-unfolding startOf
+pub start-next : (m : Grid) (i : ℕ) → rowStart m (i + 1) ≡ rowStart m i + length (columnsIn m i)
+unfolding rowStart
 start-next m i = rw (add-one i) (sum-step (λ c. length (columnsIn m c)) i)
 
 -- Rows start no earlier than those before.
-pub start-mono : (m : Mesh) (i j : ℕ) → i ≤ j → startOf m i ≤ startOf m j
-unfolding startOf
+pub start-mono : (m : Grid) (i j : ℕ) → i ≤ j → rowStart m i ≤ rowStart m j
+unfolding rowStart
 start-mono m i j h = sum-mono (λ c. length (columnsIn m c)) i j h
 
 -- ---- conductances
 
 -- A face has one conductance, whichever cell is named first.
-pub conductance-both : (seed : ℕ) (m : Mesh) (i j : ℕ) → conductanceOf seed m i j ≡ conductanceOf seed m j i
+pub conductance-both : (seed : ℕ) (m : Grid) (i j : ℕ) → conductanceOf seed m i j ≡ conductanceOf seed m j i
 unfolding conductanceOf
 conductance-both seed m i j = rw (min-comm i j, max-comm i j) refl
 
 module _ (seed : ℕ) {e : Extents} {i : ℕ} {f : Faces} (a : FacesAre e i f) where
-  abbrev m : Mesh
-  m = meshOf e
+  abbrev m : Grid
+  m = gridOf e
 
   -- The number of draws before the next cell.
   pub draws-next : drawsBefore m (i + 1) ≡ drawsBefore m i + (one (f .right) + one (f .down) + one (f .deeper))

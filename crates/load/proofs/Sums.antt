@@ -15,8 +15,8 @@ use Rattle.galerkin.specs.Product.{Σℤ, when}
 use Rattle.galerkin.proofs.exact.Sums.{Σ-same, Σ-when, Σ-one}
 use Rattle.pattern.specs.Pattern.{sumTo, entries, rowOf}
 use Rattle.pattern.proofs.pattern.Number.{same?, sum-step}
-use Rattle.load.specs.Box.{Mesh, cellsOf, box, allPositive, extentsOk}
-use Rattle.load.specs.Load.{joined, total, conductanceOf, columnsIn, ownOf, offOf, wholesIn, startOf, patternOf, wholesOf}
+use Rattle.load.specs.Box.{Grid, cellsOf, box, allPositive, extentsOk}
+use Rattle.load.specs.Load.{joined, total, conductanceOf, columnsIn, ownOf, offOf, wholesIn, rowStart, patternOf, wholesOf}
 use Rattle.load.specs.Theorem.{Neat, wholeAt}
 use Rattle.load.proofs.Lists.{startIn, joined-at}
 use Rattle.load.proofs.Mirrors.{length-wholes, starts-alike}
@@ -61,7 +61,7 @@ unfolding sumList
 sum-on [] r = sym (+ℤ-idl (sumList r))
 sum-on (x ∷ l) r = ap (λ (z : ℤ). x +ℤ z) (sum-on l r) ∙ sym (+ℤ-assoc x (sumList l) (sumList r))
 
-module _ (seed : ℕ) (m : Mesh) where
+module _ (seed : ℕ) (m : Grid) where
   -- Off the diagonal a row sums to less its conductances,
   sum-off : (i : ℕ) (l : List ℕ) → sumList (map (offOf seed m i) l) ≡ negℤ (pos (total (conductanceOf seed m i) l))
   unfolding sumList total
@@ -94,11 +94,11 @@ module _ (seed : ℕ) (m : Mesh) where
 
     -- The entries of row r, each asked whether it stands in row i.
     in-row : (i r : ℕ) → r < m .cells
-        → Σℤ (length (columnsIn m r)) (λ k. when (eqb (rowOf (patternOf m) (startOf m r + k)) i) (wholeAt seed m (startOf m r + k))) ≡ when (eqb i r) (sumList (wholesIn seed m r))
+        → Σℤ (length (columnsIn m r)) (λ k. when (eqb (rowOf (patternOf m) (rowStart m r + k)) i) (wholeAt seed m (rowStart m r + k))) ≡ when (eqb i r) (sumList (wholesIn seed m r))
     unfolding wholesOf
     in-row i r h =
         let n = length-wholes seed m r in
-        Σ-same (length (columnsIn m r)) (λ k. when (eqb (rowOf (patternOf m) (startOf m r + k)) i) (wholeAt seed m (startOf m r + k)))
+        Σ-same (length (columnsIn m r)) (λ k. when (eqb (rowOf (patternOf m) (rowStart m r + k)) i) (wholeAt seed m (rowStart m r + k)))
         (λ k. when (eqb i r) (getD (wholesIn seed m r) k (pos 0)))
         (λ k l. ap₂ when (ap (λ (x : ℕ). eqb x i) (row-at neat r k h l) ∙ eqb-both r i)
         (ap (λ (s : ℕ). getD (joined (wholesIn seed m) (m .cells)) (s + k) (pos 0)) (sym (starts-alike seed m r))
@@ -108,7 +108,7 @@ module _ (seed : ℕ) (m : Mesh) where
 
     -- The entries of each row sum to 1.
     pub load-sums : (i : ℕ) → i < m .cells → Σℤ (entries (patternOf m)) (λ e. when (eqb (rowOf (patternOf m) e) i) (wholeAt seed m e)) ≡ pos 1
-    unfolding startOf
+    unfolding rowStart
     load-sums i h =
         let g : ℕ → ℤ = λ e. when (eqb (rowOf (patternOf m) e) i) (wholeAt seed m e) in
         ap (λ (n : ℕ). Σℤ n g) (entries-are neat)

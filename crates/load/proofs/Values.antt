@@ -19,8 +19,8 @@ use Rattle.galerkin.proofs.exact.Whole.{ofInt-whole}
 use Rattle.pattern.specs.Pattern.{sumTo, Pattern, entries, columnOf, rowOf}
 use Rattle.pattern.proofs.pattern.Number.{bool?, same?}
 use Rattle.galerkin_theorem.specs.Theorem.{WholeValues}
-use Rattle.load.specs.Box.{Mesh, Axis, axesFrom, hasAhead, hasBehind, aheadOf, behindOf, cellsOf, box, allPositive, extentsOk}
-use Rattle.load.specs.Load.{joined, total, conductanceOf, columnsIn, ownOf, offOf, wholesIn, startOf, patternOf, wholesOf, valuesOf}
+use Rattle.load.specs.Box.{Grid, Axis, axesFrom, hasAhead, hasBehind, aheadOf, behindOf, cellsOf, box, allPositive, extentsOk}
+use Rattle.load.specs.Load.{joined, total, conductanceOf, columnsIn, ownOf, offOf, wholesIn, rowStart, patternOf, wholesOf, valuesOf}
 use Rattle.load.specs.Steps.{optional}
 use Rattle.load.specs.Theorem.{Between, Neat, wholeAt}
 use Rattle.load.proofs.Lists.{startIn, length-joined, joined-at}
@@ -33,12 +33,12 @@ use Rattle.load.proofs.Neat.{box-neat, ahead-two, behind-two}
 use Rattle.load.proofs.Pattern.{Standing, standing, row-of, entries-are}
 
 -- Few cells, and few faces to a cell.
-pub record Lean (m : Mesh) : Type 0 where
+pub record Lean (m : Grid) : Type 0 where
   pub few : m .cells ≤ 65536
   pub behind : (i : ℕ) → length (m .behind i) ≤ 16
   pub ahead : (i : ℕ) → length (m .ahead i) ≤ 16
 
-module _ (seed : ℕ) (m : Mesh) where
+module _ (seed : ℕ) (m : Grid) where
   -- the entry of row i in column j
   abbrev entryOf : ℕ → ℕ → ℤ
   entryOf i j = cond (eqb i j) (pos (ownOf seed m i)) (offOf seed m i j)
@@ -113,8 +113,8 @@ module _ (seed : ℕ) (m : Mesh) where
       sizes-small (suc n) b z h = omega (arith, sizes-small n b z (λ e l. h e (omega arith)), h n (omega arith), suc-mul n b)
 
       -- There are at most 33 entries to a row.
-      starts-small : (i : ℕ) → startOf m i ≤ 33 * i
-      unfolding startOf sumTo columnsIn
+      starts-small : (i : ℕ) → rowStart m i ≤ 33 * i
+      unfolding rowStart sumTo columnsIn
       starts-small zero = omega arith
       starts-small (suc i) = omega (arith, starts-small i, length-append (m .behind i) (i ∷ m .ahead i), lean .behind i, lean .ahead i)
 
@@ -122,7 +122,7 @@ module _ (seed : ℕ) (m : Mesh) where
       pub value-is : (e : ℕ) → e < entries (patternOf m) → at (valuesOf seed m) e ≡ ofInt binary64 (wholeAt seed m e)
       unfolding valuesOf wholesOf
       value-is e h =
-          let lw : length (wholesOf seed m) ≡ startOf m (m .cells) = length-joined (wholesIn seed m) (m .cells) ∙ starts-alike seed m (m .cells) in
+          let lw : length (wholesOf seed m) ≡ rowStart m (m .cells) = length-joined (wholesIn seed m) (m .cells) ∙ starts-alike seed m (m .cells) in
           let lm : length (map (ofInt binary64) (wholesOf seed m)) ≡ length (wholesOf seed m) = length-map (wholesOf seed m) (ofInt binary64) in
           let b : e < length (map (ofInt binary64) (wholesOf seed m)) = omega (arith, entries-are neat) in
           getD-in (map (ofInt binary64) (wholesOf seed m)) e nan (ofInt binary64 (pos 0)) b ∙ List·getD-map (ofInt binary64) (wholesOf seed m) e (pos 0)

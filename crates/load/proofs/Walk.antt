@@ -17,10 +17,10 @@ use Rattle.pattern.specs.Pattern.{sumTo}
 use Rattle.load.specs.declared.cells.Extents.{Extents}
 use Rattle.load.specs.declared.cells.Cell.{Cell}
 use Rattle.load.specs.declared.laying.Reached.{Reached}
-use Rattle.load.specs.Box.{Mesh}
+use Rattle.load.specs.Box.{Grid}
 use Rattle.load.specs.Draw.{stateOf}
-use Rattle.load.specs.Load.{joined, drawsBefore, columnsIn, wholesIn, startOf}
-use Rattle.load.specs.Steps.{meshOf, Few, Placed, Pushed, CellOk, CellDone, CellsOk, CellsDone}
+use Rattle.load.specs.Load.{joined, drawsBefore, columnsIn, wholesIn, rowStart}
+use Rattle.load.specs.Steps.{gridOf, Few, Placed, Pushed, CellOk, CellDone, CellsOk, CellsDone}
 use Rattle.load.proofs.Lists.{length-joined}
 use Rattle.load.proofs.Rows.{start-next, start-mono, start-small}
 use Rattle.load.proofs.Mirrors.{starts-alike}
@@ -50,13 +50,13 @@ pub record Counting (e : Extents) (cells entries : ℕ) (c : Cell) (i : ℕ) : T
   pub placed : Placed e c
   pub number : c .number ≡ i
   pub within : i ≤ cells
-  pub counted : entries ≡ startOf (meshOf e) i
+  pub counted : entries ≡ rowStart (gridOf e) i
   pub small : entries ≤ 7 * i
   pub few : cells ≤ 65536
 
 pub counting-start : {e : Extents} {cells : ℕ} → Few e → cells ≡ e .width * e .height * e .depth
     → Counting e cells 0 (record { number = 0; x = 0; y = 0; z = 0 }) 0
-unfolding startOf sumTo
+unfolding rowStart sumTo
 counting-start few all = record {
   placed = placed-first few;
   number = refl;
@@ -66,11 +66,11 @@ counting-start few all = record {
   few = omega (arith, few .cells);
 }
 
-pub counting-on : {e : Extents} {cells entries i w : ℕ} {c d : Cell} → Counting e cells entries c i → i < cells → w ≡ length (columnsIn (meshOf e) (c .number))
+pub counting-on : {e : Extents} {cells entries i w : ℕ} {c d : Cell} → Counting e cells entries c i → i < cells → w ≡ length (columnsIn (gridOf e) (c .number))
     → Placed e d → d .number ≡ c .number + 1 → Counting e cells (entries + w) d (i + 1)
 counting-on {e} {cells} {entries} {i} {w} {c} {d} k h width placed next =
-    let n : w ≡ length (columnsIn (meshOf e) i) = width ∙ ap (λ (j : ℕ). length (columnsIn (meshOf e) j)) (k .number) in
-    let s : entries + w ≡ startOf (meshOf e) (i + 1) = omega (arith, k .counted, start-next (meshOf e) i) in
+    let n : w ≡ length (columnsIn (gridOf e) i) = width ∙ ap (λ (j : ℕ). length (columnsIn (gridOf e) j)) (k .number) in
+    let s : entries + w ≡ rowStart (gridOf e) (i + 1) = omega (arith, k .counted, start-next (gridOf e) i) in
     record {
       placed = placed;
       number = omega (arith, k .number);
@@ -80,8 +80,8 @@ counting-on {e} {cells} {entries} {i} {w} {c} {d} k h width placed next =
       few = k .few;
     }
 
-pub counting-done : {e : Extents} {cells entries i : ℕ} {c : Cell} → Counting e cells entries c i → cells ≤ i → entries ≡ startOf (meshOf e) cells
-counting-done {e} {cells} {entries} {i} k h = k .counted ∙ ap (startOf (meshOf e)) (omega (arith, k .within))
+pub counting-done : {e : Extents} {cells entries i : ℕ} {c : Cell} → Counting e cells entries c i → cells ≤ i → entries ≡ rowStart (gridOf e) cells
+counting-done {e} {cells} {entries} {i} k h = k .counted ∙ ap (rowStart (gridOf e)) (omega (arith, k .within))
 
 -- ---- laying
 
@@ -102,7 +102,7 @@ pub record Laying (seed : ℕ) (e : Extents) (cells : ℕ) (O O' C C' : List ℕ
 
 pub laying-start : {seed : ℕ} {e : Extents} {cells : ℕ} {O C : List ℕ} {F : List Float} → CellsOk e cells (length O) (length C) (length F)
     → Laying seed e cells O O C C F F (record { end = 0; state = seed }) (record { number = 0; x = 0; y = 0; z = 0 }) 0
-unfolding startOf sumTo joined tab drawsBefore stateOf
+unfolding rowStart sumTo joined tab drawsBefore stateOf
 laying-start {O = O} {C = C} {F = F} ok = record {
   placed = placed-first (ok .few);
   number = refl;
@@ -120,47 +120,47 @@ laying-start {O = O} {C = C} {F = F} ok = record {
 
 module _ {seed : ℕ} {e : Extents} {cells : ℕ} {O O' C C' : List ℕ} {F F' : List Float} {r : Reached} {c : Cell} {i : ℕ}
     (ok : CellsOk e cells (length O) (length C) (length F)) (k : Laying seed e cells O O' C C' F F' r c i) (h : i < cells) where
-  abbrev m : Mesh
-  m = meshOf e
+  abbrev m : Grid
+  m = gridOf e
 
   -- The offset of this row, written.
-  offset-written : set O' i (r .end) ≡ splice 0 (tab (startOf m) (i + 1)) O
+  offset-written : set O' i (r .end) ≡ splice 0 (tab (rowStart m) (i + 1)) O
   unfolding tab
   offset-written =
-      let w = set-splice-end 0 (tab (startOf m) i) O (r .end) in
-      let n : 0 + length (tab (startOf m) i) ≡ i = omega (arith, length-tab (startOf m) i) in
+      let w = set-splice-end 0 (tab (rowStart m) i) O (r .end) in
+      let n : 0 + length (tab (rowStart m) i) ≡ i = omega (arith, length-tab (rowStart m) i) in
       ap (λ (l : List ℕ). set l i (r .end)) (k .done .offsets)
-      ∙ ap (λ (j : ℕ). set (splice 0 (tab (startOf m) i) O) j (r .end)) (sym n) ∙ w
-      ∙ ap (λ (v : ℕ). splice 0 (tab (startOf m) i ++ (v ∷ [])) O) (k .done .end)
-      ∙ ap (λ (j : ℕ). splice 0 (tab (startOf m) j) O) (sym (add-one i))
+      ∙ ap (λ (j : ℕ). set (splice 0 (tab (rowStart m) i) O) j (r .end)) (sym n) ∙ w
+      ∙ ap (λ (v : ℕ). splice 0 (tab (rowStart m) i ++ (v ∷ [])) O) (k .done .end)
+      ∙ ap (λ (j : ℕ). splice 0 (tab (rowStart m) j) O) (sym (add-one i))
 
   -- What the next cell's row requires.
   pub cell-ok : CellOk seed e c r (set O' i (r .end)) (length C') F'
   cell-ok =
       let n = k .number in
-      let room : startOf m (c .number + 1) ≤ startOf m cells = start-mono m (c .number + 1) cells (omega arith) in
+      let room : rowStart m (c .number + 1) ≤ rowStart m cells = start-mono m (c .number + 1) cells (omega arith) in
       let done = k .done in
       record {
         few = ok .few;
         placed = k .placed;
         deep = deep-is (k .placed) (ok .all) (omega arith);
         small = omega (arith, k .few);
-        end = done .end ∙ ap (startOf m) (sym n);
+        end = done .end ∙ ap (rowStart m) (sym n);
         state = done .state ∙ ap (λ (j : ℕ). stateOf seed (drawsBefore m j)) (sym n);
         near = omega (arith, length-set O' i (r .end), done .size, ok .offsets);
         room = omega (arith, done .rows .sizeC, ok .room);
         places = omega (arith, done .rows .sizeF, ok .places);
         starts = λ j l.
             let a : j < i + 1 = omega arith in
-            let b : j < length (tab (startOf m) (i + 1)) = omega (arith, length-tab (startOf m) (i + 1)) in
+            let b : j < length (tab (rowStart m) (i + 1)) = omega (arith, length-tab (rowStart m) (i + 1)) in
             let q : 0 + j < length O = omega (arith, ok .offsets) in
             ap (λ (v : List ℕ). idx v j) offset-written
-            ∙ ap (idx (splice 0 (tab (startOf m) (i + 1)) O)) (sym (zero-add j))
-            ∙ getD-splice-in 0 (tab (startOf m) (i + 1)) O j 0 b q ∙ getD-tab (startOf m) (i + 1) j 0 a;
+            ∙ ap (idx (splice 0 (tab (rowStart m) (i + 1)) O)) (sym (zero-add j))
+            ∙ getD-splice-in 0 (tab (rowStart m) (i + 1)) O j 0 b q ∙ getD-tab (rowStart m) (i + 1) j 0 a;
         written = λ q l.
             let rows = joined (wholesIn seed m) i in
-            let a : q < startOf m i = rw n at l in
-            let lr : length rows ≡ startOf m i = length-joined (wholesIn seed m) i ∙ starts-alike seed m i in
+            let a : q < rowStart m i = rw n at l in
+            let lr : length rows ≡ rowStart m i = length-joined (wholesIn seed m) i ∙ starts-alike seed m i in
             let lm : length (map (ofInt binary64) rows) ≡ length rows = length-map rows (ofInt binary64) in
             let s = start-mono m i cells (omega arith) in
             let b : q < length (map (ofInt binary64) rows) = omega arith in
@@ -183,7 +183,7 @@ module _ {seed : ℕ} {e : Extents} {cells : ℕ} {O O' C C' : List ℕ} {F F' :
       let row : Pushed (r .end) (columnsIn m i) (map (ofInt binary64) (wholesIn seed m i)) C' C'' F' F'' (s .end) = rw n at (x .row) in
       let rows : Pushed 0 (joined (columnsIn m) i ++ columnsIn m i) (map (ofInt binary64) (joined (wholesIn seed m) i) ++ map (ofInt binary64) (wholesIn seed m i)) C C'' F F'' (s .end) =
       pushed-on (done .rows) row in
-      let end : s .end ≡ startOf m (i + 1) = x .end ∙ ap (λ (j : ℕ). startOf m (j + 1)) n in
+      let end : s .end ≡ rowStart m (i + 1) = x .end ∙ ap (λ (j : ℕ). rowStart m (j + 1)) n in
       record {
         placed = placed;
         number = omega arith;

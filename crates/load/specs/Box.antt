@@ -8,7 +8,7 @@ use lib.Dec.{leb, ltb}
 -- ---- cells and faces
 
 -- cells 0, .., cells - 1, and for each the cells across its faces: those behind it, with smaller numbers, and those ahead of it
-pub record Mesh : Type 0 where
+pub record Grid : Type 0 where
   pub cells : ℕ
   pub behind : ℕ → List ℕ
   pub ahead : ℕ → List ℕ
@@ -53,7 +53,7 @@ cellsOf [] = 1
 cellsOf (extent ∷ rest) = extent * cellsOf rest
 
 -- the box of these extents
-abbrev pub box : List ℕ → Mesh
+abbrev pub box : List ℕ → Grid
 box extents = record {
   cells = cellsOf extents;
   behind = behindOf (axesFrom 1 extents);

@@ -15,9 +15,9 @@ abbrev pub roomOf : List ℕ → List ℕ → List Float → Room
 roomOf O C F = record { offsets = length O; columns = length C; values = length F }
 
 -- what a call answers: the rows and entries of the load, or the refusal
-abbrev pub answerOf : Outcome Load → Loaded
-answerOf (accepted l) = Loaded.Made (record { rows = l .pattern .rows; entries = entries (l .pattern) })
-answerOf (refused q) = Loaded.Refused q
+abbrev pub loadedOf : Outcome Load → Loaded
+loadedOf (accepted l) = Loaded.Made (record { rows = l .pattern .rows; entries = entries (l .pattern) })
+loadedOf (refused q) = Loaded.Refused q
 
 -- what it leaves of a slice: the load over its start, and the rest as it was
 abbrev pub leavesOf : {A : Type 0} → (Load → List A) → Outcome Load → List A → List A
@@ -26,7 +26,7 @@ leavesOf part (refused q) F = F
 
 -- A call: its answer, and what it leaves of the three slices.
 pub record Loading (o : Outcome Load) (O O' C C' : List ℕ) (F F' : List Float) (r : Loaded) : Type 0 where
-  pub answer : r ≡ answerOf o
+  pub answer : r ≡ loadedOf o
   pub offsets : O' ≡ leavesOf (λ l. l .pattern .offsets) o O
   pub columns : C' ≡ leavesOf (λ l. l .pattern .columns) o C
   pub values : F' ≡ leavesOf (λ l. l .values) o F

@@ -18,9 +18,9 @@ use Rattle.load.specs.declared.loading.Asked.{Asked}
 use Rattle.load.specs.declared.cells.Extents.{Extents}
 use Rattle.load.specs.declared.cells.Cell.{Cell}
 use Rattle.load.specs.declared.cells.Faces.{Faces}
-use Rattle.load.specs.Box.{Mesh, Axis, hasAhead, hasBehind, box, cellsOf, extentsOk}
+use Rattle.load.specs.Box.{Grid, Axis, hasAhead, hasBehind, box, cellsOf, extentsOk}
 use Rattle.load.specs.Draw.{nextOf, stateOf, drawnOf}
-use Rattle.load.specs.Load.{joined, drawsBefore, columnsIn, wholesIn, startOf, Room, roomOk}
+use Rattle.load.specs.Load.{joined, drawsBefore, columnsIn, wholesIn, rowStart, Room, roomOk}
 
 -- ---- draws
 
@@ -41,8 +41,8 @@ abbrev pub listOf : Extents → List ℕ
 listOf e = e .width ∷ e .height ∷ e .depth ∷ []
 
 -- the box of these extents
-abbrev pub meshOf : Extents → Mesh
-meshOf e = box (listOf e)
+abbrev pub gridOf : Extents → Grid
+gridOf e = box (listOf e)
 
 -- the first axis
 abbrev pub axis₀ : Extents → Axis
@@ -196,35 +196,35 @@ pub record CellOk (seed : ℕ) (e : Extents) (c : Cell) (r : Reached) (offsets :
   pub placed : Placed e c
   pub deep : c .z < e .depth
   pub small : c .number < 65536
-  pub end : r .end ≡ startOf (meshOf e) (c .number)
-  pub state : r .state ≡ stateOf seed (drawsBefore (meshOf e) (c .number))
+  pub end : r .end ≡ rowStart (gridOf e) (c .number)
+  pub state : r .state ≡ stateOf seed (drawsBefore (gridOf e) (c .number))
   pub near : c .number < length offsets
-  pub room : startOf (meshOf e) (c .number + 1) ≤ size
-  pub places : startOf (meshOf e) (c .number + 1) ≤ length values
-  pub starts : (j : ℕ) → j ≤ c .number → idx offsets j ≡ startOf (meshOf e) j
-  pub written : (q : ℕ) → q < startOf (meshOf e) (c .number)
-      → at values q ≡ ofInt binary64 (getD (joined (wholesIn seed (meshOf e)) (c .number)) q (pos 0))
+  pub room : rowStart (gridOf e) (c .number + 1) ≤ size
+  pub places : rowStart (gridOf e) (c .number + 1) ≤ length values
+  pub starts : (j : ℕ) → j ≤ c .number → idx offsets j ≡ rowStart (gridOf e) j
+  pub written : (q : ℕ) → q < rowStart (gridOf e) (c .number)
+      → at values q ≡ ofInt binary64 (getD (joined (wholesIn seed (gridOf e)) (c .number)) q (pos 0))
 
 -- The row of cell i is laid behind them.
 pub record CellDone (seed : ℕ) (e : Extents) (i : ℕ) (before : Reached) (C C' : List ℕ) (F F' : List Float) (r : Reached) : Type 0 where
-  pub row : Pushed (before .end) (columnsIn (meshOf e) i) (map (ofInt binary64) (wholesIn seed (meshOf e) i)) C C' F F' (r .end)
-  pub end : r .end ≡ startOf (meshOf e) (i + 1)
-  pub state : r .state ≡ stateOf seed (drawsBefore (meshOf e) (i + 1))
+  pub row : Pushed (before .end) (columnsIn (gridOf e) i) (map (ofInt binary64) (wholesIn seed (gridOf e) i)) C C' F F' (r .end)
+  pub end : r .end ≡ rowStart (gridOf e) (i + 1)
+  pub state : r .state ≡ stateOf seed (drawsBefore (gridOf e) (i + 1))
 
 -- There is room for the rows of so many cells, all that the box has.
 pub record CellsOk (e : Extents) (cells sizeO sizeC sizeF : ℕ) : Type 0 where
   pub few : Few e
   pub all : cells ≡ e .width * e .height * e .depth
   pub offsets : cells + 1 ≤ sizeO
-  pub room : startOf (meshOf e) cells ≤ sizeC
-  pub places : startOf (meshOf e) cells ≤ sizeF
+  pub room : rowStart (gridOf e) cells ≤ sizeC
+  pub places : rowStart (gridOf e) cells ≤ sizeF
 
 -- The rows of the first n cells are laid, and their offsets.
 pub record CellsDone (seed : ℕ) (e : Extents) (n : ℕ) (O O' C C' : List ℕ) (F F' : List Float) (r : Reached) : Type 0 where
-  pub offsets : O' ≡ splice 0 (tab (startOf (meshOf e)) n) O
-  pub rows : Pushed 0 (joined (columnsIn (meshOf e)) n) (map (ofInt binary64) (joined (wholesIn seed (meshOf e)) n)) C C' F F' (r .end)
-  pub end : r .end ≡ startOf (meshOf e) n
-  pub state : r .state ≡ stateOf seed (drawsBefore (meshOf e) n)
+  pub offsets : O' ≡ splice 0 (tab (rowStart (gridOf e)) n) O
+  pub rows : Pushed 0 (joined (columnsIn (gridOf e)) n) (map (ofInt binary64) (joined (wholesIn seed (gridOf e)) n)) C C' F F' (r .end)
+  pub end : r .end ≡ rowStart (gridOf e) n
+  pub state : r .state ≡ stateOf seed (drawsBefore (gridOf e) n)
   pub size : length O' ≡ length O
 
 -- ---- the call
@@ -238,22 +238,22 @@ pub record Writable (e : Extents) (cells entries : ℕ) (room : Room) : Type 0 w
   pub few : Few e
   pub all : cells ≡ e .width * e .height * e .depth
   pub same : cells ≡ cellsOf (listOf e)
-  pub counted : entries ≡ startOf (meshOf e) cells
+  pub counted : entries ≡ rowStart (gridOf e) cells
   pub offsets : cells + 1 ≤ room .offsets
   pub columns : entries ≤ room .columns
   pub values : entries ≤ room .values
 
 -- Whether there is a load, and then its cells and entries.
 pub record AskedOf (seed : ℕ) (e : Extents) (room : Room) (r : Asked) : Type 0 where
-  pub is : r .ok ≡ (not (eqb seed 0) && extentsOk (listOf e) && roomOk (meshOf e) room)
+  pub is : r .ok ≡ (not (eqb seed 0) && extentsOk (listOf e) && roomOk (gridOf e) room)
   pub good : r .ok ≡ true → Writable e (r .cells) (r .entries) room
 
 -- The load of so many cells is written.
 pub record Written (seed : ℕ) (e : Extents) (cells : ℕ) (O O' C C' : List ℕ) (F F' : List Float) (r : ℕ) : Type 0 where
-  pub offsets : O' ≡ splice 0 (tab (startOf (meshOf e)) (cells + 1)) O
-  pub columns : C' ≡ splice 0 (joined (columnsIn (meshOf e)) cells) C
-  pub values : F' ≡ splice 0 (map (ofInt binary64) (joined (wholesIn seed (meshOf e)) cells)) F
-  pub end : r ≡ startOf (meshOf e) cells
+  pub offsets : O' ≡ splice 0 (tab (rowStart (gridOf e)) (cells + 1)) O
+  pub columns : C' ≡ splice 0 (joined (columnsIn (gridOf e)) cells) C
+  pub values : F' ≡ splice 0 (map (ofInt binary64) (joined (wholesIn seed (gridOf e)) cells)) F
+  pub end : r ≡ rowStart (gridOf e) cells
   pub sizeO : length O' ≡ length O
   pub sizeC : length C' ≡ length C
   pub sizeF : length F' ≡ length F

@@ -4,8 +4,8 @@ ghost use mathlib.Core.Bool.{true, cond};
 ghost use mathlib.Core.List.{_∷_, _++_};
 ghost use Prim.Native.Nat.{_+_, _-_, _*_, _<_, _≤_};
 ghost use lib.ListN.{length};
-ghost use Rattle.load.specs.Steps.{MirrorOk, mirrorAt, MirrorsOk, MirrorsAre, ownSum, one, optional, RoomFor, Pushed, columnsBehind, columnsAhead, valuesBehind, valuesAhead, RowOk, DrawsSmall, countOf, CellOk, CellDone, CellsOk, CellsDone, Few, Placed, meshOf};
-ghost use Rattle.load.specs.Load.{startOf, columnsIn};
+ghost use Rattle.load.specs.Steps.{MirrorOk, mirrorAt, MirrorsOk, MirrorsAre, ownSum, one, optional, RoomFor, Pushed, columnsBehind, columnsAhead, valuesBehind, valuesAhead, RowOk, DrawsSmall, countOf, CellOk, CellDone, CellsOk, CellsDone, Few, Placed, gridOf};
+ghost use Rattle.load.specs.Load.{rowStart, columnsIn};
 use crate::cells::Cell;
 use crate::cells::Extents;
 use crate::cells::Faces;
@@ -104,7 +104,7 @@ fn width_of(e: Extents, c: Cell) -> usize
     requires { ⌜ Few e ⌝ }
     requires { ⌜ Placed e c ⌝ }
     requires { ⌜ c .z < e .depth ⌝ }
-    ensures { λ r. ⌜ r ≡ length (columnsIn (meshOf e) (c .number)) ⌝ }
+    ensures { λ r. ⌜ r ≡ length (columnsIn (gridOf e) (c .number)) ⌝ }
     ensures { λ r. ⌜ r ≤ 7 ⌝ }
 {
     let f = faces_of(e, c);
@@ -247,7 +247,7 @@ pub fn lay_cells(
 pub fn entries_of(e: Extents, cells: usize) -> usize
     requires { ⌜ Few e ⌝ }
     requires { ⌜ cells ≡ e .width * e .height * e .depth ⌝ }
-    ensures { λ r. ⌜ r ≡ startOf (meshOf e) cells ⌝ }
+    ensures { λ r. ⌜ r ≡ rowStart (gridOf e) cells ⌝ }
 {
     let mut entries = 0;
     let mut c = Cell {

@@ -3,9 +3,9 @@ ghost use mathlib.Core.Path.{_≡_};
 ghost use mathlib.Core.List.{_∷_, []};
 ghost use Prim.Native.Nat.{_*_};
 ghost use lib.ListN.{length};
-ghost use Rattle.load.specs.Load.{startOf, loadOf};
+ghost use Rattle.load.specs.Load.{rowStart, loadOf};
 ghost use Rattle.load.specs.Call.{roomOf, Loading};
-ghost use Rattle.load.specs.Steps.{capped, listOf, AskedOf, Writable, meshOf, Written};
+ghost use Rattle.load.specs.Steps.{capped, listOf, AskedOf, Writable, gridOf, Written};
 use crate::cells::Extents;
 use crate::laying::entries_of;
 use crate::laying::lay_cells;
@@ -85,7 +85,7 @@ fn write(
     columns: &mut [u32],
     values: &mut [f64],
 ) -> usize
-    requires { ⌜ Writable e cells (startOf (meshOf e) cells) (roomOf (now offsets) (now columns) (now values)) ⌝ }
+    requires { ⌜ Writable e cells (rowStart (gridOf e) cells) (roomOf (now offsets) (now columns) (now values)) ⌝ }
     ensures { λ r. ⌜ Written seed e cells (now (offsets .entry)) (now (offsets .exit)) (now (columns .entry)) (now (columns .exit)) (now (values .entry)) (now (values .exit)) r ⌝ }
 {
     let reached = lay_cells(e, cells, seed, offsets, columns, values);

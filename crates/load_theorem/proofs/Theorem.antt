@@ -15,7 +15,7 @@ use Rattle.store.proofs.store.Vector.{length-tab, getD-tab}
 use Rattle.store.proofs.store.Each.{both-l}
 use Rattle.matrix.specs.Kernel.{rowSumsOf}
 use Rattle.pattern.specs.Pattern.{Pattern}
-use Rattle.load.specs.Box.{Mesh, cellsOf, box, allPositive, extentsOk}
+use Rattle.load.specs.Box.{Grid, cellsOf, box, allPositive, extentsOk}
 use Rattle.load.specs.Load.{patternOf, valuesOf}
 use Rattle.load.specs.Theorem.{Neat, wholeAt}
 use Rattle.load.proofs.Neat.{box-neat}
@@ -30,8 +30,8 @@ one-is : ofInt binary64 (pos 1) ≡ one64
 unfolding ofInt ofBits
 one-is = refl
 
--- The row sums of a load on a neat mesh.
-sums-one : (seed : ℕ) (m : Mesh) → Neat m → Lean m → (inverse : List Float) → rowSumsOf (kernelFor (patternOf m) (valuesOf seed m) inverse) ≡ filled (m .cells) one64
+-- The row sums of a load on a neat grid.
+sums-one : (seed : ℕ) (m : Grid) → Neat m → Lean m → (inverse : List Float) → rowSumsOf (kernelFor (patternOf m) (valuesOf seed m) inverse) ≡ filled (m .cells) one64
 sums-one seed m neat lean inverse =
     let valid = load-valid neat in
     let rising = load-rising neat in

@@ -8,7 +8,7 @@ use Rattle.matrix.specs.Kernel.{Kernel}
 use Rattle.pattern.specs.Pattern.{Pattern}
 use Rattle.faces.specs.Faces.{facesOf, uppersOf, faceOffsetsOf, neighborsOf, diagonalsOf}
 
--- the diagonal entries and the faces, as `updateOf` of `coefficients` takes them; row sums read no reciprocals
+-- the diagonal entries and the faces, as `kernelUpdateOf` takes them; row sums read no reciprocals
 abbrev pub kernelFor : Pattern → List Float → List Float → Kernel
 kernelFor p values inverse = record {
   rows = p .rows;

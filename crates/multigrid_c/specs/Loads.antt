@@ -7,7 +7,7 @@ use Rattle.refusal.specs.Outcome.{Outcome}
 use Rattle.export.specs.Structs.{nothingRefused, refusedBy}
 use Rattle.load.specs.declared.loading.Loaded.{Loaded}
 use Rattle.load.specs.Load.{Load}
-use Rattle.load.specs.Call.{answerOf, Loading}
+use Rattle.load.specs.Call.{loadedOf, Loading}
 use Rattle.multigrid_c.specs.declared.loads.LoadedForC.{LoadedForC}
 
 -- a load's answer: its rows and entries; where it is refused, both are 0
@@ -17,5 +17,5 @@ loadedStruct (Loaded.Refused q) = record { answer = refusedBy q; rows = 0; entri
 
 -- What a load ensures: what the call ensures, and its answer as a struct.
 pub record LoadExported (o : Outcome Load) (O O' C C' : List ℕ) (F F' : List Float) (r : LoadedForC) : Type 0 where
-  pub done : Loading o O O' C C' F F' (answerOf o)
-  pub told : r ≡ loadedStruct (answerOf o)
+  pub done : Loading o O O' C C' F F' (loadedOf o)
+  pub told : r ≡ loadedStruct (loadedOf o)

@@ -22,10 +22,10 @@ use Rattle.load.specs.declared.laying.Reached.{Reached}
 use Rattle.load.specs.declared.loading.Asked.{Asked}
 use Rattle.load.specs.declared.loading.Loaded.{Loaded}
 use Rattle.refusal.specs.Refusal.{badLoad}
-use Rattle.load.specs.Box.{Mesh, cellsOf, allPositive, extentsOk}
-use Rattle.load.specs.Load.{joined, columnsIn, wholesIn, startOf, wholesOf, valuesOf, Room, roomOk, loadOf}
+use Rattle.load.specs.Box.{Grid, cellsOf, allPositive, extentsOk}
+use Rattle.load.specs.Load.{joined, columnsIn, wholesIn, rowStart, wholesOf, valuesOf, Room, roomOk, loadOf}
 use Rattle.load.specs.Call.{roomOf, Loading}
-use Rattle.load.specs.Steps.{listOf, meshOf, Few, CellsOk, CellsDone, capped, Writable, AskedOf, Written}
+use Rattle.load.specs.Steps.{listOf, gridOf, Few, CellsOk, CellsDone, capped, Writable, AskedOf, Written}
 use Rattle.load.proofs.Lists.{length-joined}
 use Rattle.load.proofs.Rows.{start-small}
 
@@ -151,12 +151,12 @@ module _ (seed : ℕ) (e : Extents) (room : Room) where
   pub asked-cells : (n : ℕ) → n ≡ capped (e .width * e .height * e .depth) → n ≡ 0 → AskedOf seed e room none
   asked-cells n c z = record { is = rw (extents-wrong e (sym c ∙ z)) (go (not (eqb seed 0))); good = λ t. no t }
     where
-      go : (b : Bool) → false ≡ ((b && false) && roomOk (meshOf e) room)
+      go : (b : Bool) → false ≡ ((b && false) && roomOk (gridOf e) room)
       go true = refl
       go false = refl
 
   -- Else it is a matter of room.
-  pub asked-room : (n entries : ℕ) → (seed ≡ 0 → ⊥) → n ≡ capped (e .width * e .height * e .depth) → (n ≡ 0 → ⊥) → entries ≡ startOf (meshOf e) n
+  pub asked-room : (n entries : ℕ) → (seed ≡ 0 → ⊥) → n ≡ capped (e .width * e .height * e .depth) → (n ≡ 0 → ⊥) → entries ≡ rowStart (gridOf e) n
       → AskedOf seed e room (record { ok = (leb (n + 1) (room .offsets) && leb entries (room .columns)) && leb entries (room .values); cells = n; entries = entries })
   unfolding roomOk
   asked-room n entries some c cs counted =
@@ -183,17 +183,17 @@ module _ (seed : ℕ) (e : Extents) (room : Room) where
 -- ---- what is written
 
 -- Rows start where the columns before them end.
-unfold-start : (m : Mesh) (n : ℕ) → startOf m n ≡ length (joined (columnsIn m) n)
-unfolding startOf
+unfold-start : (m : Grid) (n : ℕ) → rowStart m n ≡ length (joined (columnsIn m) n)
+unfolding rowStart
 unfold-start m n = sym (length-joined (columnsIn m) n)
 
 -- What the rows require.
-pub cells-ok : {e : Extents} {cells : ℕ} {room : Room} → Writable e cells (startOf (meshOf e) cells) room
+pub cells-ok : {e : Extents} {cells : ℕ} {room : Room} → Writable e cells (rowStart (gridOf e) cells) room
     → CellsOk e cells (room .offsets) (room .columns) (room .values)
 cells-ok w = record { few = w .few; all = w .all; offsets = w .offsets; room = w .columns; places = w .values }
 
 -- The entries counted are those of the definition.
-pub writable-same : {e : Extents} {cells entries : ℕ} {room : Room} → Writable e cells entries room → Writable e cells (startOf (meshOf e) cells) room
+pub writable-same : {e : Extents} {cells entries : ℕ} {room : Room} → Writable e cells entries room → Writable e cells (rowStart (gridOf e) cells) room
 writable-same w = record {
   few = w .few;
   all = w .all;
@@ -214,14 +214,14 @@ pub written : {seed : ℕ} {e : Extents} {cells : ℕ} {O O' C C' : List ℕ} {F
     → Written seed e cells O (set O' cells (r .end)) C C' F F' (r .end)
 unfolding tab
 written {seed} {e} {cells} {O} {O'} {C} {C'} {F} {F'} {r} d =
-    let m = meshOf e in
-    let n : 0 + length (tab (startOf m) cells) ≡ cells = omega (arith, length-tab (startOf m) cells) in
+    let m = gridOf e in
+    let n : 0 + length (tab (rowStart m) cells) ≡ cells = omega (arith, length-tab (rowStart m) cells) in
     record {
       offsets =
           ap (λ (l : List ℕ). set l cells (r .end)) (d .offsets)
-          ∙ ap (λ (j : ℕ). set (splice 0 (tab (startOf m) cells) O) j (r .end)) (sym n) ∙ set-splice-end 0 (tab (startOf m) cells) O (r .end)
-          ∙ ap (λ (v : ℕ). splice 0 (tab (startOf m) cells ++ (v ∷ [])) O) (d .end)
-          ∙ ap (λ (j : ℕ). splice 0 (tab (startOf m) j) O) (sym (add-one cells));
+          ∙ ap (λ (j : ℕ). set (splice 0 (tab (rowStart m) cells) O) j (r .end)) (sym n) ∙ set-splice-end 0 (tab (rowStart m) cells) O (r .end)
+          ∙ ap (λ (v : ℕ). splice 0 (tab (rowStart m) cells ++ (v ∷ [])) O) (d .end)
+          ∙ ap (λ (j : ℕ). splice 0 (tab (rowStart m) j) O) (sym (add-one cells));
       columns = d .rows .columns;
       values = d .rows .values;
       end = d .end;
@@ -237,14 +237,14 @@ pub loading-made : {seed : ℕ} {e : Extents} {a : Asked} {O O' C C' : List ℕ}
     → Written seed e (a .cells) O O' C C' F F' r → Loading (loadOf seed (listOf e) (roomOf O C F)) O O' C C' F F' (Loaded.Made (record { rows = a .cells; entries = r }))
 unfolding wholesOf valuesOf
 loading-made {seed} {e} {a} {O} {C = C} {F = F} {r = r} asked ok w =
-    let m = meshOf e in
+    let m = gridOf e in
     let yes : (not (eqb seed 0) && extentsOk (listOf e) && roomOk m (roomOf O C F)) ≡ true = sym (asked .is) ∙ ok in
     let same : a .cells ≡ cellsOf (listOf e) = asked .good ok .same in
     let long : r ≡ length (joined (columnsIn m) (cellsOf (listOf e))) =
-    w .end ∙ ap (startOf m) same ∙ unfold-start m (cellsOf (listOf e)) in
+    w .end ∙ ap (rowStart m) same ∙ unfold-start m (cellsOf (listOf e)) in
     rw yes (record {
       answer = ap₂ (λ (x y : ℕ). Loaded.Made (record { rows = x; entries = y })) same long;
-      offsets = w .offsets ∙ ap (λ (n : ℕ). splice 0 (tab (startOf m) (n + 1)) O) same;
+      offsets = w .offsets ∙ ap (λ (n : ℕ). splice 0 (tab (rowStart m) (n + 1)) O) same;
       columns = w .columns ∙ ap (λ (n : ℕ). splice 0 (joined (columnsIn m) n) C) same;
       values = w .values ∙ ap (λ (n : ℕ). splice 0 (map (ofInt binary64) (joined (wholesIn seed m) n)) F) same;
     })
@@ -253,5 +253,5 @@ loading-made {seed} {e} {a} {O} {C = C} {F = F} {r = r} asked ok w =
 pub loading-refused : {seed : ℕ} {e : Extents} {a : Asked} {O C : List ℕ} {F : List Float} → AskedOf seed e (roomOf O C F) a → a .ok ≡ false
     → Loading (loadOf seed (listOf e) (roomOf O C F)) O O C C F F (Loaded.Refused badLoad)
 loading-refused {seed} {e} {a} {O} {C} {F} asked ok =
-    let nope : (not (eqb seed 0) && extentsOk (listOf e) && roomOk (meshOf e) (roomOf O C F)) ≡ false = sym (asked .is) ∙ ok in
+    let nope : (not (eqb seed 0) && extentsOk (listOf e) && roomOk (gridOf e) (roomOf O C F)) ≡ false = sym (asked .is) ∙ ok in
     rw nope (record { answer = refl; offsets = refl; columns = refl; values = refl })
