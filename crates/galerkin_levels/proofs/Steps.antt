@@ -40,9 +40,9 @@ asked-rest asked rest zero row e = e
 asked-rest asked rest (suc fuel) row e = asked-rest asked rest fuel (row + 1) (then-split (asked row) (λ _. askRows fuel (row + 1) asked rest) e .2)
 
 -- The diagonal and the faces' values of a level are those of its matrix.
-record Taken (s : Shape) (values : List Float) (diagonal coefficients : List Float) : Type 0 where
-  owns : diagonal ≡ tab (entryOf (s .diagonals) values) (s .pattern .rows)
-  faces : coefficients ≡ tab (entryOf (s .uppers) values) (length (s .uppers))
+pub record Taken (s : Shape) (values : List Float) (diagonal coefficients : List Float) : Type 0 where
+  pub owns : diagonal ≡ tab (entryOf (s .diagonals) values) (s .pattern .rows)
+  pub faces : coefficients ≡ tab (entryOf (s .uppers) values) (length (s .uppers))
 
 module _ (o : MultigridOptions) (level : ℕ) (s : Shape) (values : List Float) where
   -- So it is with its coefficients,
@@ -53,7 +53,7 @@ module _ (o : MultigridOptions) (level : ℕ) (s : Shape) (values : List Float) 
       record { owns = sym (ap (λ (c : Coefficients). c .diagonal) same); faces = sym (ap (λ (c : Coefficients). c .coefficients) same) }
 
   -- and with its numbers.
-  numbers-taken : {n : Numbers} → numbersOf o level s values ≡ accepted n → Taken s values (n .diagonal) (n .coefficients)
+  pub numbers-taken : {n : Numbers} → numbersOf o level s values ≡ accepted n → Taken s values (n .diagonal) (n .coefficients)
   numbers-taken {n} e =
       let a = then-split (coefficientsOf o level s values) _ e in
       go (a .0) (coefficients-taken (a .1)) (s .terminal) (a .2)
@@ -87,30 +87,30 @@ numbers-are : {s : Shape} {n : Numbers} {l : Level} → record { shape = s; numb
 numbers-are e = ap (λ (l : Level). l .numbers) e
 
 -- Laid levels have a first one, of the pattern.
-record Headed (q : Pattern) (levels : List Level) : Type 0 where
-  head : Level
-  tail : List Level
-  is : levels ≡ head ∷ tail
-  terminal : Bool
-  links : List ℕ
-  positions : List ℕ
-  shape : head .shape ≡ shapeOf q terminal links positions
+pub record Headed (q : Pattern) (levels : List Level) : Type 0 where
+  pub head : Level
+  pub tail : List Level
+  pub is : levels ≡ head ∷ tail
+  pub terminal : Bool
+  pub links : List ℕ
+  pub positions : List ℕ
+  pub shape : head .shape ≡ shapeOf q terminal links positions
 
-laid-headed : {most : ℕ} {q : Pattern} {levels : List Level} → Laid most q levels → Headed q levels
+pub laid-headed : {most : ℕ} {q : Pattern} {levels : List Level} → Laid most q levels → Headed q levels
 laid-headed (Laid.last {l = l} small few is) = record { head = l; tail = []; is = refl; terminal = _; links = _; positions = _; shape = is }
 laid-headed (Laid.inner {l = l} {rest = rest} small maps is on) =
     record { head = l; tail = rest; is = refl; terminal = _; links = _; positions = _; shape = is }
 
 module _ (o : MultigridOptions) (level : ℕ) where
   -- An accepted refresh of one level.
-  refresh-one : (values : List Float) (l : Level) → refreshOf o level (l .shape ∷ []) values ≡ accepted (l ∷ []) → numbersOf o level (l .shape) values ≡ accepted (l .numbers)
+  pub refresh-one : (values : List Float) (l : Level) → refreshOf o level (l .shape ∷ []) values ≡ accepted (l ∷ []) → numbersOf o level (l .shape) values ≡ accepted (l .numbers)
   unfolding refreshOf
   refresh-one values l e =
       let a = then-split (numbersOf o level (l .shape) values) (λ n. accepted (record { shape = l .shape; numbers = n } ∷ [])) e in
       a .1 ∙ ap accepted (numbers-are (cons-is (accepted-one (a .2)) .0))
 
   -- An accepted refresh of a level and those after it.
-  refresh-more : (values : List Float) (l next : Level) (rest : List Level)
+  pub refresh-more : (values : List Float) (l next : Level) (rest : List Level)
       → refreshOf o level (l .shape ∷ next .shape ∷ shapesIn rest) values ≡ accepted (l ∷ next ∷ rest)
       → (numbersOf o level (l .shape) values ≡ accepted (l .numbers))
       × (refreshOf o (level + 1) (next .shape ∷ shapesIn rest) (coarseValues o (l .shape) (next .shape) values) ≡ accepted (next ∷ rest))

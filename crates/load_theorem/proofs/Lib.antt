@@ -1,3 +1,4 @@
+pub mod Built
 pub mod Faces
 pub mod Levels
 pub mod Running
