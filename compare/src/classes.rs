@@ -45,7 +45,10 @@ const KINDS: &Names = &[
         "galerkin",
         "pattern compose sum_entries sum_given weights question-18 whole-product outside-unchanged",
     ),
-    ("load", "draws-of-seed-1 two-by-two by-hand room drawn one-cell-deep flat"),
+    (
+        "load",
+        "draws-of-seed-1 two-by-two by-hand room drawn one-cell-deep flat",
+    ),
     ("library", "exports-and-rust rust-and-header called-from-c"),
     (
         "matrix",
