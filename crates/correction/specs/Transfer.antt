@@ -23,7 +23,7 @@ pub record RestrictOk (w : List ℕ) (size n count map residual out : ℕ) : Typ
   pub outs : out + count ≤ size
   pub near : (row : ℕ) → row < n → idx w (map + row) < count
 
--- the map likewise; the correction below the coarse solution
+-- the map likewise; the correction, or the x that takes it, below the coarse solution
 pub record ProlongOk (w : List ℕ) (size n count map coarse out : ℕ) : Type 0 where
   pub maps : map + n ≤ length w
   pub outs : out + n ≤ coarse

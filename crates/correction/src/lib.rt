@@ -9,5 +9,6 @@ pub use correction::subtract;
 pub use scaled::add_scaled;
 pub use scaling::Factor;
 pub use scaling::correction_factor;
+pub use transfer::add_prolonged;
 pub use transfer::prolong;
 pub use transfer::restrict;

@@ -1,6 +1,7 @@
 // cycle.rs: residuals go down to the aggregates, and corrections come up from them.
 ghost use lib.ListN.{length};
 ghost use Rattle.store.specs.Region.{part, Wrote};
+ghost use Rattle.correction.specs.Correction.{addPlainOf};
 ghost use Rattle.correction.specs.Transfer.{RestrictOk, ProlongOk, gatherOf, restrictOf, prolongOf};
 
 // Each row's residual, added to what stands at its aggregate.
@@ -57,6 +58,29 @@ pub fn prolong(
     while row < n {
         let aggregate = store::index_at(w, map, row, count);
         f[out + row] = f[coarse + aggregate];
+        row += 1;
+    }
+}
+
+// The coarse solution, added to x straight through the aggregate numbers: the sum of what `prolong` would write, with no vector between.
+pub fn add_prolonged(
+    w: &[u32],
+    f: &mut [f64],
+    n: usize,
+    count: usize,
+    map: usize,
+    coarse: usize,
+    x: usize,
+)
+    requires { ⌜ ProlongOk (now w) (length (now f)) n count map coarse x ⌝ }
+    ensures { λ _. ⌜ Wrote x n
+        (addPlainOf n (prolongOf n (part map n (now (w .entry))) (part coarse count (now (f .entry)))) (part x n (now (f .entry))))
+        (now (f .entry)) (now (f .exit)) ⌝ }
+{
+    let mut row = 0;
+    while row < n {
+        let aggregate = store::index_at(w, map, row, count);
+        f[x + row] = f[x + row] + f[coarse + aggregate];
         row += 1;
     }
 }

@@ -71,14 +71,14 @@ module _ (w : List ℕ) (F : List Float) (g : Inner) where
   correctedIn scale sweeps e =
       corrected scale matrixAt (residualAt (g .vectors) (g .matrix .rows) sweeps F) e (xAt (g .vectors) (g .matrix .rows) F)
 
-  -- the same of the correction that stands there
-  abbrev pub correctedAt : Bool → ℕ → Outcome (List Float)
-  correctedAt scale sweeps = correctedIn scale sweeps (correctionAt (g .vectors) (g .matrix .rows) F)
-
   -- the next level's x, brought to the rows
   abbrev pub broughtAt : List Float
   broughtAt =
       prolongOf (g .matrix .rows) (part (g .links) (g .matrix .rows) w) (part (g .below .x) (g .next) F)
+
+  -- x with it as the correction
+  abbrev pub correctedAt : Bool → ℕ → Outcome (List Float)
+  correctedAt scale sweeps = correctedIn scale sweeps broughtAt
 
   -- x with it as the correction, and so many sweeps after it
   abbrev pub raisedAt : MultigridSmoother → Bool → ℕ → ℕ → Outcome (List Float)

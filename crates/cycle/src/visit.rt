@@ -95,19 +95,22 @@ fn correct_scaled(w: &[u32], f: &mut [f64], g: Inner, sweeps: u64) -> Verdict
     }
 }
 
-// The correction, added to x.
+// The next level's x, added to x: scaled, it comes up as the correction first; as it is, straight through the aggregate numbers, and no
+// word but those of x is written.
 fn correct(w: &[u32], f: &mut [f64], g: Inner, scale: bool, sweeps: u64) -> Verdict
     requires { ⌜ InnerOk (now w) (length (now f)) g ⌝ }
     ensures { λ r. ⌜ Moved (g .vectors .x) (g .matrix .rows) (correctedAt (now (w .entry)) (now (f .entry)) g scale sweeps) (now (f .entry)) (now (f .exit)) r ⌝ }
 {
+    let n = g.matrix.rows;
     if scale {
+        correction::prolong(w, f, n, g.next, g.links, g.below.x, g.vectors.correction);
         return correct_scaled(w, f, g, sweeps);
     }
-    correction::add_plain(f, g.matrix.rows, g.vectors.correction, g.vectors.x);
+    correction::add_prolonged(w, f, n, g.next, g.links, g.below.x, g.vectors.x);
     Verdict::Passed
 }
 
-// The way up: the next level's x comes up as the correction, and sweeps follow.
+// The way up: the next level's x is added, and sweeps follow.
 pub fn up(
     w: &[u32],
     f: &mut [f64],
@@ -120,8 +123,6 @@ pub fn up(
     requires { ⌜ InnerOk (now w) (length (now f)) g ⌝ }
     ensures { λ r. ⌜ Moved (g .vectors .x) (g .matrix .rows) (raisedAt (now (w .entry)) (now (f .entry)) g kind scale pre post) (now (f .entry)) (now (f .exit)) r ⌝ }
 {
-    let n = g.matrix.rows;
-    correction::prolong(w, f, n, g.next, g.links, g.below.x, g.vectors.correction);
     match correct(w, f, g, scale, pre) {
         Verdict::Refused(q) => Verdict::Refused(q),
         Verdict::Passed => smooth(w, f, g, kind, post),

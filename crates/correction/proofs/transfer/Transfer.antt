@@ -1,4 +1,4 @@
--- The loops of `gather` and `prolong` over the store: a turn, and what the loop leaves; and `restrict`, a fill and a gather.
+-- The loops of `gather`, `prolong` and `add_prolonged` over the store: a turn, and what the loop leaves; and `restrict`, a fill and a gather.
 -- Assumes nothing.
 use mathlib.Core.Path.{_≡_, sym, ap, _∙_}
 use mathlib.Core.List.{List}
@@ -9,11 +9,12 @@ use lib.Ieee.{Float, nan}
 use Rattle.float.specs.Float.{add64, zero64}
 use Rattle.store.specs.Loop.{for}
 use Rattle.store.specs.Region.{at, idx, part, splice, Wrote}
-use Rattle.store.specs.Vector.{filled}
-use Rattle.store.proofs.store.Loop.{for-map, Left, left-end}
+use Rattle.store.specs.Vector.{tab, filled}
+use Rattle.store.proofs.store.Loop.{for-map, Left, left-on, left-end}
 use Rattle.store.proofs.store.Region.{getD-part, getD-splice-below, getD-splice-in, set-splice, splice-part, length-part}
 use Rattle.store.proofs.store.Region.{wrote, wrote-at, wrote-off, wrote-again}
-use Rattle.store.proofs.store.Vector.{length-tab, tab-same, for-each}
+use Rattle.store.proofs.store.Vector.{length-tab, getD-tab, tab-same, for-each}
+use Rattle.correction.specs.Correction.{addPlainOf}
 use Rattle.correction.specs.Transfer.{gatherTurn, gatherOf, restrictOf, prolongOf, RestrictOk, ProlongOk}
 
 -- a turn of `gather`, of the store
@@ -23,6 +24,10 @@ gatherStep w map residual out row F = set F (out + idx w (map + row)) (add64 (at
 -- a turn of `prolong`, of the store
 unfoldable pub prolongStep : List ℕ → ℕ → ℕ → ℕ → ℕ → List Float → List Float
 prolongStep w map coarse out row F = set F (out + row) (at F (coarse + idx w (map + row)))
+
+-- a turn of `add_prolonged`, of the store
+unfoldable pub addedStep : List ℕ → ℕ → ℕ → ℕ → ℕ → List Float → List Float
+addedStep w map coarse x row F = set F (x + row) (add64 (at F (x + row)) (at F (coarse + idx w (map + row))))
 
 -- The turns as the code has them: j is the row's aggregate.
 pub gather-on : (w : List ℕ) (map residual out row j : ℕ) (F : List Float) → j ≡ idx w (map + row)
@@ -34,6 +39,11 @@ pub prolong-on : (w : List ℕ) (map coarse out row j : ℕ) (F : List Float) �
     → set F (out + row) (at F (coarse + j)) ≡ prolongStep w map coarse out row F
 unfolding prolongStep
 prolong-on w map coarse out row j F e = rw e
+
+added-on : (w : List ℕ) (map coarse x row j : ℕ) (F : List Float) → j ≡ idx w (map + row)
+    → set F (x + row) (add64 (at F (x + row)) (at F (coarse + j))) ≡ addedStep w map coarse x row F
+unfolding addedStep
+added-on w map coarse x row j F e = rw e
 
 -- A row's aggregate is one of the `count`.
 pub gather-near : (w : List ℕ) (size n count map residual out row : ℕ) → RestrictOk w size n count map residual out → row < n
@@ -97,3 +107,33 @@ prolong-done {w} {F} {G} {n} {count} {map} {coarse} {out} ok l h =
     (λ row b H same. same (coarse + idx w (map + row)) nan (omega arith))
     ∙ ap (λ (v : List Float). splice out v F) (tab-same _ _ n (λ row b. let j : idx w (map + row) < count = ok .near row b in simp getD-part)))
     (length-tab _ n)
+
+-- ---- the coarse solution, added with no vector between
+
+-- The fast form, each row's sum with the coarse value of its aggregate, is the plain form, the sum with the prolonged coarse solution.
+pub fast-is-plain : (n : ℕ) (map : List ℕ) (coarse x : List Float)
+    → tab (λ row. add64 (at x row) (at coarse (idx map row))) n ≡ addPlainOf n (prolongOf n map coarse) x
+unfolding addPlainOf prolongOf
+fast-is-plain n map coarse x = tab-same _ _ n (λ row b. ap (add64 (at x row)) (sym (getD-tab (λ row. at coarse (idx map row)) n row nan b)))
+
+-- A turn of `add_prolonged`, as the code has it, leaves one fewer.
+pub added-left : (w : List ℕ) {f whole : List Float} {n : ℕ} (map coarse x : ℕ) {row : ℕ} (j : ℕ) → Left (addedStep w map coarse x) row n f whole → row < n
+    → j ≡ idx w (map + row) → Left (addedStep w map coarse x) (row + 1) n (set f (x + row) (add64 (at f (x + row)) (at f (coarse + j)))) whole
+added-left w {f} map coarse x {row} j l h e = left-on l h (added-on w map coarse x row j f e)
+
+-- `add_prolonged` writes the sums.
+pub added-done : {w : List ℕ} {F G : List Float} {n count map coarse x row : ℕ}
+    → ProlongOk w (length F) n count map coarse x
+    → Left (addedStep w map coarse x) row n G (for (addedStep w map coarse x) 0 n F) → n ≤ row
+    → Wrote x n (addPlainOf n (prolongOf n (part map n w) (part coarse count F)) (part x n F)) F G
+unfolding addedStep
+added-done {w} {F} {G} {n} {count} {map} {coarse} {x} ok l h =
+    let whole = addPlainOf n (prolongOf n (part map n w) (part coarse count F)) (part x n F) in
+    let fast = tab (λ row. add64 (at (part x n F) row) (at (part coarse count F) (idx (part map n w) row))) n in
+    let same : fast ≡ whole = fast-is-plain n (part map n w) (part coarse count F) (part x n F) in
+    wrote (left-end l h
+    ∙ for-each x n F (λ row H. add64 (at H (x + row)) (at H (coarse + idx w (map + row))))
+    (λ row b H same. rw (same (x + row) nan (λ p. omega arith), same (coarse + idx w (map + row)) nan (omega arith)))
+    ∙ ap (λ (v : List Float). splice x v F)
+    (tab-same _ _ n (λ row b. let j : idx w (map + row) < count = ok .near row b in simp getD-part) ∙ same))
+    (ap length (sym same) ∙ length-tab _ n)

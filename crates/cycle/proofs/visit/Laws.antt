@@ -10,7 +10,7 @@ use lib.ListN.{length}
 use lib.Ieee.{Float}
 use borrow.Author.Tests.{eq-eqb, ne-eqb}
 use Rattle.float.specs.Float.{zero64}
-use Rattle.store.specs.Region.{part, Clear, Wrote, Kept, CopyOk}
+use Rattle.store.specs.Region.{part, Clear, Wrote, Kept}
 use Rattle.store.specs.Vector.{filled}
 use Rattle.store.proofs.store.Region.{wrote-at, kept-wrote, kept-on, kept-less, kept-self, kept-part}
 use Rattle.options.specs.declared.options.MultigridSmoother.{MultigridSmoother}
@@ -31,9 +31,9 @@ use Rattle.correction.specs.Scaling.{ProductsOk, correctionFactorOf, factorOf}
 use Rattle.correction.specs.Correction.{SubtractOk, subtractOf, addPlainOf}
 use Rattle.correction.specs.Scaled.{ScaledOk, addScaledOf}
 use Rattle.cycle.specs.declared.visit.Inner.{Inner}
-use Rattle.cycle.specs.Cycle.{residualAfter, corrected}
+use Rattle.cycle.specs.Cycle.{residualAfter, scaledCorrection, corrected}
 use Rattle.cycle.specs.Visit.{rhsAt, xAt, correctionAt, residualPlace, residualAt, matrixAt, residualIn}
-use Rattle.cycle.specs.Visit.{smoothedAt, scaledAt, correctedIn, correctedAt, broughtAt, raisedAt}
+use Rattle.cycle.specs.Visit.{smoothedAt, scaledAt, correctedAt, broughtAt, raisedAt}
 use Rattle.cycle.specs.Visit.{InnerOk, Moved, Resided, Left, Restricted, Downed}
 
 -- ---- outcomes
@@ -379,36 +379,6 @@ module _ {w : List ℕ} {F G : List Float} {from : ℕ} (sweeps : ℕ) {g : Inne
           floats = kept-on (kept-less kept (omega arith)) (kept-wrote i (omega arith));
         }
 
--- The correction scaled, where that is asked for,
-pub correct-scaled : (w : List ℕ) {F G : List Float} (g : Inner) {scale : Bool} (sweeps : ℕ) {r : Verdict} → scale ≡ true
-    → Moved (g .vectors .x) (g .matrix .rows) (scaledAt w F g sweeps) F G r → Moved (g .vectors .x) (g .matrix .rows) (correctedAt w F g scale sweeps) F G r
-unfolding corrected
-correct-scaled w g sweeps e m = rw e m
-
--- What the plain sum requires.
-pub plain-ok : {w : List ℕ} {size : ℕ} {g : Inner} → InnerOk w size g
-    → CopyOk size (g .matrix .rows) (g .vectors .correction) (g .vectors .x)
-plain-ok ok =
-    let works = ok .works in
-    let corrections = ok .corrections in
-    let room = inner-room ok in
-    record { source = omega arith; target = omega arith; clear = omega arith }
-
--- and as it is.
-pub correct-plain : {w : List ℕ} {F G : List Float} {g : Inner} {scale : Bool} (sweeps : ℕ) → InnerOk w (length F) g → scale ≡ false
-    → Wrote (g .vectors .x) (g .matrix .rows)
-    (addPlainOf (g .matrix .rows) (part (g .vectors .correction) (g .matrix .rows) F) (part (g .vectors .x) (g .matrix .rows) F)) F G
-    → Moved (g .vectors .x) (g .matrix .rows) (correctedAt w F g scale sweeps) F G Verdict.Passed
-unfolding corrected kernelAt
-correct-plain {w} {F} {G} {g} sweeps ok e h =
-    rw e (record {
-      answer = refl;
-      is = λ v y. wrote-at h (omega (arith, ok .works, ok .corrections, inner-room ok)) ∙ same-accepted refl y;
-      floats = kept-wrote h (omega arith);
-    })
-
--- ---- the way up
-
 -- What the prolongation requires.
 pub prolong-ok : {w : List ℕ} {size : ℕ} {g : Inner} → InnerOk w size g
     → ProlongOk w size (g .matrix .rows) (g .next) (g .links) (g .below .x) (g .vectors .correction)
@@ -421,8 +391,10 @@ module _ {w : List ℕ} {F G : List Float} {g : Inner} (ok : InnerOk w (length F
   lifted = kept-wrote b (omega arith)
 
   -- the correction is that of the next level's x
-  corrected-is : (scale : Bool) (pre : ℕ) → correctedAt w G g scale pre ≡ correctedIn w F g scale pre (broughtAt w F g)
-  corrected-is scale pre =
+  scaled-is : (sweeps : ℕ)
+      → scaledAt w G g sweeps
+      ≡ scaledCorrection (matrixAt w F g) (residualAt (g .vectors) (g .matrix .rows) sweeps F) (broughtAt w F g) (xAt (g .vectors) (g .matrix .rows) F)
+  scaled-is sweeps =
       let n = g .matrix .rows in
       let v = g .vectors in
       let xs = ok .xs in
@@ -431,37 +403,67 @@ module _ {w : List ℕ} {F G : List Float} {g : Inner} (ok : InnerOk w (length F
       let k = lifted in
       let kernel : matrixAt w G g ≡ matrixAt w F g = kernel-kept (ok .kernel) (kept-less k (omega arith)) in
       let e : correctionAt v n G ≡ broughtAt w F g = wrote-at b (inner-room ok) in
-      let r : residualAt v n pre G ≡ residualAt v n pre F = kept-part k (residualPlace v pre) n (residual-ends ok pre) in
+      let r : residualAt v n sweeps G ≡ residualAt v n sweeps F = kept-part k (residualPlace v sweeps) n (residual-ends ok sweeps) in
       let x : xAt v n G ≡ xAt v n F = kept-part k (v .x) n (omega arith) in
       rw (kernel, e, r, x)
 
-  module _ (kind : MultigridSmoother) (scale : Bool) (pre : ℕ) {H : List Float} {v : Verdict}
-      (m : Moved (g .vectors .x) (g .matrix .rows) (correctedAt w G g scale pre) G H v) (post : ℕ) where
-    -- below x nothing changed
-    down-to : Kept (g .vectors .x) F H
-    down-to = kept-on (kept-less lifted (omega (arith, ok .works, ok .corrections))) (m .floats)
+  -- The next level's x comes up as the correction and is scaled, where that is asked for,
+  pub correct-scaled : {scale : Bool} (sweeps : ℕ) {H : List Float} {r : Verdict} → scale ≡ true
+      → Moved (g .vectors .x) (g .matrix .rows) (scaledAt w G g sweeps) G H r
+      → Moved (g .vectors .x) (g .matrix .rows) (correctedAt w F g scale sweeps) F H r
+  unfolding corrected
+  correct-scaled sweeps {H} {r} e m =
+      let down = kept-on (kept-less lifted (omega (arith, ok .works, ok .corrections))) (m .floats) in
+      rw e (subst (λ (z : Outcome (List Float)). Moved (g .vectors .x) (g .matrix .rows) z F H r) (scaled-is sweeps)
+      (record { answer = m .answer; is = m .is; floats = down }))
 
-    -- Questions 26 and 27 refuse.
-    pub up-no : {q : Refusal} → v ≡ Verdict.Refused q → Moved (g .vectors .x) (g .matrix .rows) (raisedAt w F g kind scale pre post) F H (Verdict.Refused q)
-    up-no {q} told =
-        let out = raisedAt w F g kind scale pre post in
-        let no = sym (corrected-is scale pre) ∙ refuses (correctedAt w G g scale pre) (m .answer) told in
-        let all : out ≡ refused q = rw no in
-        record { answer = sym (verdict-refused out all); is = λ u y. never all y; floats = down-to }
+-- What the plain sum requires.
+pub plain-ok : {w : List ℕ} {size : ℕ} {g : Inner} → InnerOk w size g
+    → ProlongOk w size (g .matrix .rows) (g .next) (g .links) (g .below .x) (g .vectors .x)
+plain-ok ok = record {
+  maps = ok .links;
+  outs = omega (arith, ok .works, ok .corrections, ok .products, ok .nexts, ok .coarses);
+  coarses = ok .room;
+  near = ok .near;
+}
 
-    -- The sweeps after it.
-    pub up-yes : v ≡ Verdict.Passed → {I : List Float} {r : Verdict} → Moved (g .vectors .x) (g .matrix .rows) (smoothedAt w H g kind post) H I r
-        → Moved (g .vectors .x) (g .matrix .rows) (raisedAt w F g kind scale pre post) F I r
-    up-yes told {I} {r} i =
-        let n = g .matrix .rows in
-        let v = g .vectors in
-        let xs = ok .xs in
-        let yes = accepts-it (correctedAt w G g scale pre) (m .answer) told in
-        let is = sym (corrected-is scale pre) ∙ yes .1 in
-        let low : Kept (v .rhs) F H = kept-less down-to (omega arith) in
-        let kernel : matrixAt w H g ≡ matrixAt w F g = kernel-kept (ok .kernel) low in
-        let dic : part (g .dic) n H ≡ part (g .dic) n F = kept-part low (g .dic) n (ok .dics) in
-        let rhs : rhsAt v n H ≡ rhsAt v n F = kept-part down-to (v .rhs) n (omega arith) in
-        let x : xAt v n H ≡ yes .0 = m .is (yes .0) (yes .1) in
-        let out : raisedAt w F g kind scale pre post ≡ smoothedAt w H g kind post = rw (is, kernel, dic, rhs, x) in
-        subst (λ (z : Outcome (List Float)). Moved (v .x) n z F I r) (sym out) (record { answer = i .answer; is = i .is; floats = kept-on down-to (i .floats) })
+-- and added as it is.
+pub correct-plain : {w : List ℕ} {F G : List Float} {g : Inner} {scale : Bool} (sweeps : ℕ) → InnerOk w (length F) g → scale ≡ false
+    → Wrote (g .vectors .x) (g .matrix .rows) (addPlainOf (g .matrix .rows) (broughtAt w F g) (part (g .vectors .x) (g .matrix .rows) F)) F G
+    → Moved (g .vectors .x) (g .matrix .rows) (correctedAt w F g scale sweeps) F G Verdict.Passed
+unfolding corrected kernelAt
+correct-plain {w} {F} {G} {g} sweeps ok e h =
+    rw e (record {
+      answer = refl;
+      is = λ v y. wrote-at h (omega (arith, ok .works, ok .corrections, inner-room ok)) ∙ same-accepted refl y;
+      floats = kept-wrote h (omega arith);
+    })
+
+-- ---- the way up
+
+module _ {w : List ℕ} {F : List Float} {g : Inner} (ok : InnerOk w (length F) g) (kind : MultigridSmoother) (scale : Bool) (pre : ℕ) {H : List Float}
+    {v : Verdict} (m : Moved (g .vectors .x) (g .matrix .rows) (correctedAt w F g scale pre) F H v) (post : ℕ) where
+  -- Questions 26 and 27 refuse.
+  pub up-no : {q : Refusal} → v ≡ Verdict.Refused q → Moved (g .vectors .x) (g .matrix .rows) (raisedAt w F g kind scale pre post) F H (Verdict.Refused q)
+  up-no {q} told =
+      let out = raisedAt w F g kind scale pre post in
+      let no = refuses (correctedAt w F g scale pre) (m .answer) told in
+      let all : out ≡ refused q = rw no in
+      record { answer = sym (verdict-refused out all); is = λ u y. never all y; floats = m .floats }
+
+  -- The sweeps after it.
+  pub up-yes : v ≡ Verdict.Passed → {I : List Float} {r : Verdict} → Moved (g .vectors .x) (g .matrix .rows) (smoothedAt w H g kind post) H I r
+      → Moved (g .vectors .x) (g .matrix .rows) (raisedAt w F g kind scale pre post) F I r
+  up-yes told {I} {r} i =
+      let n = g .matrix .rows in
+      let at = g .vectors in
+      let xs = ok .xs in
+      let yes = accepts-it (correctedAt w F g scale pre) (m .answer) told in
+      let is = yes .1 in
+      let low : Kept (at .rhs) F H = kept-less (m .floats) (omega arith) in
+      let kernel : matrixAt w H g ≡ matrixAt w F g = kernel-kept (ok .kernel) low in
+      let dic : part (g .dic) n H ≡ part (g .dic) n F = kept-part low (g .dic) n (ok .dics) in
+      let rhs : rhsAt at n H ≡ rhsAt at n F = kept-part (m .floats) (at .rhs) n (omega arith) in
+      let x : xAt at n H ≡ yes .0 = m .is (yes .0) (yes .1) in
+      let out : raisedAt w F g kind scale pre post ≡ smoothedAt w H g kind post = rw (is, kernel, dic, rhs, x) in
+      subst (λ (z : Outcome (List Float)). Moved (at .x) n z F I r) (sym out) (record { answer = i .answer; is = i .is; floats = kept-on (m .floats) (i .floats) })
