@@ -189,6 +189,9 @@ static void corrections(void) {
     expect(f[2] == 7, "probe_restrict");
     probe_prolong(w, 2, f, 20, 2, 1, 0, 2, 0);
     expect(f[0] == 7 && f[1] == 7, "probe_prolong");
+    probe_add_prolonged(w, 2, f, 20, 2, 1, 0, 2, 0);
+    expect(f[0] == 14 && f[1] == 14, "probe_add_prolonged");
+    probe_prolong(w, 2, f, 20, 2, 1, 0, 2, 0);
     probe_subtract(f, 20, 2, 6, 4, 12);
     expect(f[12] == 4 && f[13] == 5, "probe_subtract");
     expect(probe_correction_factor(f, 20, 2, 8, 4, 10, out, 1) == 0 && out[0] == 0.75, "probe_correction_factor");

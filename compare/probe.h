@@ -209,11 +209,13 @@ double probe_relative(double initial, double last);
 
 /* The residuals added up over aggregates, and corrections from them.
  * Required: map + n <= w_length, each of these words below count; residual + n <= out and out + count <= f_length,
- * or out + n <= coarse and coarse + count <= f_length; w does not overlap f. */
+ * or out + n (x + n) <= coarse and coarse + count <= f_length; w does not overlap f. */
 void probe_restrict(const uint32_t *w, size_t w_length, double *f, size_t f_length, size_t n, size_t count,
                     size_t map, size_t residual, size_t out);
 void probe_prolong(const uint32_t *w, size_t w_length, double *f, size_t f_length, size_t n, size_t count,
                    size_t map, size_t coarse, size_t out);
+void probe_add_prolonged(const uint32_t *w, size_t w_length, double *f, size_t f_length, size_t n, size_t count,
+                         size_t map, size_t coarse, size_t x);
 
 /* rhs - product. Required: rhs + n <= out, product + n <= out, out + n <= f_length. */
 void probe_subtract(double *f, size_t f_length, size_t n, size_t rhs, size_t product, size_t out);

@@ -492,6 +492,17 @@ unsafe extern "C" {
         coarse: usize,
         out: usize,
     );
+    fn probe_add_prolonged(
+        w: *const u32,
+        w_length: usize,
+        f: *mut f64,
+        f_length: usize,
+        n: usize,
+        count: usize,
+        map: usize,
+        coarse: usize,
+        x: usize,
+    );
     fn probe_subtract(
         f: *mut f64,
         f_length: usize,

@@ -30,7 +30,7 @@ const KINDS: &Names = &[
     ("csr", "check_matrix check_weights"),
     (
         "cycle",
-        "restrict prolong subtract correction_factor add_scaled add_plain outside-unchanged",
+        "restrict prolong add_prolonged subtract correction_factor add_scaled add_plain outside-unchanged",
     ),
     ("damage", "stores"),
     (
@@ -69,6 +69,7 @@ const KINDS: &Names = &[
         "smoother",
         "forward symmetric dic_sweep update_dic_diagonal smooth outside-unchanged",
     ),
+    ("unscaled", "with-weights without-weights"),
     ("vector", "dot norm_l2 all_finite store-unchanged"),
 ];
 
@@ -98,6 +99,7 @@ const DRAWN: &Names = &[
     ("coarse/solve", "passed refused-24 no-terminal"),
     ("csr/check_matrix", "passes refused-1 refused-2 refused-3"),
     ("csr/check_weights", "passes refused-4 refused-5"),
+    ("cycle/add_prolonged", "minus-zero-and-minus-zero"),
     (
         "cycle/correction_factor",
         "zero other refused-26 refused-27 blocks-would-show",
@@ -176,6 +178,7 @@ const DRAWN: &Names = &[
         "smoother/update_dic_diagonal",
         "passed refused-16 refused-17",
     ),
+    ("unscaled/solve", "minus-zero-below"),
     ("vector/dot", "finite not-finite one-sum-would-show"),
     ("vector/norm_l2", "finite not-finite one-sum-would-show"),
     ("vector/all_finite", "finite not-finite"),

@@ -63,6 +63,29 @@ fn transfers(report: &mut Report, random: &mut Random, name: &str, draw: Draw, n
     // cycle.rs:92-94
     let due: Vec<f64> = map.iter().map(|&aggregate| coarse[aggregate]).collect();
     told(report, "prolong", name, floats.at(below, n), &due, kept);
+
+    // The same with no vector between. Signed zeros on both sides show a sum whose operands or whose start are others.
+    let mut x = numbers::vector(random, draw, n);
+    let mut coarse = coarse;
+    for value in x.iter_mut().chain(&mut coarse) {
+        if random.below(4) == 0 {
+            *value = random.signed(0.0);
+        }
+    }
+    floats.put(below, x.iter().copied());
+    floats.put(above, coarse.iter().copied());
+    let ((), kept) = floats.call(&[(below, n)], |f| {
+        at.add_prolonged(&words.words, f, above, below)
+    });
+    // cycle.rs:92-94 and 122-124
+    for row in 0..n {
+        let both = [x[row], coarse[map[row]]].map(|value| value.to_bits() == (-0.0_f64).to_bits());
+        if both == [true; 2] {
+            report.answer("cycle/add_prolonged/minus-zero-and-minus-zero");
+        }
+        x[row] += coarse[map[row]];
+    }
+    told(report, "add_prolonged", name, floats.at(below, n), &x, kept);
 }
 
 fn corrected(report: &mut Report, random: &mut Random, name: &str, draw: Draw, n: usize) {

@@ -70,6 +70,7 @@ const COMPARISONS: &[(&str, Comparison)] = &[
     ("build", build::compare),
     ("sequence", sequence::compare),
     ("damage", sequence::damage::compare),
+    ("unscaled", sequence::compare_unscaled),
 ];
 
 struct Arguments {

@@ -24,15 +24,15 @@ use oracle::{AlgebraicMultigrid, MultigridResidualNorm, during_build};
 pub fn compare(report: &mut Report, random: &mut Random, effort: Effort) {
     report.set_hand_made(true);
     for (name, problem, calls) in hand::sequences() {
-        one_sequence(report, random, name, &problem, calls);
+        one_sequence(report, random, &format!("sequence/{name}"), &problem, calls);
     }
     report.set_hand_made(false);
     for _ in 0..effort.times(6_000, 100_000) {
         let problem = accepted(random, any_problem);
         let calls = draw_calls(random, &problem);
         let name = match problem.weights {
-            Some(_) => "with-weights",
-            None => "without-weights",
+            Some(_) => "sequence/with-weights",
+            None => "sequence/without-weights",
         };
         one_sequence(report, random, name, &problem, calls);
     }
@@ -40,8 +40,8 @@ pub fn compare(report: &mut Report, random: &mut Random, effort: Effort) {
         let problem = accepted(random, Problem::with_shaken_mirrors);
         let calls = draw_calls(random, &problem);
         let name = match problem.weights {
-            Some(_) => "shaken-mirrors/with-weights",
-            None => "shaken-mirrors/without-weights",
+            Some(_) => "sequence/shaken-mirrors/with-weights",
+            None => "sequence/shaken-mirrors/without-weights",
         };
         one_sequence(report, random, name, &problem, calls);
     }
@@ -49,6 +49,54 @@ pub fn compare(report: &mut Report, random: &mut Random, effort: Effort) {
         large(report, random, turn);
     }
     weeks(report, random, effort);
+}
+
+/// Solves with corrections that are added as they are.
+pub fn compare_unscaled(report: &mut Report, random: &mut Random, effort: Effort) {
+    for _ in 0..effort.times(2_000, 60_000) {
+        unscaled(report, random);
+    }
+}
+
+/// Corrections that are added as they are, on several levels. From some row on the right-hand side is zero or the smallest numbers there are,
+/// so that in parts of the matrix that nothing joins to the rest a coarse solution vanishes with either sign.
+fn unscaled(report: &mut Report, random: &mut Random) {
+    let problem = loop {
+        let problem = accepted(random, Problem::unscaled);
+        let built = crate::build::expected::build(&problem).answer;
+        if built.is_ok_and(|hierarchy| hierarchy.levels.len() > 1) {
+            break problem;
+        }
+    };
+    let rows = problem.arrays.rows;
+    let calls = (0..1 + random.index(4)).map(|_| {
+        let from = random.index(rows);
+        let mut small = |row: usize| match (row < from, random.below(3)) {
+            (true, _) => random.unit(),
+            (false, 0) => random.signed(0.0),
+            (false, _) => {
+                let size = f64::from_bits(1 + random.below(3));
+                random.signed(size)
+            }
+        };
+        let rhs = (0..rows).map(&mut small).collect();
+        let x = match random.below(2) {
+            0 => vec![random.signed(0.0); rows],
+            _ => (0..rows).map(|_| random.unit()).collect(),
+        };
+        let options = LinearSolverOptions {
+            absolute_tolerance: 0.0,
+            relative_tolerance: random.pick(&[0.0, 1e-8, 1e-3, 0.5]),
+            max_iterations: random.pick(&[1, 2, 3, 5, 10]),
+        };
+        Call::Solve { rhs, x, options }
+    });
+    let calls = calls.collect();
+    let name = match problem.weights {
+        Some(_) => "unscaled/with-weights",
+        None => "unscaled/without-weights",
+    };
+    one_sequence(report, random, name, &problem, calls);
 }
 
 /// More rows than a block of `dot` has: each of the two norms with plain cycles and with GCR in turn, and a solve that iterates
@@ -82,10 +130,10 @@ fn large(report: &mut Report, random: &mut Random, turn: u64) {
     ];
     let calls = [vec![first.clone()], others.to_vec(), vec![first]].concat();
     let name = match (norm, gcr) {
-        (0, false) => "large/AbsoluteL2/plain",
-        (0, true) => "large/AbsoluteL2/gcr",
-        (_, false) => "large/NormalizedL1/plain",
-        (_, true) => "large/NormalizedL1/gcr",
+        (0, false) => "sequence/large/AbsoluteL2/plain",
+        (0, true) => "sequence/large/AbsoluteL2/gcr",
+        (_, false) => "sequence/large/NormalizedL1/plain",
+        (_, true) => "sequence/large/NormalizedL1/gcr",
     };
     one_sequence(report, random, name, &problem, calls);
 }
@@ -103,7 +151,7 @@ fn weeks(report: &mut Report, random: &mut Random, effort: Effort) {
         _ => draw_solve(random, problem.arrays.rows),
     });
     let calls = calls.collect();
-    one_sequence(report, random, "weeks", &problem, calls);
+    one_sequence(report, random, "sequence/weeks", &problem, calls);
 }
 
 fn any_problem(random: &mut Random) -> Problem {
@@ -267,7 +315,7 @@ struct Session<'a> {
 fn one_sequence(
     report: &mut Report,
     random: &mut Random,
-    name: &str,
+    kind: &str,
     problem: &Problem,
     calls: Vec<Call>,
 ) {
@@ -293,7 +341,7 @@ fn one_sequence(
     if random.below(8) == 0 {
         session.near_the_end(random);
     }
-    let kind = report.kind(&format!("sequence/{name}"));
+    let kind = report.kind(kind);
     for (index, call) in calls.iter().enumerate() {
         let found = match call {
             Call::Update(arrays) => session.update(report, arrays),
@@ -332,6 +380,20 @@ impl Session<'_> {
             record.coarse_iterations = u64::MAX - random.below(4);
         }
         self.statistics = self.stores.statistics.clone();
+    }
+
+    /// Whether the coarse solution that the last cycle added to the finest level has a minus zero. It stands in the scratch of a solve,
+    /// behind right-hand side, solution, the pairs of GCR, the five vectors of the finest level and the next level's right-hand side.
+    fn minus_zero_below(&self) -> bool {
+        let [finest, next, ..] = self.hierarchy.levels.as_slice() else {
+            return false;
+        };
+        let pairs = 2 * self.problem.options.krylov_dimension as usize;
+        let from = 2 * self.hierarchy.floats() + (2 + pairs + 5) * finest.rows() + next.rows();
+        let coarse = &self.stores.floats[from..][..next.rows()];
+        coarse
+            .iter()
+            .any(|value| value.to_bits() == (-0.0_f64).to_bits())
     }
 
     /// What differs first, if anything does.
@@ -406,6 +468,9 @@ impl Session<'_> {
         }
         if let Some(found) = differs(&ours, &y, &due) {
             return Some(format!("solve: {found}"));
+        }
+        if !self.problem.options.scale_correction && due.answer.is_ok() && self.minus_zero_below() {
+            report.answer("unscaled/solve/minus-zero-below");
         }
         if self.stores.statistics != self.statistics {
             let (ours, due) = (&self.stores.statistics, &self.statistics);

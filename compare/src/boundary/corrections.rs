@@ -1,8 +1,8 @@
 //! The float work of a cycle, of `cycle`, and a step of the accelerator, of `acceleration`.
 
 use super::{
-    probe_add_plain, probe_add_scaled, probe_correct, probe_correction_factor, probe_prolong,
-    probe_restrict, probe_subtract, require_below, require_region,
+    probe_add_plain, probe_add_prolonged, probe_add_scaled, probe_correct, probe_correction_factor,
+    probe_prolong, probe_restrict, probe_subtract, require_below, require_region,
 };
 
 /// A map of `n` rows to `count` aggregates.
@@ -60,6 +60,29 @@ impl Transfer {
                 map,
                 coarse,
                 out,
+            );
+        }
+    }
+
+    /// x with each row's coarse solution added.
+    pub fn add_prolonged(&self, w: &[u32], f: &mut [f64], coarse: usize, x: usize) {
+        self.require(w);
+        require_region(coarse, x, self.n);
+        require_region(f.len(), coarse, self.count);
+        let &Self { n, count, map } = self;
+        let (words, floats) = (w.len(), f.len());
+        // SAFETY: the pointers are slices' own, with their lengths, and what is required was tested just now.
+        unsafe {
+            probe_add_prolonged(
+                w.as_ptr(),
+                words,
+                f.as_mut_ptr(),
+                floats,
+                n,
+                count,
+                map,
+                coarse,
+                x,
             );
         }
     }

@@ -276,6 +276,14 @@ impl Problem {
         problem
     }
 
+    /// A sound problem whose corrections are added as they are.
+    pub fn unscaled(random: &mut Random) -> Self {
+        let (_, mut problem) = Self::sound(random);
+        problem.options.scale_correction = false;
+        problem.lend(random);
+        problem
+    }
+
     /// More rows than a block of `dot` has, values with which a build is accepted, and what it asks for lent.
     pub fn large(random: &mut Random) -> Self {
         let rows = numbers::many_rows(random);

@@ -50,6 +50,24 @@ pub extern "C" fn probe_prolong(
 }
 
 #[no_mangle]
+pub extern "C" fn probe_add_prolonged(
+    w: &[u32],
+    f: &mut [f64],
+    n: usize,
+    count: usize,
+    map: usize,
+    coarse: usize,
+    x: usize,
+)
+    requires { ⌜ ProlongOk (now w) (length (now f)) n count map coarse x ⌝ }
+    ensures { λ _. ⌜ Wrote x n
+        (addPlainOf n (prolongOf n (part map n (now (w .entry))) (part coarse count (now (f .entry)))) (part x n (now (f .entry))))
+        (now (f .entry)) (now (f .exit)) ⌝ }
+{
+    correction::add_prolonged(w, f, n, count, map, coarse, x);
+}
+
+#[no_mangle]
 pub extern "C" fn probe_subtract(f: &mut [f64], n: usize, rhs: usize, product: usize, out: usize)
     requires { ⌜ SubtractOk (length (now f)) n rhs product out ⌝ }
     ensures { λ _. ⌜ Wrote out n
