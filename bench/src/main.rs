@@ -158,6 +158,13 @@ const ROWS: &[Row] = &[
         kernel: solve::with_gauss_seidel,
     },
     Row {
+        name: "solve, scaling off",
+        most: Some(0.9),
+        wanted_from: 64,
+        sides: &SIDES,
+        kernel: solve::with_scaling_off,
+    },
+    Row {
         name: "index check of a solve",
         most: None,
         wanted_from: 64,

@@ -1,5 +1,5 @@
 //! `solve` and `update_values` of mod.rs on a hierarchy that is built once, and `statistics`, which asks the index check
-//! alone: default controls but Cholesky, and two other choices of them.
+//! alone: default controls but Cholesky, and three other choices of them.
 
 use crate::grid::Grid;
 use crate::measure::Kernel;
@@ -84,6 +84,14 @@ pub fn with_plain_cycles(grid: &Grid) -> Box<dyn Kernel> {
 pub fn with_gauss_seidel(grid: &Grid) -> Box<dyn Kernel> {
     let options = oracle::MultigridOptions {
         smoother: MultigridSmoother::GaussSeidel,
+        ..cholesky()
+    };
+    Solve::boxed(grid, options)
+}
+
+pub fn with_scaling_off(grid: &Grid) -> Box<dyn Kernel> {
+    let options = oracle::MultigridOptions {
+        scale_correction: false,
         ..cholesky()
     };
     Solve::boxed(grid, options)
