@@ -43,7 +43,7 @@ struct stores {
 };
 
 static struct stores stores_of(uint64_t words, uint64_t floats, uint64_t statistics) {
-    struct stores s = {{words, floats, statistics}, memory(words, 4), memory(floats, 8), memory(statistics, 32)};
+    struct stores s = {{words, floats, statistics}, memory(words, 4), memory(floats, 8), memory(statistics, sizeof(struct multigrid_level_statistics))};
     return s;
 }
 

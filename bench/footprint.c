@@ -117,7 +117,7 @@ static void measure(const char *name, struct mesh m, struct multigrid_options op
         taken[which] = painted(which) - none;
         if (c.answer.question) printf("%s: %s\n", name, multigrid_sentence(c.answer.question));
     }
-    double bytes = 4.0 * (double)c.lent.words + 8.0 * (double)c.lent.floats + 32.0 * (double)c.lent.statistics;
+    double bytes = 4.0 * (double)c.lent.words + 8.0 * (double)c.lent.floats + 40.0 * (double)c.lent.statistics;
     printf("| %s | %zu | %zu | %llu | %llu | %.1f | %llu | %zu | %zu | %zu |\n", name, m.rows, m.entries, (unsigned long long)c.lent.words,
            (unsigned long long)c.lent.floats, bytes / 1e6, (unsigned long long)c.hierarchy.levels, taken[1], taken[2], taken[3]);
 }

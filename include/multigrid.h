@@ -117,7 +117,8 @@ struct multigrid_count {
 struct multigrid_level_statistics {
     uint64_t cells;             /* rows of the level */
     uint64_t visits;            /* cycles that came to it */
-    uint64_t smoothing_sweeps;
+    uint64_t pre_sweeps;        /* sweeps before the correction of a visit; the last level has no correction, and makes none */
+    uint64_t post_sweeps;       /* sweeps after it */
     uint64_t coarse_iterations; /* of the last level's solver; Cholesky makes none */
 };
 

@@ -63,7 +63,8 @@ const KINDS: &Names = &[
     (
         "sequence",
         "with-weights without-weights shaken-mirrors/with-weights shaken-mirrors/without-weights weeks large/AbsoluteL2/plain large/AbsoluteL2/gcr large/NormalizedL1/plain \
-        large/NormalizedL1/gcr hand-13-on-level-1 hand-16-on-level-1 hand-17 hand-17-on-level-1 hand-18 hand-27 hand-one-level",
+        large/NormalizedL1/gcr hand-13-on-level-1 hand-16-on-level-1 hand-17 hand-17-on-level-1 hand-18 hand-27 hand-one-level \
+        hand-deep-no-pre-sweeps hand-deep-pre-sweeps",
     ),
     (
         "smoother",
@@ -158,6 +159,11 @@ const DRAWN: &Names = &[
         large/NormalizedL1/gcr",
     ),
     (
+        "sequence/sweeps",
+        "below-the-end one-counter-stopped the-sum-stopped depth-0/none-before depth-1/none-before depth-1/some-before \
+        depth-2/none-before depth-2/some-before depth-3/none-before depth-3/some-before",
+    ),
+    (
         "sequence/update",
         "accepted refused-10 refused-12 refused-12/below-finest refused-13 refused-15 refused-15/below-finest refused-16 \
         refused-31",
@@ -189,6 +195,10 @@ const BY_HAND: &Names = &[
     ("build/accepted", "levels-08"),
     ("build", "refused-13/below-finest refused-17/below-finest"),
     ("sequence/solve", "refused-27"),
+    (
+        "sequence/sweeps",
+        "depth-4/none-before depth-4/some-before depth-5/none-before depth-5/some-before",
+    ),
     (
         "sequence/update",
         "refused-13/below-finest refused-16/below-finest refused-17 refused-17/below-finest refused-18",

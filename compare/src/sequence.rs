@@ -306,6 +306,8 @@ struct Session<'a> {
     theirs: AlgebraicMultigrid,
     /// The statistics that are due: the Rust counts refused solves too.
     statistics: Vec<MultigridLevelStatistics>,
+    /// The Rust's one number for the sweeps of each level, in the accepted solves since the counters started.
+    sweeps: Vec<u64>,
     /// The latest accepted values.
     arrays: Arrays,
     /// The hierarchy that is due.
@@ -331,6 +333,7 @@ fn one_sequence(
         problem,
         handle,
         statistics: stores.statistics.clone(),
+        sweeps: all_sweeps(&stores.statistics),
         stores,
         theirs: theirs(problem, &problem.arrays).expect("the Rust builds what it has built"),
         arrays: problem.arrays.clone(),
@@ -359,6 +362,12 @@ fn one_sequence(
     }
 }
 
+/// The Rust's one number for the sweeps of each level.
+fn all_sweeps(statistics: &[MultigridLevelStatistics]) -> Vec<u64> {
+    let sweeps = statistics.iter().map(|level| level.smoothing_sweeps());
+    sweeps.collect()
+}
+
 /// The Rust's hierarchy of the problem with those values.
 fn theirs(problem: &Problem, arrays: &Arrays) -> Option<AlgebraicMultigrid> {
     let matrix = arrays.container().ok()?;
@@ -376,10 +385,41 @@ impl Session<'_> {
     fn near_the_end(&mut self, random: &mut Random) {
         for record in &mut self.stores.statistics {
             record.visits = u64::MAX - random.below(4);
-            record.smoothing_sweeps = u64::MAX - random.below(4);
+            for sweeps in [&mut record.pre_sweeps, &mut record.post_sweeps] {
+                *sweeps = random.pick(&[u64::MAX, u64::MAX - 3, u64::MAX / 2, u64::MAX / 2 - 3, 0]);
+            }
             record.coarse_iterations = u64::MAX - random.below(4);
         }
         self.statistics = self.stores.statistics.clone();
+        self.sweeps = all_sweeps(&self.statistics);
+    }
+
+    /// Sweeps before and after corrections together beside the Rust's one number, where both stop at the end of u64.
+    fn swept(&mut self, report: &mut Report, made: &[u64]) -> Option<String> {
+        let levels = self.sweeps.iter_mut().zip(&self.stores.statistics);
+        for (depth, ((sweeps, record), made)) in levels.zip(made).enumerate() {
+            *sweeps = sweeps.saturating_add(*made);
+            let (pre, post) = (record.pre_sweeps, record.post_sweeps);
+            if pre.saturating_add(post) != *sweeps {
+                return Some(format!(
+                    "level {depth}: {pre} + {post} sweeps, the Rust {sweeps}"
+                ));
+            }
+            let end = match (*sweeps, pre, post) {
+                (u64::MAX, u64::MAX, _) | (u64::MAX, _, u64::MAX) => "one-counter-stopped",
+                (u64::MAX, ..) => "the-sum-stopped",
+                _ => "below-the-end",
+            };
+            report.answer(&format!("sequence/sweeps/{end}"));
+            if depth <= 5 && *made > 0 {
+                let before = match expected::sweeps_at(&self.problem.options, depth).0 {
+                    0 => "none",
+                    _ => "some",
+                };
+                report.answer(&format!("sequence/sweeps/depth-{depth}/{before}-before"));
+            }
+        }
+        None
     }
 
     /// Whether the coarse solution that the last cycle added to the finest level has a minus zero. It stands in the scratch of a solve,
@@ -452,7 +492,14 @@ impl Session<'_> {
         x: &[f64],
         options: LinearSolverOptions,
     ) -> Option<String> {
-        let due = expected::solve(&mut self.theirs, rhs, x, options, &mut self.statistics);
+        let due = expected::solve(
+            self.problem,
+            &mut self.theirs,
+            rhs,
+            x,
+            options,
+            &mut self.statistics,
+        );
         let before = self.stores.clone();
         let mut y = x.to_vec();
         let ours = lent::solve(&self.handle, &mut self.stores, rhs, &mut y, options).map_err(told);
@@ -475,6 +522,9 @@ impl Session<'_> {
         if self.stores.statistics != self.statistics {
             let (ours, due) = (&self.stores.statistics, &self.statistics);
             return Some(format!("solve: statistics {ours:?}, due {due:?}"));
+        }
+        if let Some(found) = self.swept(report, &due.sweeps) {
+            return Some(format!("solve: {found}"));
         }
         let refused = ours.is_err();
         if let Some(found) = self.kept(&before, refused).or_else(|| self.view()) {

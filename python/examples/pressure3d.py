@@ -16,7 +16,7 @@ def main():
         print(f"step {step:2}: {report}")
     print(f"pressure in the middle {pressure[SIDE // 2 * corner_to_corner]:.6f}")
     for number, level in enumerate(tank.statistics()):
-        print(f"level {number}: {level.cells} cells, {level.visits} visits, {level.smoothing_sweeps} sweeps")
+        print(f"level {number}: {level.cells} cells, {level.visits} visits, {level.pre_sweeps} sweeps before and {level.post_sweeps} after a correction")
 
 
 if __name__ == "__main__":

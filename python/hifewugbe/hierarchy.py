@@ -12,11 +12,12 @@ class Level(NamedTuple):
 
 
 class LevelStatistics(NamedTuple):
-    """What was done on a level since its build."""
+    """What was done on a level since its build; sweeps before the correction of a visit and after it."""
 
     cells: int
     visits: int
-    smoothing_sweeps: int
+    pre_sweeps: int
+    post_sweeps: int
     coarse_iterations: int
 
 

@@ -80,7 +80,7 @@ class Count(ctypes.Structure):
 class Record(ctypes.Structure):
     """struct multigrid_level_statistics"""
 
-    _fields_ = [("cells", _word), ("visits", _word), ("smoothing_sweeps", _word), ("coarse_iterations", _word)]
+    _fields_ = [("cells", _word), ("visits", _word), ("pre_sweeps", _word), ("post_sweeps", _word), ("coarse_iterations", _word)]
 
 
 class Charge(ctypes.Structure):

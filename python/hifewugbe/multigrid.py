@@ -160,13 +160,13 @@ class Multigrid:
 
         >>> press = Multigrid([0, 2, 4], [0, 1, 0, 1], [4.0, -2.0, -2.0, 2.0])
         >>> press.statistics()
-        [LevelStatistics(cells=2, visits=0, smoothing_sweeps=0, coarse_iterations=0)]
+        [LevelStatistics(cells=2, visits=0, pre_sweeps=0, post_sweeps=0, coarse_iterations=0)]
         """
         with self._lock:
             count = LIBRARY.multigrid_statistics(self._handle, *self._stores.slices())
             _answered(count.answer)
             records = self._stores.statistics[: count.levels]
-            return [LevelStatistics(r.cells, r.visits, r.smoothing_sweeps, r.coarse_iterations) for r in records]
+            return [LevelStatistics(r.cells, r.visits, r.pre_sweeps, r.post_sweeps, r.coarse_iterations) for r in records]
 
     @property
     def rows(self):

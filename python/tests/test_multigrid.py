@@ -65,7 +65,7 @@ class Builds(unittest.TestCase):
     def test_stores_grow_only_as_far_as_they_must(self):
         grid = Multigrid(*laplacian((32, 32)))
         most = LIBRARY.multigrid_charge(1024, 4992, Options()._controls(), 2)
-        self.assertEqual(grid.nbytes, 4 * most.words + 8 * most.floats + 32 * most.statistics)
+        self.assertEqual(grid.nbytes, 4 * most.words + 8 * most.floats + 40 * most.statistics)
         offsets, columns, values, weights = star(60)
         grown = Multigrid(offsets, columns, values, weights, Options(coarsest_cells=1, merge_levels=1, max_levels=128))
         self.assertEqual([level.rows for level in grown.levels], list(range(60, 0, -1)))
@@ -127,6 +127,16 @@ class Solves(unittest.TestCase):
         for x in ((0.0, 0.0), array("f", [0, 0]), bytes(16)):
             with self.assertRaises(TypeError):
                 press.solve([2.0, 0.0], x)
+
+    def test_the_work_of_a_solve_is_known_from_its_report(self):
+        grid = Multigrid(*laplacian((32, 32)), options=Options(pre_sweeps=1, max_sweeps=3))
+        times = grid.solve([1.0] * grid.rows).iterations
+        levels = grid.statistics()
+        for depth, level in enumerate(levels):
+            last, extra = depth == len(levels) - 1, max(depth - 1, 0)
+            pre = 0 if depth == 0 or last else min(1 + extra, 3)
+            post = 0 if last else 1 if depth == 0 else min(2 + extra, 3)
+            self.assertEqual(level[1:], (times, times * pre, times * post, 0))
 
     def test_a_refused_solve_leaves_everything(self):
         press, x = Multigrid(*PRESS), [7.0, 7.0]
@@ -206,7 +216,7 @@ class Calls(unittest.TestCase):
             self.assertEqual(LIBRARY.multigrid_statistics(handle, *stores).answer.question, 19)
 
     def test_structs_have_the_sizes_of_the_header(self):
-        self.assertEqual([ctypes.sizeof(kind) for kind in (Controls, Handle, Record)], [128, 152, 32])
+        self.assertEqual([ctypes.sizeof(kind) for kind in (Controls, Handle, Record)], [128, 152, 40])
 
 
 @unittest.skipIf(numpy is None, "NumPy is not installed")

@@ -94,8 +94,22 @@ pub struct MultigridLevelStatistics {
     pub cells: u64,
     /// The cycles that came to it.
     pub visits: u64,
-    /// The sweeps of its smoother.
-    pub smoothing_sweeps: u64,
+    /// The sweeps of its smoother before the correction of a visit; the last level has no correction, and makes none.
+    pub pre_sweeps: u64,
+    /// Those after it.
+    pub post_sweeps: u64,
     /// Of the last level; Cholesky takes none.
     pub coarse_iterations: u64,
+}
+
+impl MultigridLevelStatistics {
+    /// All sweeps of its smoother, which the source counts in one number.
+    ///
+    /// ```
+    /// let level = multigrid::MultigridLevelStatistics { pre_sweeps: 2, post_sweeps: 3, ..Default::default() };
+    /// assert_eq!(level.smoothing_sweeps(), 5);
+    /// ```
+    pub fn smoothing_sweeps(&self) -> u64 {
+        self.pre_sweeps.saturating_add(self.post_sweeps)
+    }
 }

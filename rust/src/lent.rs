@@ -53,7 +53,7 @@ pub struct CsrMatrix<'a> {
 /// use multigrid::lent::{Charge, Stores};
 ///
 /// let stores = Stores::new(Charge { words: 10, floats: 20, statistics: 3 })?;
-/// assert_eq!((stores.words.len(), stores.bytes()), (10, 4 * 10 + 8 * 20 + 32 * 3));
+/// assert_eq!((stores.words.len(), stores.bytes()), (10, 4 * 10 + 8 * 20 + 40 * 3));
 /// # Ok::<(), multigrid::Refusal>(())
 /// ```
 #[derive(Clone, Default)]
@@ -82,7 +82,7 @@ pub struct Charge {
     pub words: usize,
     /// Of 8 bytes.
     pub floats: usize,
-    /// Of 32 bytes.
+    /// Of 40 bytes.
     pub statistics: usize,
 }
 

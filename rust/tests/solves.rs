@@ -47,6 +47,10 @@ fn the_small_press_converges_in_one_iteration() {
     assert_eq!((report.final_residual, x), (0.0, [1.0, 1.0]));
     let statistics = solver.statistics();
     assert_eq!((statistics.len(), statistics[0].visits), (1, 1));
+    assert_eq!(
+        (statistics[0].pre_sweeps, statistics[0].post_sweeps),
+        (0, 0)
+    );
 }
 
 #[test]

@@ -8,7 +8,7 @@
 //! - the offsets, the columns, the bits of the values, the bits of the weights;
 //! - the 16 controls in the order of options.rs without `profile`: enums by their place there from 0, yes as 1, tolerances as
 //!   bits;
-//! - how many words, floats and words of statistics, four to a record, are lent;
+//! - how many words, floats and words of statistics, five to a record, are lent;
 //! - the answer: 0 or the question's number, its level, its row, the levels built;
 //! - the rows of each of these levels;
 //! - the checksum of an accepted build over the view that stands in the stores: of each level its rows, 1 if it is the
@@ -122,7 +122,7 @@ pub fn arguments(problem: &Problem) -> String {
     line(&mut text, arrays.values.iter().map(|value| value.to_bits()));
     line(&mut text, weights.iter().map(|weight| weight.to_bits()));
     line(&mut text, controls(&problem.options));
-    let lengths = [lent.words, lent.floats, 4 * lent.statistics];
+    let lengths = [lent.words, lent.floats, 5 * lent.statistics];
     line(&mut text, lengths.map(|length| length as u64));
     text
 }

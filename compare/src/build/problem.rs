@@ -40,7 +40,8 @@ fn noise(random: &mut Random) -> MultigridLevelStatistics {
     MultigridLevelStatistics {
         cells: random.bits(),
         visits: random.bits(),
-        smoothing_sweeps: random.bits(),
+        pre_sweeps: random.bits(),
+        post_sweeps: random.bits(),
         coarse_iterations: random.bits(),
     }
 }

@@ -214,7 +214,8 @@ fn changed(before: &Stores, now: &Stores, floats: usize, counted: usize) -> Opti
         let kept = if record < counted {
             then.cells == now.cells
                 && then.visits <= now.visits
-                && then.smoothing_sweeps <= now.smoothing_sweeps
+                && then.pre_sweeps <= now.pre_sweeps
+                && then.post_sweeps <= now.post_sweeps
                 && then.coarse_iterations <= now.coarse_iterations
         } else {
             then == now

@@ -9,16 +9,39 @@ use crate::csr::Arrays;
 use multigrid::{
     LinearSolveReport, LinearSolverOptions, LinearSolverStatus, MultigridLevelStatistics,
 };
-use oracle::{AlgebraicMultigrid, LinearAlgebraError};
+use oracle::MultigridLevelStatistics as Counted;
+use oracle::{AlgebraicMultigrid, LinearAlgebraError, MultigridOptions};
 
 pub struct Solved {
     pub answer: Result<LinearSolveReport, Refused>,
     /// The solution; as it was where the solve is refused.
     pub x: Vec<f64>,
+    /// The sweeps that the Rust counted in it on each level, before and after corrections in one number; none where it is refused.
+    pub sweeps: Vec<u64>,
 }
 
-/// The Rust's solve. What it counts is added to the statistics only where it accepts; they stop at the end of u64.
+/// The sweeps of one visit at that depth before its correction and after it, of a level that is not the last: document 01's counts.
+pub fn sweeps_at(options: &MultigridOptions, depth: usize) -> (u64, u64) {
+    let most = options.max_sweeps;
+    let extra = options
+        .sweep_level_multiplier
+        .saturating_mul(depth.saturating_sub(1));
+    let (pre, post) = match (depth, options.pre_sweeps) {
+        (0, _) => (0, options.finest_sweeps),
+        (_, 0) => (0, options.post_sweeps.saturating_add(extra).min(most)),
+        (_, pre) => (
+            pre.saturating_add(extra).min(most),
+            options.post_sweeps.saturating_add(extra).min(most),
+        ),
+    };
+    (pre as u64, post as u64)
+}
+
+/// The Rust's solve. What it counts is added to the statistics only where it accepts; they stop at the end of u64. It does not tell
+/// sweeps before a correction from those after it: each iteration visits each level once, so that so many times the counts of
+/// its depth are due, and none on the last level.
 pub fn solve(
+    problem: &Problem,
     theirs: &mut AlgebraicMultigrid,
     rhs: &[f64],
     x: &[f64],
@@ -39,13 +62,21 @@ pub fn solve(
     match answer {
         Ok(report) => {
             let levels = before.iter().zip(theirs.statistics());
-            for ((before, after), record) in levels.zip(statistics) {
+            let made = |(before, after): (&Counted, &Counted)| {
+                after.smoothing_sweeps - before.smoothing_sweeps
+            };
+            let sweeps = levels.clone().map(made).collect();
+            let last = before.len() - 1;
+            for (depth, ((before, after), record)) in levels.zip(statistics).enumerate() {
                 let add = |counter: &mut u64, more: u64| *counter = counter.saturating_add(more);
+                let (pre, post) = match depth {
+                    depth if depth == last => (0, 0),
+                    _ => sweeps_at(&problem.options, depth),
+                };
+                let times = report.iterations as u64;
                 add(&mut record.visits, after.visits - before.visits);
-                add(
-                    &mut record.smoothing_sweeps,
-                    after.smoothing_sweeps - before.smoothing_sweeps,
-                );
+                add(&mut record.pre_sweeps, times * pre);
+                add(&mut record.post_sweeps, times * post);
                 add(
                     &mut record.coarse_iterations,
                     after.coarse_iterations - before.coarse_iterations,
@@ -63,11 +94,13 @@ pub fn solve(
                     relative_residual: report.relative_residual,
                 }),
                 x: y,
+                sweeps,
             }
         }
         Err(error) => Solved {
             answer: Err((number_of(&error), 0, 0)),
             x: x.to_vec(),
+            sweeps: Vec::new(),
         },
     }
 }

@@ -1,5 +1,5 @@
 //! Sequences that random ones do not meet: the quotient of a correction that is not finite (27), an update whose DIC
-//! reciprocal is not (17), and updates that are refused below the finest level.
+//! reciprocal is not (17), updates that are refused below the finest level, and sweeps on eight levels.
 
 use super::Call;
 use crate::build::expected;
@@ -17,7 +17,7 @@ pub fn listed() -> Vec<Sequence> {
 }
 
 pub fn sequences() -> Vec<Sequence> {
-    [listed(), refused_below(), vec![one_level()]].concat()
+    [listed(), refused_below(), vec![one_level()], deep()].concat()
 }
 
 /// The stores that its build asks for.
@@ -155,6 +155,56 @@ fn one_level() -> Sequence {
         lent: Lent::PLENTY,
     });
     ("hand-one-level", problem, calls)
+}
+
+/// A path of 128 rows, which is halved seven times: without sweeps before a correction, and with two and more of them. Some solves make
+/// no iteration, some two, some as many as they need.
+fn deep() -> Vec<Sequence> {
+    const ROWS: usize = 128;
+    let (mut offsets, mut columns, mut values) = (vec![0], Vec::new(), Vec::new());
+    for row in 0..ROWS {
+        for column in row.saturating_sub(1)..=(row + 1).min(ROWS - 1) {
+            columns.push(column as u32);
+            values.push(if column == row { 2.25 } else { -1.0 });
+        }
+        offsets.push(columns.len() as u32);
+    }
+    let arrays = Arrays {
+        rows: ROWS,
+        offsets,
+        columns,
+        values,
+    };
+    let solve = |max_iterations, absolute_tolerance| Call::Solve {
+        rhs: (1..=ROWS).map(|row| row as f64).collect(),
+        x: vec![0.0; ROWS],
+        options: LinearSolverOptions {
+            absolute_tolerance,
+            relative_tolerance: 1e-8,
+            max_iterations,
+        },
+    };
+    let calls = [solve(2, 0.0), solve(100, 0.0), solve(2, f64::MAX)];
+    let one = |name, pre_sweeps| {
+        let options = MultigridOptions {
+            pre_sweeps,
+            max_sweeps: 6,
+            coarsest_cells: 1,
+            merge_levels: 1,
+            ..cholesky()
+        };
+        let problem = lent(Problem {
+            arrays: arrays.clone(),
+            weights: None,
+            options,
+            lent: Lent::PLENTY,
+        });
+        (name, problem, calls.to_vec())
+    };
+    vec![
+        one("hand-deep-no-pre-sweeps", 0),
+        one("hand-deep-pre-sweeps", 2),
+    ]
 }
 
 /// The builds that are refused on level 1, as updates of one that is not; and 18, of the values of that level.

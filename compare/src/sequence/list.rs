@@ -127,10 +127,11 @@ fn one_sequence(problem: &Problem, calls: &[Call], added: u64) -> (String, Vec<S
                     ],
                 );
                 let due = match other {
-                    0 => expected::solve(&mut theirs, rhs, x, *options, &mut statistics),
+                    0 => expected::solve(problem, &mut theirs, rhs, x, *options, &mut statistics),
                     _ => expected::Solved {
                         answer: Err((19, 0, 0)),
                         x: x.clone(),
+                        sweeps: Vec::new(),
                     },
                 };
                 kinds.push(format!("solve/{}", outcome(&due.answer)));
@@ -150,10 +151,10 @@ fn one_sequence(problem: &Problem, calls: &[Call], added: u64) -> (String, Vec<S
                 }
                 let solution = rising(due.x.iter().map(|value| value.to_bits()));
                 let counted = statistics.iter().flat_map(|record| {
-                    let counters = [record.visits, record.smoothing_sweeps];
-                    [record.cells]
+                    let sweeps = [record.pre_sweeps, record.post_sweeps];
+                    [record.cells, record.visits]
                         .into_iter()
-                        .chain(counters)
+                        .chain(sweeps)
                         .chain([record.coarse_iterations])
                 });
                 line(&mut text, [solution, rising(counted)]);

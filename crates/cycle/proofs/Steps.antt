@@ -7,7 +7,6 @@ use Prim.Native.Nat.{ℕ, _+_, _*_, _≤_, _<_}
 use native.Mathlib.Omega.{arith}
 use lib.ListN.{length}
 use lib.Ieee.{Float}
-use Rattle.float.specs.Saturating.{saturatingSum}
 use Rattle.store.specs.Region.{idx, part, Kept}
 use Rattle.store.proofs.store.Region.{length-part}
 use Rattle.options.specs.declared.options.MultigridOptions.{MultigridOptions}
@@ -64,13 +63,6 @@ module _ (o : MultigridOptions) (w : List ℕ) (depth a b s : ℕ) {g : Inner} (
       → WentDown o w F G depth a b s r
   down-done p d = record { visit = rw (e, p) at d }
 
--- A sum that stops at the largest number, added, is the sum added.
-pub sum-count : (i a b : ℕ) (t : List ℕ) → countOf i (saturatingSum a b) t ≡ countOf i (a + b) t
-unfolding countOf
-sum-count i a b t =
-    let e : saturatingSum (idx t i) (saturatingSum a b) ≡ saturatingSum (idx t i) (a + b) = omega arith in
-    rw e
-
 module _ (o : MultigridOptions) (w : List ℕ) {F G : List Float} (t : List ℕ) (depth a b s : ℕ) {g : Inner} {pre post : ℕ} {v : Verdict}
     (e : g ≡ innerAt w a b s) (p : pre ≡ preSweepsOf o depth) (q : post ≡ postSweepsOf o depth)
     (m : Moved (g .vectors .x) (g .matrix .rows) (raisedAt w F g (o .smoother) (o .«scale_correction») pre post) F G v) where
@@ -92,14 +84,14 @@ module _ (o : MultigridOptions) (w : List ℕ) {F G : List Float} (t : List ℕ)
       record { answer = sym (verdict-refused out all); x = λ c y. never all y; counts = λ c y. never all y; floats = m' .floats }
 
   -- The sweeps are counted.
-  pub up-yes : {sum : ℕ} {u : List ℕ} → v ≡ Verdict.Passed → sum ≡ saturatingSum pre post → u ≡ countOf (3 * depth + 1) sum t
+  pub up-yes : {t₁ u : List ℕ} → v ≡ Verdict.Passed → t₁ ≡ countOf (4 * depth + 1) pre t → u ≡ countOf (4 * depth + 2) post t₁
       → Visited s (rowsAt w a) (upAt o w F t depth a b s) F G u Verdict.Passed
   unfolding upAt
-  up-yes {sum} {u} told f c =
+  up-yes {t₁} {u} told before behind =
       let out = upAt o w F t depth a b s in
       let yes = accepts-it raisedTo (m' .answer) told in
-      let after = swept depth (preSweepsOf o depth + postSweepsOf o depth) t in
-      let counts : u ≡ after = c ∙ ap (λ (k : ℕ). countOf (3 * depth + 1) k t) f ∙ sum-count (3 * depth + 1) pre post t ∙ rw (p, q) in
+      let after = swept depth (preSweepsOf o depth) (postSweepsOf o depth) t in
+      let counts : u ≡ after = behind ∙ rw (before, p, q) in
       let all : out ≡ accepted (cycled (yes .0) after) = then-accepted raisedTo (λ z. accepted (cycled z after)) (yes .1) in
       record {
         answer = sym (verdict-passed out all);
@@ -167,7 +159,7 @@ visit-of (refused q) counts e x c k = record {
 -- The last level's visit.
 pub end-done : {w : List ℕ} {F G : List Float} (t : List ℕ) {u : List ℕ} {depth a b s : ℕ} {p : Place} {coupled : ℕ} {k : Terminal} {v : LevelScratch} {r : Verdict}
     → EndOk w (length F) depth a b s → p ≡ locate w a b → coupled ≡ idx w (a + 2) → k ≡ parts.terminalIn p coupled
-    → v ≡ scratchOf s (p .rows) → Solved k w (p .inverse) (v .rhs) (v .x) (v .work) F G r → u ≡ countOf (3 * depth + 2) 0 t
+    → v ≡ scratchOf s (p .rows) → Solved k w (p .inverse) (v .rhs) (v .x) (v .work) F G r → u ≡ countOf (4 * depth + 3) 0 t
     → Visited s (rowsAt w a) (endAt w F t depth a b s) F G u r
 unfolding endAt
 end-done {w} {F} {G} t {u} {depth} {a} {b} {s} {p} {coupled} {k} {v} {r} ok at-p at-c is at-v d c =

@@ -313,7 +313,7 @@ module _ (o : MultigridOptions) (depth n : ℕ) (links : List ℕ) where
   abbrev upWith : Kernel → List Float → List Float → List Float → List Float → List Float → List ℕ → Outcome Cycled
   upWith k dic rhs r e x u =
       _>>=_ (_>>=_ (corrected (o .«scale_correction») k r (prolongOf n links e) x) (λ y. smoothOf k dic rhs (o .smoother) (postSweepsOf o depth) y))
-      (λ z. accepted (cycled z (swept depth (preSweepsOf o depth + postSweepsOf o depth) u)))
+      (λ z. accepted (cycled z (swept depth (preSweepsOf o depth) (postSweepsOf o depth) u)))
 
   -- It depends on nothing else.
   up-same : {k k' : Kernel} {dic dic' rhs rhs' r r' e e' x x' : List Float} {u u' : List ℕ} → k ≡ k' → dic ≡ dic' → rhs ≡ rhs' → r ≡ r' → e ≡ e'
@@ -331,15 +331,15 @@ up-chain o w F depth a b s r x d =
     let n = rowsAt w a in
     then-then (corrected (o .«scale_correction») (matrixAt w F (innerAt w a b s)) r (prolongOf n (part (P .links) n w) (d .x)) x)
     (λ y. smoothOf (matrixAt w F (innerAt w a b s)) (part (P .dic) n F) (part s n F) (o .smoother) (postSweepsOf o depth) y)
-    (λ z. accepted (cycled z (swept depth (preSweepsOf o depth + postSweepsOf o depth) (d .counts))))
+    (λ z. accepted (cycled z (swept depth (preSweepsOf o depth) (postSweepsOf o depth) (d .counts))))
 
 -- ---- the ways out
 
 module _ (o : MultigridOptions) (left : ℕ) (w : List ℕ) (F : List Float) (t : List ℕ) {t₁ : List ℕ} (depth a b s : ℕ)
-    (ok : CycleOk left w (length F) depth a b s) (first : t₁ ≡ countOf (3 * depth + 0) 1 t) where
+    (ok : CycleOk left w (length F) depth a b s) (first : t₁ ≡ countOf (4 * depth + 0) 1 t) where
   -- The first count is that of a visit.
   ct : t₁ ≡ visited depth t
-  ct = first ∙ ap (λ (i : ℕ). countOf i 1 t) (add-zero (3 * depth))
+  ct = first ∙ ap (λ (i : ℕ). countOf i 1 t) (add-zero (4 * depth))
 
   -- the level's place and as its visit has it, and its rows
   abbrev P : Place

@@ -122,7 +122,7 @@ endAt w F t depth a b s = do
 unfoldable pub upAt : MultigridOptions → List ℕ → List Float → List ℕ → ℕ → ℕ → ℕ → ℕ → Outcome Cycled
 upAt o w F t depth a b s = do
   z ← raisedAt w F (innerAt w a b s) (o .smoother) (o .«scale_correction») (preSweepsOf o depth) (postSweepsOf o depth)
-  accepted (cycled z (swept depth (preSweepsOf o depth + postSweepsOf o depth) t))
+  accepted (cycled z (swept depth (preSweepsOf o depth) (postSweepsOf o depth) t))
 
 -- The way down of a level with the sweeps of the controls.
 pub record WentDown (o : MultigridOptions) (w : List ℕ) (F G : List Float) (depth a b s : ℕ) (r : Verdict) : Type 0 where

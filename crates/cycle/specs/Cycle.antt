@@ -21,7 +21,7 @@ use Rattle.correction.specs.Scaled.{addScaledOf}
 use Rattle.correction.specs.Scaling.{correctionFactorOf}
 use Rattle.hierarchy.specs.Level.{Level, kernelIn}
 
--- ---- counters: three numbers to a level, its visits, smoothing sweeps and coarse iterations
+-- ---- counters: four numbers to a level, its visits, its sweeps before and after the correction, its coarse iterations
 
 -- number i of the counters with so many added
 unfoldable pub countOf : ℕ → ℕ → List ℕ → List ℕ
@@ -29,15 +29,15 @@ countOf i more t = set t i (saturatingSum (idx t i) more)
 
 -- one visit more of the level at that depth
 abbrev pub visited : ℕ → List ℕ → List ℕ
-visited depth t = countOf (3 * depth) 1 t
+visited depth t = countOf (4 * depth) 1 t
 
--- so many sweeps more
-abbrev pub swept : ℕ → ℕ → List ℕ → List ℕ
-swept depth sweeps t = countOf (3 * depth + 1) sweeps t
+-- so many sweeps more before the correction of a visit, and so many after it
+abbrev pub swept : ℕ → ℕ → ℕ → List ℕ → List ℕ
+swept depth pre post t = countOf (4 * depth + 2) post (countOf (4 * depth + 1) pre t)
 
 -- so many iterations of the coarse solver more: Cholesky makes none
 abbrev pub iterated : ℕ → ℕ → List ℕ → List ℕ
-iterated depth iterations t = countOf (3 * depth + 2) iterations t
+iterated depth iterations t = countOf (4 * depth + 3) iterations t
 
 -- ---- one level
 
@@ -97,7 +97,7 @@ module _ (o : MultigridOptions) where
   upOf l depth rhs residual x d = do
     y ← corrected (o .«scale_correction») (kernelIn l) residual (prolongOf (rowsIn l) (l .shape .links) (d .x)) x
     z ← smoothed o l (postSweepsOf o depth) rhs y
-    accepted (cycled z (swept depth (preSweepsOf o depth + postSweepsOf o depth) (d .counts)))
+    accepted (cycled z (swept depth (preSweepsOf o depth) (postSweepsOf o depth) (d .counts)))
 
   -- `cycle`: from the right-hand side and x of the first level, at that depth
   unfoldable pub cycleOf : List Level → ℕ → List Float → List Float → List ℕ → Outcome Cycled

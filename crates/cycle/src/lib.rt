@@ -19,12 +19,12 @@ pub enum Way {
     Up,
 }
 
-// Adds to a counter of the level at that depth: 0 its visits, 1 its smoothing sweeps, 2 its coarse iterations.
-fn count(t: &mut [u64; 384], depth: u64, counter: u64, more: u64)
-    requires { ⌜ 3 * depth + counter < 384 ⌝ }
-    ensures { λ _. ⌜ now (t .exit) ≡ countOf (3 * depth + counter) more (now (t .entry)) ⌝ }
+// Adds to a counter of the level at that depth: 0 its visits, 1 its sweeps before the correction, 2 those after it, 3 its coarse iterations.
+fn count(t: &mut [u64; 512], depth: u64, counter: u64, more: u64)
+    requires { ⌜ 4 * depth + counter < 512 ⌝ }
+    ensures { λ _. ⌜ now (t .exit) ≡ countOf (4 * depth + counter) more (now (t .entry)) ⌝ }
 {
-    let i = (3 * depth + counter) as usize;
+    let i = (4 * depth + counter) as usize;
     t[i] = float::saturating_add(t[i], more);
 }
 
@@ -32,7 +32,7 @@ fn count(t: &mut [u64; 384], depth: u64, counter: u64, more: u64)
 fn end(
     w: &[u32],
     f: &mut [f64],
-    t: &mut [u64; 384],
+    t: &mut [u64; 512],
     depth: u64,
     a: usize,
     b: usize,
@@ -45,7 +45,7 @@ fn end(
     let terminal = layout::terminal_in(p, store::wide(w[a + 2]));
     let v = smoother::level_scratch(s, p.rows);
     let r = coarse::solve(w, f, terminal, p.inverse, v.rhs, v.x, v.work);
-    count(t, depth, 2, 0);
+    count(t, depth, 3, 0);
     r
 }
 
@@ -92,7 +92,7 @@ fn down(
 fn up(
     w: &[u32],
     f: &mut [f64],
-    t: &mut [u64; 384],
+    t: &mut [u64; 512],
     o: MultigridOptions,
     depth: u64,
     a: usize,
@@ -109,7 +109,8 @@ fn up(
     match visit::up(w, f, g, kind, o.scale_correction, pre, post) {
         Verdict::Refused(q) => Verdict::Refused(q),
         Verdict::Passed => {
-            count(t, depth, 1, float::saturating_add(pre, post));
+            count(t, depth, 1, pre);
+            count(t, depth, 2, post);
             Verdict::Passed
         }
     }
@@ -120,7 +121,7 @@ fn up(
 fn work(
     w: &[u32],
     f: &mut [f64],
-    t: &mut [u64; 384],
+    t: &mut [u64; 512],
     o: MultigridOptions,
     way: Way,
     depth: u64,
@@ -142,7 +143,7 @@ fn work(
 pub fn cycle(
     w: &[u32],
     f: &mut [f64],
-    t: &mut [u64; 384],
+    t: &mut [u64; 512],
     o: MultigridOptions,
     left: u64,
     depth: u64,

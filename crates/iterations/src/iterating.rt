@@ -14,7 +14,7 @@ pub fn iterate(
     h: Handle,
     w: &[u32],
     f: &mut [f64],
-    t: &mut [u64; 384],
+    t: &mut [u64; 512],
     g: Regions,
     factor: f64,
     initial: f64,

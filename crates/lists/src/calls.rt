@@ -1,4 +1,4 @@
-// The calls over numbers, four to a record of statistics, as programs with plain numbers hold them: the first 128 records are lent.
+// The calls over numbers, five to a record of statistics, as programs with plain numbers hold them: the first 128 records are lent.
 // Numbers behind the last whole record are no record: a call that writes statistics leaves zeros there.
 use crate::least;
 use crate::lent;
@@ -21,7 +21,7 @@ pub fn new(
     statistics: &mut [u64],
 ) -> Built {
     let table = lent::records_of(statistics);
-    let records = least(statistics.len() / 4, 128);
+    let records = least(statistics.len() / 5, 128);
     lent::new(
         rows,
         offsets,
@@ -48,7 +48,7 @@ pub fn new_with_face_weights(
     statistics: &mut [u64],
 ) -> Built {
     let table = lent::records_of(statistics);
-    let records = least(statistics.len() / 4, 128);
+    let records = least(statistics.len() / 5, 128);
     lent::new_with_face_weights(
         rows,
         offsets,
@@ -74,7 +74,7 @@ pub fn update_values(
     statistics: &[u64],
 ) -> Updated {
     let table = lent::records_of(statistics);
-    let records = least(statistics.len() / 4, 128);
+    let records = least(statistics.len() / 5, 128);
     lent::update_values(
         handle,
         offsets,
@@ -97,7 +97,7 @@ pub fn solve(
     options: LinearSolverOptions,
 ) -> Solved {
     let table = lent::records_of(statistics);
-    let records = least(statistics.len() / 4, 128);
+    let records = least(statistics.len() / 5, 128);
     lent::solve(
         handle,
         words,
@@ -113,6 +113,6 @@ pub fn solve(
 
 pub fn statistics(handle: Handle, words: &[u32], floats: &[f64], statistics: &[u64]) -> Counted {
     let table = lent::records_of(statistics);
-    let records = least(statistics.len() / 4, 128);
+    let records = least(statistics.len() / 5, 128);
     lent::statistics(handle, words, floats, table, records)
 }

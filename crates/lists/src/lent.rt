@@ -10,27 +10,28 @@ use solver::MultigridLevelStatistics;
 use solver::Solved;
 use solver::Updated;
 
-// The record whose four numbers start there; an empty one where there are not so many.
+// The record whose five numbers start there; an empty one where there are not so many.
 fn record(numbers: &[u64], at: usize) -> MultigridLevelStatistics
-    requires { ⌜ at ≤ 508 ⌝ }
+    requires { ⌜ at ≤ 635 ⌝ }
 {
-    if at + 4 > numbers.len() {
+    if at + 5 > numbers.len() {
         return MultigridLevelStatistics::unvisited(0);
     }
     MultigridLevelStatistics {
         cells: numbers[at],
         visits: numbers[at + 1],
-        smoothing_sweeps: numbers[at + 2],
-        coarse_iterations: numbers[at + 3],
+        pre_sweeps: numbers[at + 2],
+        post_sweeps: numbers[at + 3],
+        coarse_iterations: numbers[at + 4],
     }
 }
 
-// The records that stand in numbers, four to a record.
+// The records that stand in numbers, five to a record.
 pub fn records_of(numbers: &[u64]) -> [MultigridLevelStatistics; 128] {
     let mut records = [MultigridLevelStatistics::unvisited(0); 128];
     let mut k = 0;
     while k < 128 {
-        records[k] = record(numbers, 4 * k);
+        records[k] = record(numbers, 5 * k);
         k += 1;
     }
     records
@@ -43,14 +44,15 @@ fn put(numbers: &mut [u64], at: usize, number: u64) {
     }
 }
 
-// A record to its four numbers, which start there.
+// A record to its five numbers, which start there.
 fn put_record(numbers: &mut [u64], at: usize, r: MultigridLevelStatistics)
-    requires { ⌜ at ≤ 508 ⌝ }
+    requires { ⌜ at ≤ 635 ⌝ }
 {
     put(numbers, at, r.cells);
     put(numbers, at + 1, r.visits);
-    put(numbers, at + 2, r.smoothing_sweeps);
-    put(numbers, at + 3, r.coarse_iterations);
+    put(numbers, at + 2, r.pre_sweeps);
+    put(numbers, at + 3, r.post_sweeps);
+    put(numbers, at + 4, r.coarse_iterations);
 }
 
 // The records to their numbers, as far as there are so many.
@@ -58,7 +60,7 @@ fn write_back(records: [MultigridLevelStatistics; 128], numbers: &mut [u64]) {
     let mut k = 0;
     while k < 128 {
         let r = records[k];
-        put_record(numbers, 4 * k, r);
+        put_record(numbers, 5 * k, r);
         k += 1;
     }
 }

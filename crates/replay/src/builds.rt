@@ -68,7 +68,7 @@ fn same_statistics(text: &[u8], at: usize, levels: u64, s: &[u64], lent: usize) 
         }
         left = std::num::wrapping_sub_u64(left, rows.value);
         next = rows.next;
-        k += 4;
+        k += 5;
         level += 1;
     }
     Agreed {
@@ -127,7 +127,7 @@ fn next_build(counts: &mut [u64; 193]) -> bool {
     let mut text = io::large_buffer();
     let mut words = [0xa5a5_a5a5u32; 8192];
     let mut floats = [-1.5e99; 8192];
-    let mut statistics = [0xa5a5_a5a5_a5a5_a5a5u64; 512];
+    let mut statistics = [0xa5a5_a5a5_a5a5_a5a5u64; 640];
     let size = reading::record(&mut text);
     compare(
         &text,

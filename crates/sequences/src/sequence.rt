@@ -106,7 +106,7 @@ fn next_sequence(counts: &mut [u64; 98]) -> Tally {
     let mut text = io::large_buffer();
     let mut words = [0xa5a5_a5a5u32; 8192];
     let mut floats = [-1.5e99; 8192];
-    let mut statistics = [0xa5a5_a5a5_a5a5_a5a5u64; 512];
+    let mut statistics = [0xa5a5_a5a5_a5a5_a5a5u64; 640];
     let size = reading::record(&mut text);
     compare(
         &text,

@@ -105,16 +105,17 @@ fn counter(statistics: &[u64], i: usize) {
     }
 }
 
-// Rows, visits, smoothing sweeps and coarse iterations of a level; there are 128 at most.
+// Rows, visits, sweeps before and after the correction, and coarse iterations of a level; there are 128 at most.
 fn record(statistics: &[u64], level: u64) {
     if level < 128 {
-        let at = 4 * (level as usize);
+        let at = 5 * (level as usize);
         io::write_all(STDOUT_FILENO, b"level");
         number(level);
         counter(statistics, at);
         counter(statistics, at + 1);
         counter(statistics, at + 2);
         counter(statistics, at + 3);
+        counter(statistics, at + 4);
         end_line();
     }
 }
@@ -159,7 +160,7 @@ fn main() {
     let values = [4.0, -2.0, -2.0, 2.0];
     let mut words = [0u32; 178];
     let mut floats = [0.0; 212];
-    let mut statistics = [0u64; 256];
+    let mut statistics = [0u64; 320];
     match calls::new(
         2,
         &offsets,

@@ -114,7 +114,7 @@ small-press : solve.solveOf (iteration.systemOf (controls MultigridResidualNorm.
         «relative_residual» = zero64;
       };
       x = one64 ∷ one64 ∷ [];
-      counts = lay (1 ∷ 0 ∷ 0 ∷ []) solve.uncounted;
+      counts = lay (1 ∷ 0 ∷ 0 ∷ 0 ∷ []) solve.uncounted;
     })
 unfolding solve.solveOf input.inputOk solve.runOf iterating.iterateOf iteration.stepOf iteration.movedOf cycle.cycleOf cycle.endOf cycle.countOf terminal.terminalOf terminal.terminalSolution terminal.scatterOf terminal.gatherOf terminal.diagonalOf factor.solveFactorOf factor.lowRow factor.highRow factor.lowTerm factor.highTerm tri measure.measureOf measure.valueOf measure.squaresOf measure.squareAt measure.sumOf measure.sumTurn finite.allFinite dot.productOf normalization.normalizationOf solver.relativeOf matrix.applyOf matrix.spreadOf matrix.spreadRow matrix.spreadFace correction.subtractOf correction.addPlainOf isFinite maxNum sqrtOf each tab lay for iter lt le eq ne ofBits add sub mul div
 small-press = refl

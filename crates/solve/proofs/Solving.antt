@@ -205,8 +205,8 @@ module _ {h : Handle} {w : List ℕ} {size m n : ℕ} (b : BeginOk h w size m n)
     ready-ok = rw same (record { opened = b .opened; regions = e })
 
     -- What the solve on copies requires.
-    pub attempt-ok : {t : List ℕ} → t ≡ replicate 384 0 → AttemptOk h w other g t
-    attempt-ok zeros = record { ready = ready-ok; zeros = zeros ∙ zeros-are 384 }
+    pub attempt-ok : {t : List ℕ} → t ≡ replicate 512 0 → AttemptOk h w other g t
+    attempt-ok zeros = record { ready = ready-ok; zeros = zeros ∙ zeros-are 512 }
 
     -- What the copies require.
     pub enter-ok : EnterOk other m n (g .rhs) (g .solution)
@@ -219,9 +219,9 @@ module _ {h : Handle} {w : List ℕ} {size m n : ℕ} (b : BeginOk h w size m n)
         record { given = omega arith; room = omega arith }
 
 -- What a refused solve gives its call.
-pub refused-run : {q : Refusal} {counts : List ℕ} → counts ≡ replicate 384 0
+pub refused-run : {q : Refusal} {counts : List ℕ} → counts ≡ replicate 512 0
     → _≡_ {A = SolveRun} (record { answer = Solved.Refused q; levels = 0; counts = counts }) (refusedRun q)
-refused-run zeros = rw (zeros ∙ zeros-are 384)
+refused-run zeros = rw (zeros ∙ zeros-are 512)
 
 -- Its contract, of an outcome that is refused.
 done-refused : {h : Handle} {w : List ℕ} {F G x : List Float} {q : Refusal} {out : Outcome Solution} {run : SolveRun} → out ≡ refused q

@@ -16,9 +16,9 @@ use Rattle.iterations.specs.Iteration.{State, System, trueResidualOf, measuredO
 use Rattle.solve.specs.Input.{lengthsOk, inputOk}
 use Rattle.iterations.specs.Iterate.{Solution, solution, iterateOf}
 
--- the counters that a solve starts from: nothing counted yet, three numbers to each of 128 levels, the most that there are
+-- the counters that a solve starts from: nothing counted yet, four numbers to each of 128 levels, the most that there are
 abbrev pub uncounted : List ℕ
-uncounted = filled 384 0
+uncounted = filled 512 0
 
 -- the state before the first iteration
 abbrev pub begun : List Float → List Float → Float → State

@@ -28,7 +28,7 @@ fn attempt(
     h: Handle,
     w: &[u32],
     f: &mut [f64],
-    t: &mut [u64; 384],
+    t: &mut [u64; 512],
     g: Regions,
     s: LinearSolverOptions,
 ) -> Solved
@@ -71,7 +71,7 @@ fn attempt(
 pub fn refused(q: Refusal) -> SolveRun
     ensures { λ r. ⌜ r ≡ refusedRun q ⌝ }
 {
-    let counts = [0u64; 384];
+    let counts = [0u64; 512];
     SolveRun {
         answer: Solved::Refused(q),
         levels: 0,
@@ -92,7 +92,7 @@ fn begin(
     ensures { λ r. ⌜ SolveDone h (now (w .entry)) (now (f .entry)) (now (f .exit)) (now (x .entry)) (now (x .exit)) (begunAt h (now (w .entry)) (now (f .entry)) (now (rhs .entry)) (now (x .entry)) s) r ⌝ }
 {
     let g = places::regions(h, w);
-    let mut t = [0u64; 384];
+    let mut t = [0u64; 512];
     copies::enter(f, rhs, x, g.rhs, g.solution);
     match attempt(h, w, f, &mut t, g, s) {
         Solved::Report(report) => {

@@ -8,16 +8,28 @@ abbrev pub addVisits : ℕ → MultigridLevelStatistics → MultigridLevelStatis
 addVisits more r = record {
   cells = r .cells;
   visits = saturatingSum (r .visits) more;
-  «smoothing_sweeps» = r .«smoothing_sweeps»;
+  «pre_sweeps» = r .«pre_sweeps»;
+  «post_sweeps» = r .«post_sweeps»;
   «coarse_iterations» = r .«coarse_iterations»;
 }
 
--- so many sweeps more
-abbrev pub addSweeps : ℕ → MultigridLevelStatistics → MultigridLevelStatistics
-addSweeps more r = record {
+-- so many sweeps before the correction more
+abbrev pub addPreSweeps : ℕ → MultigridLevelStatistics → MultigridLevelStatistics
+addPreSweeps more r = record {
   cells = r .cells;
   visits = r .visits;
-  «smoothing_sweeps» = saturatingSum (r .«smoothing_sweeps») more;
+  «pre_sweeps» = saturatingSum (r .«pre_sweeps») more;
+  «post_sweeps» = r .«post_sweeps»;
+  «coarse_iterations» = r .«coarse_iterations»;
+}
+
+-- so many after it more
+abbrev pub addPostSweeps : ℕ → MultigridLevelStatistics → MultigridLevelStatistics
+addPostSweeps more r = record {
+  cells = r .cells;
+  visits = r .visits;
+  «pre_sweeps» = r .«pre_sweeps»;
+  «post_sweeps» = saturatingSum (r .«post_sweeps») more;
   «coarse_iterations» = r .«coarse_iterations»;
 }
 
@@ -26,6 +38,7 @@ abbrev pub addCoarseIterations : ℕ → MultigridLevelStatistics → MultigridL
 addCoarseIterations more r = record {
   cells = r .cells;
   visits = r .visits;
-  «smoothing_sweeps» = r .«smoothing_sweeps»;
+  «pre_sweeps» = r .«pre_sweeps»;
+  «post_sweeps» = r .«post_sweeps»;
   «coarse_iterations» = saturatingSum (r .«coarse_iterations») more;
 }

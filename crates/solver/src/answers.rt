@@ -33,10 +33,10 @@ pub struct BuildRun {
     pub cells: [u64; 128],
 }
 
-// What a solve gives its call: its answer, on how many levels it counted (none where it is refused), and what it counted there, three
+// What a solve gives its call: its answer, on how many levels it counted (none where it is refused), and what it counted there, four
 // numbers to a level.
 pub struct SolveRun {
     pub answer: Solved,
     pub levels: u64,
-    pub counts: [u64; 384],
+    pub counts: [u64; 512],
 }

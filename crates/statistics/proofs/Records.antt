@@ -15,7 +15,7 @@ use Rattle.statistics.specs.Steps.{FreshAt}
 use Rattle.solver.specs.declared.statistics.MultigridLevelStatistics.{MultigridLevelStatistics}
 
 -- a record's offset fits, and so do the next index and this one
-pub offset-fits : (n i : ℕ) → n * 32 < 2 ^ 63 → i < n → i * 32 < 2 ^ 64
+pub offset-fits : (n i : ℕ) → n * 40 < 2 ^ 63 → i < n → i * 40 < 2 ^ 64
 offset-fits n i g l = omega arith
 
 pub next-fits : (n i : ℕ) → n < 2 ^ 64 → i < n → i + 1 < 2 ^ 64

@@ -86,20 +86,20 @@ ring-agrees = calls-agree (computed .1)
 
 -- What their calls leave in the statistics: three solves of the cell visit its level once each,
 pub cell-counted : statisticsAfter (calls-made (computed .0))
-    ≡ record { cells = 1; visits = 3; «smoothing_sweeps» = 0; «coarse_iterations» = 0 } ∷ []
+    ≡ record { cells = 1; visits = 3; «pre_sweeps» = 0; «post_sweeps» = 0; «coarse_iterations» = 0 } ∷ []
 unfolding statisticsOf unvisitedLevels countedOn countedAt lay tab
 cell-counted = calls-counted (computed .0)
 
--- and those of the ring make two, two and one iteration, each with a sweep on the finest level.
+-- and those of the ring make two, two and one iteration, each with a sweep after the correction on the finest level.
 pub ring-counted : statisticsAfter (calls-made (computed .1))
-    ≡ record { cells = 4; visits = 5; «smoothing_sweeps» = 5; «coarse_iterations» = 0 }
-    ∷ record { cells = 2; visits = 5; «smoothing_sweeps» = 0; «coarse_iterations» = 0 } ∷ []
+    ≡ record { cells = 4; visits = 5; «pre_sweeps» = 0; «post_sweeps» = 5; «coarse_iterations» = 0 }
+    ∷ record { cells = 2; visits = 5; «pre_sweeps» = 0; «post_sweeps» = 0; «coarse_iterations» = 0 } ∷ []
 unfolding statisticsOf unvisitedLevels countedOn countedAt lay tab
 ring-counted = calls-counted (computed .1)
 
--- A counter stops at 2^64 - 1, and a level behind those of the solve keeps its record.
-pub counters-stop : countedOn 1 0 (1 ∷ 2 ∷ 3 ∷ 4 ∷ []) (
-    record { cells = 7; visits = 18446744073709551615; «smoothing_sweeps» = 18446744073709551614; «coarse_iterations» = 5 } ∷ unvisited 9 ∷ [])
-    ≡ record { cells = 7; visits = 18446744073709551615; «smoothing_sweeps» = 18446744073709551615; «coarse_iterations» = 8 } ∷ unvisited 9 ∷ []
+-- A counter stops at 2^64 - 1 by itself, and a level behind those of the solve keeps its record.
+pub counters-stop : countedOn 1 0 (1 ∷ 2 ∷ 4 ∷ 3 ∷ 5 ∷ []) (
+    record { cells = 7; visits = 18446744073709551615; «pre_sweeps» = 18446744073709551614; «post_sweeps» = 18446744073709551610; «coarse_iterations» = 5 } ∷ unvisited 9 ∷ [])
+    ≡ record { cells = 7; visits = 18446744073709551615; «pre_sweeps» = 18446744073709551615; «post_sweeps» = 18446744073709551614; «coarse_iterations» = 8 } ∷ unvisited 9 ∷ []
 unfolding countedOn countedAt
 counters-stop = refl

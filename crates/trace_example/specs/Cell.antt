@@ -62,7 +62,7 @@ converged x = record {
     «relative_residual» = zero64;
   };
   solution = x;
-  counts = 1 ∷ 0 ∷ 0 ∷ [];
+  counts = 1 ∷ 0 ∷ 0 ∷ 0 ∷ [];
 }
 
 -- A solve for 1, from zero, down to half of the first residual, in five iterations at most. An update to the coefficient 0 is refused by

@@ -71,7 +71,7 @@ converged iterations initial last relative x = record {
     «relative_residual» = ofBits binary64 relative;
   };
   solution = floatsOf x;
-  counts = iterations ∷ iterations ∷ 0 ∷ iterations ∷ 0 ∷ 0 ∷ [];
+  counts = iterations ∷ 0 ∷ iterations ∷ 0 ∷ iterations ∷ 0 ∷ 0 ∷ 0 ∷ [];
 }
 
 -- A solve for 8, 0, 0, 0 from 1, 0, 0, 0, down to a 256th of the first residual, in five iterations at most. An update to diagonal 4 and −2 at

@@ -17,7 +17,12 @@ up-requires c κs =
 
 count-requires : tie.Need-count-requires
 count-requires c κs =
-    let start = c .before .before .before .before .before .before .before .before .before .before .before .before .before in
+    let start = c .before .before .before .before .before .before .before .before .before .before .before .before in
+    omega (arith, start .pre .deep)
+
+count-requires-2 : tie.Need-count-requires-2
+count-requires-2 c κs =
+    let start = c .before .before .before .before .before .before .before .before .before .before .before .before .before .before in
     omega (arith, start .pre .deep)
 
 returns : tie.Need-returns
@@ -32,14 +37,14 @@ returns c =
 
 returns-2 : tie.Need-returns-2
 returns-2 c =
-    let at-saturating-add = c .before in
-    let at-enum-told = at-saturating-add .before .before in
+    let at-count = c .before .before in
+    let at-enum-told = at-count .before .before in
     let at-up = at-enum-told .before .before .before .before in
     let at-post-sweeps-at = at-up .before .before in
     let at-pre-sweeps-at = at-post-sweeps-at .before in
     let at-inner-at = at-pre-sweeps-at .before in
     let start = at-inner-at .before .before .before in
-    up-yes (start .args .o) (start .args .w .now) (start .args .t .now) _ _ _ _ (at-inner-at .inner-at .ensures) (at-pre-sweeps-at .pre-sweeps-at .ensures) (at-post-sweeps-at .post-sweeps-at .ensures) (at-up .up .ensures) (at-enum-told .enum-told .given .1) (at-saturating-add .saturating-add .ensures) (c .count .ensures)
+    up-yes (start .args .o) (start .args .w .now) (start .args .t .now) _ _ _ _ (at-inner-at .inner-at .ensures) (at-pre-sweeps-at .pre-sweeps-at .ensures) (at-post-sweeps-at .post-sweeps-at .ensures) (at-up .up .ensures) (at-enum-told .enum-told .given .1) (at-count .count .ensures) (c .count2 .ensures)
 
 pub up-spec : {M : Type 1} → statement M
 up-spec =
@@ -51,8 +56,8 @@ up-spec =
     up-requires
     (λ c. search needs)
     (λ c. search needs)
-    (λ c κs. search needs)
     count-requires
+    count-requires-2
     (λ c. search needs)
     returns
     (λ c. search needs)

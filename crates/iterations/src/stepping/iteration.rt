@@ -69,7 +69,7 @@ pub fn step(
     h: Handle,
     w: &[u32],
     f: &mut [f64],
-    t: &mut [u64; 384],
+    t: &mut [u64; 512],
     g: Regions,
     factor: f64,
     used: usize,

@@ -133,7 +133,7 @@ module _ {M : Type 1} (𝓤 : URA M) (H : Heap 𝓤) (A : Atoms 𝓤) (W : Given
   n-fits : n < 2 ^ 64
   n-fits = LL.owed R.the-type R′.the-laws d (v ∷ []) is-run .1 .0 .1
 
-  is-counts : Is (Array u64 384) cs (v-counts ∷ [])
+  is-counts : Is (Array u64 512) cs (v-counts ∷ [])
   is-counts = LL.owed R.the-type R′.the-laws d (v ∷ []) is-run .1 .1 .0
 
   abbrev at : Vals f.signature (κ, tt)
@@ -146,8 +146,8 @@ module _ {M : Type 1} (𝓤 : URA M) (H : Heap 𝓤) (A : Atoms 𝓤) (W : Given
   abbrev to-turn : MultigridLevelStatistics → ℕ → Turn 𝓤 H A mem run .Ghost
   to-turn h i = ((tt, tt, tt, (h, (cs, (i, tt))), (v-of h ∷ [], (v-counts ∷ [], (vint w64 i ∷ [], tt)))), tt)
 
-  goes-turn : (h : MultigridLevelStatistics) (i : ℕ) → i < 128 → ent 𝓤 (sep 𝓤 (sem 𝓤 H A ftrue) (sem 𝓤 H A (owns (T.the-row ∷ Array u64 384 ∷ usize ∷ []) (h, (cs, (i, tt))) (v-of h ∷ [], (v-counts ∷ [], (vint w64 i ∷ [], tt)))))) (Turn 𝓤 H A mem run .pre (to-turn h i))
-  goes-turn h i few = qed W (‵ ftrue ∷ ‵ (owns (T.the-row ∷ Array u64 384 ∷ usize ∷ []) (h, (cs, (i, tt))) (v-of h ∷ [], (v-counts ∷ [], (vint w64 i ∷ [], tt)))) ∷ []) ∵ says ! few $ frame ! $ done !
+  goes-turn : (h : MultigridLevelStatistics) (i : ℕ) → i < 128 → ent 𝓤 (sep 𝓤 (sem 𝓤 H A ftrue) (sem 𝓤 H A (owns (T.the-row ∷ Array u64 512 ∷ usize ∷ []) (h, (cs, (i, tt))) (v-of h ∷ [], (v-counts ∷ [], (vint w64 i ∷ [], tt)))))) (Turn 𝓤 H A mem run .pre (to-turn h i))
+  goes-turn h i few = qed W (‵ ftrue ∷ ‵ (owns (T.the-row ∷ Array u64 512 ∷ usize ∷ []) (h, (cs, (i, tt))) (v-of h ∷ [], (v-counts ∷ [], (vint w64 i ∷ [], tt)))) ∷ []) ∵ says ! few $ frame ! $ done !
 
   turn-said : (h : MultigridLevelStatistics) (i : ℕ) (r : MultigridLevelStatistics) → ent 𝓤 (ensured 𝓤 H A g.ended (g.clauses 𝓤 H A mem run) tt (h, (cs, (i, tt))) tt r) (fact 𝓤 (r ≡ countedAt cs i h))
   turn-said h i r = exE 𝓤 _ (λ ws. snd∗ 𝓤 (sem 𝓤 H A (lasts g.ended tt (h, (cs, (i, tt))) ws)) (fact 𝓤 (r ≡ countedAt cs i h)))
@@ -205,13 +205,13 @@ module _ {M : Type 1} (𝓤 : URA M) (H : Heap 𝓤) (A : Atoms 𝓤) (W : Given
         stays ! (load ! (from ! (stop !)) (look ! 16 refl)) $
         assigns ! (bin ! (load ! (from ! (stop !)) (look ! 18 refl)) (lit ! tt) (record { fits = offset-fits _ _ (room .1) inside })) (from ! (stop !)) (init ! 12 refl (tt, record { fits = offset-fits _ _ (room .1) inside })) $
         assigns ! (bin ! (load ! (from ! (fld ! refl (stop !))) (look-in ! 22 (sub ! 0 refl (whole !)))) (load ! (from ! (stop !)) (look ! 12 refl)) tt) (from ! (stop !)) (init ! 10 refl (tt, tt)) $
-        rewrite ! 10 (λ (p : ℕ). ‵ (fat fullShare tyPtr l₈ 0 (vptr b p))) (sym (place-is 32 o (i .0))) refl $
+        rewrite ! 10 (λ (p : ℕ). ‵ (fat fullShare tyPtr l₈ 0 (vptr b p))) (sym (place-is 40 o (i .0))) refl $
         elem-out ! T.the-row (Is T.the-row) (shows 𝓤 H A T.the-row) (LL.vals T.the-type T′.the-laws) (LL.tells T.the-type T′.the-laws) fullShare (i .1 .0) (i .0) (unvisited 0) b o within (λ was.
         -- [s[i]; what it owns; the others; the open borrow; obs; auth; _11; …; _10; …; _9; …; _8; …; _7; …; _6; …; _5; …; _4; …; _3; …; _2; …; _1; …; room for _0; …]
         assigns ! (of-opd ! (load ! (from ! (hop ! (look ! 12 refl) (stop !))) (look-raw ! 0 refl))) (from ! (stop !)) (init ! 10 refl (LL.lawful T.the-type T′.the-laws 𝓤 H A W .typed (before i) (v-of (before i) ∷ []) was .0)) $
         elem-back ! T.the-row fullShare (i .1 .0) (i .0) (unvisited 0) (v-of (before i) ∷ []) b o within $
         nothing ! $ owned ! usize (Is usize) (uint-makes 𝓤 H A W w64) (i .0) _ (refl, index-fits _ _ n-fits less) $ fjoin ! $
-        owned ! (Array u64 384) (Is (Array u64 384)) (array-makes 𝓤 H A W u64 (uint-makes 𝓤 H A W w64) 384) cs (v-counts ∷ []) is-counts $ fjoin ! $
+        owned ! (Array u64 512) (Is (Array u64 512)) (array-makes 𝓤 H A W u64 (uint-makes 𝓤 H A W w64) 512) cs (v-counts ∷ []) is-counts $ fjoin ! $
         owned ! T.the-row (Is T.the-row) ((LL.makes T.the-type T′.the-plain) 𝓤 H A) (before i) (v-of (before i) ∷ []) was $ fjoin ! $ nothing ! $
         use2 W (raw (Turn 𝓤 H A mem run .pre (to-turn (before i) (i .0)))) (goes-turn (before i) (i .0) few) $
         calls-at ! fm (Turn 𝓤 H A mem run) known (to-turn (before i) (i .0)) (and-then ! (load ! (from ! (stop !)) (look ! 9 refl)) (and-then ! (load ! (from ! (fld ! refl (stop !))) (look-in ! 25 (sub ! 2 refl (whole !)))) (and-then ! (load ! (from ! (stop !)) (look ! 19 refl)) (no-more !)))) (λ u.
@@ -223,7 +223,7 @@ module _ {M : Type 1} (𝓤 : URA M) (H : Heap 𝓤) (A : Atoms 𝓤) (W : Given
         land ! (from ! (stop !)) (init ! 15 refl (LL.lawful T.the-type T′.the-laws 𝓤 H A W .typed r _ is .0)) $
         assigns ! (bin ! (load ! (from ! (stop !)) (look ! 19 refl)) (lit ! tt) (record { fits = offset-fits _ _ (room .1) inside })) (from ! (stop !)) (init ! 7 refl (tt, record { fits = offset-fits _ _ (room .1) inside })) $
         assigns ! (bin ! (load ! (from ! (fld ! refl (stop !))) (look-in ! 23 (sub ! 0 refl (whole !)))) (load ! (from ! (stop !)) (look ! 7 refl)) tt) (from ! (stop !)) (init ! 5 refl (tt, tt)) $
-        rewrite ! 5 (λ (p : ℕ). ‵ (fat fullShare tyPtr l₁₁ 0 (vptr b p))) (sym (place-is 32 o (i .0))) refl $
+        rewrite ! 5 (λ (p : ℕ). ‵ (fat fullShare tyPtr l₁₁ 0 (vptr b p))) (sym (place-is 40 o (i .0))) refl $
         move ! (1 ∷ []) $ elem-out ! T.the-row (Is T.the-row) (shows 𝓤 H A T.the-row) (LL.vals T.the-type T′.the-laws) (LL.tells T.the-type T′.the-laws) fullShare (i .1 .0) (i .0) (unvisited 0) b o within (λ again-was.
         -- [s[i]; what it owns; the others; the result; the open borrow; obs; auth; _11; …]
         assigns ! (of-opd ! (load ! (from ! (stop !)) (look ! 17 refl))) (from ! (hop ! (look ! 7 refl) (stop !))) (store-raw ! 0 refl (LL.lawful T.the-type T′.the-laws 𝓤 H A W .typed r _ is .0)) $
