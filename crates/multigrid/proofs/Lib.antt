@@ -2,3 +2,4 @@ pub mod Trace
 pub mod ScratchWords
 pub mod ScratchFloats
 pub mod Scratch
+pub mod Work

@@ -41,7 +41,7 @@ counted-long (suc more) depth counts [] = refl
 counted-long (suc more) depth counts (r ∷ t) = omega (arith, counted-long more (depth + 1) counts t)
 
 -- Those of the levels are counted,
-counted-here : (more depth : ℕ) (counts : List ℕ) (t : List MultigridLevelStatistics) (i : ℕ) → i < more → i < length t
+pub counted-here : (more depth : ℕ) (counts : List ℕ) (t : List MultigridLevelStatistics) (i : ℕ) → i < more → i < length t
     → getD (countedOn more depth counts t) i (unvisited 0) ≡ countedAt counts (depth + i) (getD t i (unvisited 0))
 unfolding countedOn
 counted-here zero depth counts t i few fits = absurd (omega arith)
