@@ -87,9 +87,13 @@ impl Kernel for Build {
     fn clear(&mut self) {
         noise(&mut self.stores.words, &mut self.random);
         self.stores.floats.fill_with(|| self.random.unit());
+        let random = &mut self.random;
         let record = || MultigridLevelStatistics {
-            cells: self.random.bits(),
-            ..MultigridLevelStatistics::default()
+            cells: random.bits(),
+            visits: random.bits(),
+            pre_sweeps: random.bits(),
+            post_sweeps: random.bits(),
+            coarse_iterations: random.bits(),
         };
         self.stores.statistics.fill_with(record);
     }
