@@ -4,7 +4,7 @@
 use mathlib.Core.Path.{_≡_, refl, sym, ap, _∙_, subst}
 use mathlib.Core.Bool.{true}
 use mathlib.Core.List.{List}
-use Prim.Native.Nat.{ℕ, zero, suc, _+_, _-_, _<_}
+use Prim.Native.Nat.{ℕ, zero, suc, _+_, _*_, _-_, _<_}
 use native.Mathlib.Nat.{zero-add}
 use native.Mathlib.Omega.{arith}
 use lib.ListN.{length, getD}
@@ -26,9 +26,9 @@ use Rattle.index_check.proofs.sound.Facts.{passed}
 use Rattle.iterations.specs.Iterate.{Solution, answerOf}
 use Rattle.iterations.specs.System.{systemAt}
 use Rattle.solve.specs.Solved.{solvedAt}
-use Rattle.solve.specs.Work.{afterIterations}
+use Rattle.solve.specs.Work.{visitsPer, preOf, postOf, afterIterations, sweepsOf, smoothingSweepsOf}
 use Rattle.solve.proofs.Solving.{opened-of}
-use Rattle.solve.proofs.Work.{solve-work}
+use Rattle.solve.proofs.Work.{solve-work, sweeps-together}
 use Rattle.multigrid.specs.SolvingCall.{solvedOf, recordsOf, SolveCall}
 use Rattle.multigrid.proofs.solving.Counting.{counted-here}
 
@@ -83,3 +83,13 @@ work-told {h} {w} {F} {t = t} {u = u} {rhs = rhs} {x = x} {s = s} {r = r} c dept
     ∙ ap (λ (d : ℕ). countedAt (v .counts) d old) (zero-add depth)
     ∙ view-work h w F (length t) (b .0) depth there s rhs x (b .1) old
     ∙ ap (λ (z : LinearSolveReport). afterIterations (h .options) (h .levels) depth (z .iterations) old) (a .2)
+
+-- Its sweeps before and after the correction are together the Rust's one number, which adds both at each visit.
+pub sweeps-told : {h : Handle} {w : List ℕ} {F G : List Float} {t u : List MultigridLevelStatistics} {rhs x y : List Float} {s : LinearSolverOptions}
+    {r : LinearSolveReport} → SolveCall h w F G t u rhs x y s (Solved.Report r) → (depth : ℕ) → depth < h .levels
+    → sweepsOf (getD u depth (unvisited 0))
+    ≡ smoothingSweepsOf (r .iterations * visitsPer (h .levels) depth) (preOf (h .options) (h .levels) depth) (postOf (h .options) (h .levels) depth)
+    (sweepsOf (getD t depth (unvisited 0)))
+sweeps-told {h} {t = t} {r = r} c depth there =
+    ap sweepsOf (work-told c depth there)
+    ∙ sweeps-together (h .options) (h .levels) depth (r .iterations * visitsPer (h .levels) depth) (getD t depth (unvisited 0))
