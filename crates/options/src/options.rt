@@ -97,7 +97,7 @@ impl MultigridOptions {
     }
 }
 
-// A tolerance or a weight may be any finite number that is not below zero. Minus zero is not.
+// A tolerance or a weight may be any finite number that is not below zero, minus zero too.
 pub fn is_tolerable(t: f64) -> bool
     ensures { λ r. ⌜ r ≡ tolerable t ⌝ }
 {
