@@ -3,20 +3,15 @@ use mathlib.Core.List.{List}
 use Prim.Native.Nat.{ℕ}
 use lib.Ieee.{Float}
 use Rattle.float.specs.Float.{add64, mul64}
+use Rattle.refusal.specs.Refusal.{badDotProduct}
 use Rattle.refusal.specs.Outcome.{Outcome, accepted, _>>=_}
 use Rattle.store.specs.Region.{at}
 use Rattle.store.specs.Vector.{tab}
 use Rattle.vector.specs.Dot.{dotOf, productOf}
-use Rattle.acceleration.specs.Directions.{Pair, finiteOf}
+use Rattle.acceleration.specs.Directions.{Pair, finite}
 
 -- the solution, moved along the new direction by `alpha`
 unfoldable pub advanceOf : ℕ → List Float → Pair → List Float → Outcome (List Float)
 advanceOf n residual new solution = do
-  alpha ← finiteOf (productOf (dotOf n residual (new .image)))
+  alpha ← finite badDotProduct (productOf (dotOf n residual (new .image)))
   accepted (tab (λ row. add64 (at solution row) (mul64 alpha (at (new .direction) row))) n)
-
--- ---- the turns of the loops above, by the names that proofs have for them
-
--- `y[row] += a * x[row]`
-unfoldable pub moreOf : ℕ → Float → List Float → List Float → List Float
-moreOf n a x y = tab (λ row. add64 (at y row) (mul64 a (at x row))) n

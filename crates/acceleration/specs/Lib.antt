@@ -6,3 +6,4 @@ pub mod Advance
 pub mod AdvanceContract
 pub mod Gcr
 pub mod AccelerationContract
+pub mod Turns

@@ -2,7 +2,8 @@
 ghost use lib.ListN.{length};
 ghost use Rattle.store.specs.Region.{part, Wrote};
 ghost use Rattle.acceleration.specs.DirectionsContract.{pairAt, AxpyOk};
-ghost use Rattle.acceleration.specs.Advance.{moreOf, advanceOf};
+ghost use Rattle.acceleration.specs.Advance.{advanceOf};
+ghost use Rattle.acceleration.specs.Turns.{moreOf};
 ghost use Rattle.acceleration.specs.AdvanceContract.{AdvanceOk, Advanced};
 use vector::Product;
 

@@ -17,7 +17,9 @@ use Rattle.store.proofs.store.Loop.{for-keeps, for-count}
 use Rattle.store.proofs.store.Region.{le-or-lt}
 use Rattle.store.proofs.store.Vector.{getD-tab}
 use Rattle.aggregation.specs.declared.Choice.{Choice}
-use Rattle.aggregation.specs.Pairs.{Weighted, choice, entryOf, strongestOf, Pairing, pairing, rowOf, turnOf, pairsOf, InRange, NoneAbove}
+use Rattle.aggregation.specs.Pairs.{Weighted, choice, strongestOf, Pairing, pairing, pairsOf}
+use Rattle.aggregation.specs.Contract.{InRange, NoneAbove}
+use Rattle.aggregation.specs.Turns.{entryOf, rowOf, turnOf}
 use Rattle.aggregation.proofs.Steps.{row-in, Considered, own, free, free-no, adjacent, adjacent-no, considered, Placed, assigned, paired, joined, alone, placed, count-next}
 use Rattle.aggregation.proofs.Numbers.{idx-set, row-of, row-row, Along, found-sane, along-on, along-start}
 

@@ -14,7 +14,8 @@ use Rattle.store.proofs.store.Loop.{Left, left-start, left-on, left-end}
 use Rattle.store.proofs.store.Region.{getD-part, length-part, splice-part, set-splice, wrote, wrote-at, wrote-off, wrote-again}
 use Rattle.aggregation.specs.declared.Choice.{Choice}
 use Rattle.aggregation.specs.declared.Graph.{Graph}
-use Rattle.aggregation.specs.Pairs.{strengthOf, strengthsOf, choice, considerOf, entryOf, strongestOf, Pairing, pairing, pairRowOf, rowOf, turnOf, pairsOf}
+use Rattle.aggregation.specs.Pairs.{strengthsOf, choice, considerOf, strongestOf, Pairing, pairing, pairRowOf, pairsOf}
+use Rattle.aggregation.specs.Turns.{strengthOf, entryOf, rowOf, turnOf}
 use Rattle.aggregation.specs.Layout.{offsetsAt, columnsAt, mapAt, weightedAt, GraphOk, RowOk, Paired}
 use Rattle.aggregation.proofs.Steps.{row-in, assigned, paired, joined, alone, placed, placed-is, count-next, strongest-sane}
 

@@ -17,7 +17,9 @@ use Rattle.store.proofs.store.Loop.{for-count}
 use Rattle.store.proofs.store.Region.{le-or-lt}
 use Rattle.store.proofs.store.Vector.{length-tab, getD-tab}
 use Rattle.aggregation.specs.declared.Choice.{Choice}
-use Rattle.aggregation.specs.Pairs.{Weighted, strongestOf, Pairing, pairing, rowOf, turnOf, pairsOf, InRange}
+use Rattle.aggregation.specs.Pairs.{Weighted, strongestOf, Pairing, pairing, pairsOf}
+use Rattle.aggregation.specs.Contract.{InRange}
+use Rattle.aggregation.specs.Turns.{rowOf, turnOf}
 use Rattle.aggregation.proofs.Steps.{row-in, Placed, assigned, paired, joined, alone, placed, count-next, Sane, strongest-sane}
 
 -- An element after a store, at its place or at another.

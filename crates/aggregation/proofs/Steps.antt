@@ -14,7 +14,9 @@ use Rattle.float.specs.Float.{zero64}
 use Rattle.store.specs.Region.{at, idx}
 use Rattle.store.proofs.store.Loop.{for-keeps}
 use Rattle.aggregation.specs.declared.Choice.{Choice}
-use Rattle.aggregation.specs.Pairs.{Weighted, choice, considerOf, entryOf, strongestOf, Pairing, pairing, assignOf, pairRowOf, rowOf, InRange}
+use Rattle.aggregation.specs.Pairs.{Weighted, choice, considerOf, strongestOf, Pairing, pairing, assignOf, pairRowOf}
+use Rattle.aggregation.specs.Contract.{InRange}
+use Rattle.aggregation.specs.Turns.{entryOf, rowOf}
 
 -- The row of a turn is a row.
 pub row-in : (forward : Bool) (n index : ℕ) → index < n → rowOf forward n index < n

@@ -6,7 +6,9 @@ use lib.ListN.{length}
 use lib.Ieee.{Float}
 use Rattle.store.specs.Region.{part, Wrote}
 use Rattle.aggregation.specs.declared.Graph.{Graph}
-use Rattle.aggregation.specs.Pairs.{Weighted, weighted, strengthsOf, Pairing, InRange}
+use Rattle.aggregation.specs.Pairs.{Weighted, strengthsOf, Pairing}
+use Rattle.aggregation.specs.Contract.{InRange}
+use Rattle.aggregation.specs.Turns.{weighted}
 
 -- the row offsets in the words w
 abbrev pub offsetsAt : Graph → List ℕ → List ℕ

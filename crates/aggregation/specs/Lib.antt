@@ -1,2 +1,4 @@
 pub mod Pairs
 pub mod Layout
+pub mod Turns
+pub mod Contract

@@ -1,9 +1,8 @@
 -- `pairs` of aggregation.rs over lists: connected strength-based aggregation. Definitions only.
 -- Of n rows, n stands in a map for "no aggregate yet" (`usize::MAX`), and in a choice for `None`.
-use mathlib.Core.Path.{_≡_}
-use mathlib.Core.Bool.{Bool, false, cond}
+use mathlib.Core.Bool.{Bool, cond}
 use mathlib.Core.List.{List, map}
-use Prim.Native.Nat.{ℕ, _+_, _-_, _≤_, _<_}
+use Prim.Native.Nat.{ℕ, _+_, _-_}
 use lib.Dec.{eqb}
 use lib.ListN.{set}
 use lib.Ieee.{Float, lt}
@@ -19,10 +18,6 @@ pub record Weighted : Type 0 where
   pub offsets : List ℕ
   pub columns : List ℕ
   pub weights : List Float
-
--- the strength of one entry: its weight, or, where no weights are given, the absolute value of the matrix there
-abbrev pub strengthOf : Bool → Float → Float
-strengthOf absolute x = cond absolute (absOf x) x
 
 -- the strengths of all entries
 unfoldable pub strengthsOf : Bool → List Float → List Float
@@ -70,33 +65,3 @@ pairRowOf a row p = cond (eqb (idx (p .map) row) (a .rows)) (assignOf (a .rows) 
 unfoldable pub pairsOf : Weighted → Bool → Pairing
 pairsOf a forward =
     for (λ index. pairRowOf a (cond forward index (a .rows - 1 - index))) 0 (a .rows) (pairing (filled (a .rows) (a .rows)) 0)
-
--- ---- the turns of the loops above, by the names that proofs have for them
-
--- such a matrix
-abbrev pub weighted : ℕ → List ℕ → List ℕ → List Float → Weighted
-weighted n o c v = record { rows = n; offsets = o; columns = c; weights = v }
-
--- entry e of a row, by the map so far
-unfoldable pub entryOf : Weighted → List ℕ → ℕ → ℕ → Choice → Choice
-entryOf a map row e s = considerOf (a .rows) row (idx (a .columns) e) (at (a .weights) e) (idx map (idx (a .columns) e)) s
-
--- the row of a turn: rows upward, or downward
-abbrev pub rowOf : Bool → ℕ → ℕ → ℕ
-rowOf forward n index = cond forward index (n - 1 - index)
-
--- one turn
-unfoldable pub turnOf : Weighted → Bool → ℕ → Pairing → Pairing
-turnOf a forward index p = pairRowOf a (rowOf forward (a .rows) index) p
-
--- ---- what is proved of it
-
--- a pattern of n rows and m entries is in range: each row's entries are among the m, and each column is a row
-pub record InRange (n m : ℕ) (offsets columns : List ℕ) : Type 0 where
-  pub ends : (k : ℕ) → k ≤ n → idx offsets k ≤ m
-  pub below : (e : ℕ) → e < m → idx columns e < n
-
--- no off-diagonal weight exceeds zero
-pub record NoneAbove (a : Weighted) : Type 0 where
-  pub none : (row e : ℕ) → row < a .rows → idx (a .offsets) row ≤ e → e < idx (a .offsets) (row + 1)
-      → (idx (a .columns) e ≡ row → ⊥) → lt zero64 (at (a .weights) e) ≡ false

@@ -2,7 +2,8 @@
 ghost use mathlib.Core.Path.{_≡_};
 ghost use Prim.Native.Nat.{_<_};
 ghost use lib.ListN.{length};
-ghost use Rattle.aggregation.specs.Pairs.{strengthOf, considerOf, strongestOf, pairing, pairRowOf, rowOf, pairsOf};
+ghost use Rattle.aggregation.specs.Pairs.{considerOf, strongestOf, pairing, pairRowOf, pairsOf};
+ghost use Rattle.aggregation.specs.Turns.{strengthOf, rowOf};
 ghost use Rattle.aggregation.specs.Layout.{mapAt, weightedAt, GraphOk, RowOk, Paired};
 
 // Where a matrix stands in the stores: row offsets (rows + 1 words), columns (`entries` words) and the map to be written

@@ -11,7 +11,7 @@ use Rattle.refusal.specs.Outcome.{Outcome, accepted, refused, passed, ask, _>>=
 use Rattle.csr.specs.Questions.{matrixAsked}
 use Rattle.csr.specs.Weights.{weightsAsked}
 use Rattle.hierarchy.specs.Build.{fixedCharge, andLevel, holds, Lent, Input, patternIn, buildOf}
-use Rattle.build.specs.Asking.{arraysAsked, roomAsked, askedOf}
+use Rattle.build.specs.AskingContract.{arraysAsked, roomAsked, askedOf}
 use Rattle.build.specs.Steps.{restOf}
 
 chain : {A : Type 0} (m w c : Outcome Unit) (a b d : Bool) (q s t : Refusal) (rest : Outcome A)

@@ -22,7 +22,8 @@ use Rattle.pattern.specs.Pattern.{Pattern, entries, Valid}
 use Rattle.faces.specs.Faces.{facesOf, faceOffsetsOf, neighborsOf}
 use Rattle.faces.proofs.faces.Laws.{faces-few, near, starts-rise, starts-last}
 use Rattle.hierarchy.specs.Level.{Level, Hierarchy}
-use Rattle.hierarchy.specs.Refresh.{needsSums, sumsOf, withSums}
+use Rattle.hierarchy.specs.Refresh.{needsSums, withSums}
+use Rattle.hierarchy.specs.Steps.{sumsOf}
 use Rattle.hierarchy.specs.Build.{Charge, Mesh, lastShape, innerShape, growOf}
 use Rattle.hierarchy.proofs.Accepted.{grow-keeps}
 use Rattle.hierarchy.proofs.Depth.{head-is}

@@ -39,7 +39,7 @@ use Rattle.build_level.specs.CoarsestContract.{Levels}
 use Rattle.solver.specs.declared.answers.Built.{Built}
 use Rattle.build_levels.specs.GrowingContract.{growAt, Grown}
 use Rattle.build.specs.Built.{lentOf, builtOf, BuildDone}
-use Rattle.build.specs.Asking.{lending, askedOf, Asked, Fitting, Spaced}
+use Rattle.build.specs.AskingContract.{lending, askedOf, Asked, Fitting, Spaced}
 use Rattle.build.proofs.questions.Chains.{passed-then, refused-then}
 use Rattle.build.specs.Finest.{LoadOk, Loaded, finestAt, SymmetricOk, SymmetricDone, finestOf, SumsOk, Summed}
 use Rattle.build.specs.Steps.{restOf, LevelsOk, levelsMade, LevelsDone, Tried, Begun, Attempted, Cleared}

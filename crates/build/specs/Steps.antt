@@ -21,7 +21,7 @@ use Rattle.build_level.specs.LayingContract.{FrontierOk}
 use Rattle.solver.specs.declared.answers.Built.{Built}
 use Rattle.build_levels.specs.GrowingContract.{growAt}
 use Rattle.build.specs.Built.{builtOf, lentOf}
-use Rattle.build.specs.Asking.{ControlsFit}
+use Rattle.build.specs.AskingContract.{ControlsFit}
 use Rattle.build.specs.Finest.{finestOf}
 pub use Rattle.build.specs.Asking.{inputOf}
 

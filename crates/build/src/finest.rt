@@ -1,7 +1,7 @@
 // The finest level of a build: its matrix is loaded, question 10, the frontier at it, and its row sums.
 ghost use mathlib.Core.Path.{_≡_};
 ghost use lib.ListN.{length};
-ghost use Rattle.build.specs.Asking.{ChargeOk};
+ghost use Rattle.build.specs.AskingContract.{ChargeOk};
 ghost use Rattle.layout.specs.Layout.{locate};
 ghost use Rattle.layout.specs.Parts.{kernelIn};
 ghost use Rattle.build.specs.Finest.{facesIn, SymmetricOk, SymmetricDone, finestOf, FirstOk, SumsOk, Summed};
@@ -12,7 +12,6 @@ use faces::Faces;
 use faces::mirrors;
 use matrix::SymmetricMatrix;
 use options::MultigridOptions;
-use options::MultigridResidualNorm;
 
 pub mod loading;
 
@@ -83,10 +82,6 @@ pub fn sums(w: &[u32], f: &mut [f64], o: MultigridOptions, end: usize, rows: usi
     ensures { λ _. ⌜ Summed (now (w .entry)) (now (f .entry)) (now (f .exit)) o end rows ⌝ }
 {
     let norm = o.residual_norm;
-    match norm {
-        MultigridResidualNorm::AbsoluteL2 => store::fill(f, end, rows, 0.0),
-        MultigridResidualNorm::NormalizedL1 => {
-            matrix::row_sums_into(w, f, first_kernel(w, rows, entries), end);
-        }
-    }
+    let kernel = first_kernel(w, rows, entries);
+    layout::row_sums(w, f, norm, kernel, end);
 }

@@ -1,7 +1,8 @@
 // `build` of hierarchy.rs, in lent stores: the questions on the input, and the levels from the finest on.
 ghost use lib.ListN.{length};
 ghost use Rattle.build.specs.Built.{BuildDone};
-ghost use Rattle.build.specs.Asking.{inputOf, Fitting};
+ghost use Rattle.build.specs.Asking.{inputOf};
+ghost use Rattle.build.specs.AskingContract.{Fitting};
 ghost use Rattle.build.specs.Steps.{LevelsOk, LevelsDone, Begun, Attempted, Cleared};
 use build_level::Growth;
 use coarsening::Workspace;

@@ -1,5 +1,6 @@
 // Questions 1 to 9 of a build, in order, of the arrays and the stores' sizes.
-ghost use Rattle.build.specs.Asking.{inputOf, lending, WeightsAsked, ArraysAsked, ChargeOk, RoomAsked, Asked};
+ghost use Rattle.build.specs.Asking.{inputOf};
+ghost use Rattle.build.specs.AskingContract.{lending, WeightsAsked, ArraysAsked, ChargeOk, RoomAsked, Asked};
 use options::MultigridOptions;
 use refusal::Verdict;
 

@@ -9,7 +9,8 @@ use lib.Ieee.{Float}
 use Rattle.store.specs.Region.{idx, part, CopyOk, Kept}
 use Rattle.refusal.specs.declared.Verdict.{Verdict}
 use Rattle.refusal.specs.Outcome.{Outcome, accepted, verdictOf}
-use Rattle.coefficients.specs.Update.{Coefficients, kernelUpdateOf, UpdateOk, Holds, Within}
+use Rattle.coefficients.specs.Update.{Coefficients, kernelUpdateOf}
+use Rattle.coefficients.specs.Contract.{UpdateOk, Holds, Within}
 use Rattle.aggregation.specs.declared.Graph.{Graph}
 use Rattle.pattern.specs.Pattern.{Pattern, Valid, Rising, Mirrored}
 use Rattle.faces.specs.Faces.{facesOf, faceOffsetsOf, neighborsOf, uppersOf, lowersOf, diagonalsOf, diagonalsAsked}

@@ -12,7 +12,8 @@ use Rattle.coefficients.specs.Update.{Coefficients}
 use Rattle.pattern.specs.Pattern.{entries, Valid, Rising, Mirrored}
 use Rattle.faces.specs.Faces.{facesOf, diagonalsAsked}
 use Rattle.hierarchy.specs.Proper.{Proper}
-use Rattle.hierarchy.specs.Build.{Mesh, fixedCharge, kernelAsked, paired, endsAt}
+use Rattle.hierarchy.specs.Build.{Mesh, fixedCharge, kernelAsked, paired}
+use Rattle.hierarchy.specs.Steps.{endsAt}
 use Rattle.layout.specs.declared.Place.{Place}
 use Rattle.layout.specs.Placed.{Placed, Shapes, coefficientsAt}
 use Rattle.coarsening.specs.declared.coarsen.Held.{Held}

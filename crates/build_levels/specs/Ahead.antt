@@ -12,7 +12,8 @@ use Rattle.refusal.specs.Refusal.{storeTooSmall}
 use Rattle.refusal.specs.Outcome.{Outcome, accepted, _>>=_}
 use Rattle.coefficients.specs.Update.{Coefficients}
 use Rattle.hierarchy.specs.Level.{Level}
-use Rattle.hierarchy.specs.Build.{charge, Charge, Mesh, holds, paired, endsAt, lastLevel, innerLevel, deeperOf}
+use Rattle.hierarchy.specs.Build.{charge, Charge, Mesh, holds, paired, lastLevel}
+use Rattle.hierarchy.specs.Steps.{endsAt, innerLevel, deeperOf}
 use Rattle.layout.specs.declared.Place.{Place}
 use Rattle.layout.specs.Layout.{levelAt, wordsEnd, floatsEnd}
 use Rattle.layout.specs.Headers.{headAt, headOf}

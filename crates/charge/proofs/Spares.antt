@@ -18,16 +18,19 @@ use Rattle.options.specs.declared.options.MultigridOptions.{MultigridOptions}
 use Rattle.options.specs.Options.{validOf, isCholesky, controlsAsked}
 use Rattle.pattern.specs.Pattern.{Pattern, entries}
 use Rattle.csr.specs.Questions.{sizeOk, offsetsOk, columnsOk, matrixAsked}
-use Rattle.csr.specs.Weights.{weightsCounted, weightsOk, weightsAsked}
+use Rattle.csr.specs.Weights.{weightsOk, weightsAsked}
+use Rattle.csr.specs.Turns.{weightsCounted}
 use Rattle.faces.specs.Faces.{uppersOf, hasEntry, diagonalsAsked, diagonalsOf}
 use Rattle.coefficients.specs.Update.{Coefficients, diagonalAsked, entryOf, kernelUpdateOf}
 use Rattle.matrix.specs.Kernel.{Kernel}
 use Rattle.dic.specs.Dic.{isPivot, pivotRow, pivotsOf, reciprocalAsked, reciprocalsOf, dicOf}
-use Rattle.cholesky.specs.Factor.{Csr, compactOf, restOf, columnsOf, factorRowOf, rowsOf, choleskyOf}
+use Rattle.cholesky.specs.Factor.{Csr, restOf, columnsOf, factorRowOf, rowsOf, choleskyOf}
+use Rattle.cholesky.specs.Turns.{compactOf}
 use Rattle.cholesky.specs.Triangle.{tri}
 use Rattle.vector.specs.Finite.{allFinite}
 use Rattle.hierarchy.specs.Level.{Shape, kernelOf, csrOf}
-use Rattle.hierarchy.specs.Refresh.{needsDic, smootherOf, innerNumbers, lastNumbers}
+use Rattle.hierarchy.specs.Refresh.{needsDic, innerNumbers, lastNumbers}
+use Rattle.hierarchy.specs.Steps.{smootherOf}
 use Rattle.hierarchy.specs.Build.{Mesh, Merged, kernelAsked, paired, coarsened, coarsenedAsked, fewCoupled, lastLevel, lastShape, mergeOf}
 use Rattle.hierarchy.proofs.Accepted.{joinedBy}
 use Rattle.charge.specs.Charge.{spares}

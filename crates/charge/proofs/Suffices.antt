@@ -14,7 +14,8 @@ use Rattle.refusal.specs.Refusal.{noRows, storeTooSmall, notSymmetric}
 use Rattle.refusal.specs.Outcome.{Outcome, accepted, passed, verdictOf}
 use Rattle.options.specs.declared.options.MultigridOptions.{MultigridOptions}
 use Rattle.options.specs.Options.{controlsAsked}
-use Rattle.aggregation.specs.Pairs.{weighted, strengthsOf}
+use Rattle.aggregation.specs.Pairs.{strengthsOf}
+use Rattle.aggregation.specs.Turns.{weighted}
 use Rattle.aggregation.proofs.Numbers.{count-most}
 use Rattle.pattern.specs.Pattern.{Pattern, entries, Valid, coarse}
 use Rattle.pattern.proofs.pattern.Coarse.{coarse-few, coarse-valid}
@@ -23,10 +24,11 @@ use Rattle.csr.specs.Weights.{weightsAsked}
 use Rattle.faces.specs.Faces.{diagonalsAsked}
 use Rattle.hierarchy.specs.Level.{Level}
 use Rattle.hierarchy.specs.Refresh.{innerNumbers}
-use Rattle.hierarchy.specs.Build.{Charge, andLevel, holds, innerShape, Mesh, Merged, merged, even, kernelAsked, paired, coarsened, coarsenedAsked, endsAt, mergeOf, levelStep, growOf, Lent, Input, patternIn, meshIn, symmetricOf, buildOf}
+use Rattle.hierarchy.specs.Build.{Charge, andLevel, holds, innerShape, Mesh, Merged, merged, kernelAsked, paired, coarsened, coarsenedAsked, mergeOf, growOf, Lent, Input, patternIn, meshIn, symmetricOf, buildOf}
+use Rattle.hierarchy.specs.Steps.{even, endsAt, levelStep}
 use Rattle.hierarchy.proofs.Accepted.{coarsened-is, onward, grow-is, merge-keeps, fixedIn, chargeIn}
 use Rattle.hierarchy.proofs.Proper.{valid-range}
-use Rattle.build.specs.Asking.{arraysAsked, ArraysFit}
+use Rattle.build.specs.AskingContract.{arraysAsked, ArraysFit}
 use Rattle.build.proofs.questions.Passing.{arrays-fit}
 use Rattle.build.proofs.questions.Products.{vectors-few, square-few}
 use Rattle.charge.specs.Charge.{capped, chargeAfter, wordsFor, floatsFor, sizesFor, Lends, spares}

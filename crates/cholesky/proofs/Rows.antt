@@ -18,9 +18,11 @@ use Rattle.store.specs.Region.{at, idx, splice, Wrote}
 use Rattle.store.specs.Vector.{filled}
 use Rattle.store.proofs.store.Loop.{for-map, for-same, Left, left-end}
 use Rattle.store.proofs.store.Region.{length-part, getD-part, getD-splice-in, part-splice-below, set-splice, splice-part, wrote, wrote-at, wrote-off, wrote-again}
-use Rattle.cholesky.specs.Triangle.{tri, RowAt, lessOf, LessOk, Less}
+use Rattle.cholesky.specs.Triangle.{tri}
+use Rattle.cholesky.specs.TriangleContract.{RowAt, LessOk, Less}
+use Rattle.cholesky.specs.Turns.{lessOf, columnOf}
 use Rattle.cholesky.specs.declared.Terminal.{Terminal}
-use Rattle.cholesky.specs.Factor.{restOf, columnOf, columnsOf, factorRowOf, rowsOf, choleskyOf}
+use Rattle.cholesky.specs.Factor.{restOf, columnsOf, factorRowOf, rowsOf, choleskyOf}
 use Rattle.cholesky.specs.Contract.{csrAt, coupledAt, factorAt, entryAt, TerminalOk, PivotOk, RowDone, Factored}
 use Rattle.cholesky.proofs.packed.Triangles.{tri-zero, tri-on, tri-row, tri-at}
 

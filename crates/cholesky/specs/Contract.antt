@@ -11,7 +11,8 @@ use Rattle.refusal.specs.Outcome.{Outcome, accepted, ask, verdictOf}
 use Rattle.store.specs.Region.{idx, part, Wrote}
 use Rattle.cholesky.specs.Triangle.{tri}
 use Rattle.cholesky.specs.declared.Terminal.{Terminal}
-use Rattle.cholesky.specs.Factor.{Csr, compactOf}
+use Rattle.cholesky.specs.Factor.{Csr}
+use Rattle.cholesky.specs.Turns.{compactOf}
 
 -- the level's matrix
 abbrev pub csrAt : Terminal → List ℕ → List Float → Csr

@@ -57,14 +57,3 @@ module _ (level : ℕ) (coupled : List ℕ) (entry : ℕ → ℕ → Float) wher
 unfoldable pub choleskyOf : ℕ → Csr → ℕ → List ℕ → Outcome (List Float)
 choleskyOf level a size coupled =
     rowsOf level coupled (λ row column. getOf a (idx coupled row) (idx coupled column)) size 0 (filled (tri size) zero64)
-
--- ---- names that proofs have for parts of it
-
--- an entry of the compact matrix of coarse.rs: that of the coupled rows
-abbrev pub compactOf : Csr → List ℕ → ℕ → ℕ → Float
-compactOf a coupled row column = getOf a (idx coupled row) (idx coupled column)
-
-module _ (entry : ℕ → ℕ → Float) where
-  -- an element below the diagonal: the rest over the column's diagonal
-  unfoldable pub columnOf : ℕ → ℕ → List Float → List Float
-  columnOf row column l = set l (tri row + column) (div64 (restOf entry row column l) (at l (tri column + column)))

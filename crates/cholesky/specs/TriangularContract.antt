@@ -6,7 +6,8 @@ use lib.Ieee.{Float}
 use Rattle.store.specs.Loop.{for}
 use Rattle.store.specs.Region.{at, part, Wrote}
 use Rattle.cholesky.specs.Triangle.{tri}
-use Rattle.cholesky.specs.TriangularFactor.{lowRow, highTerm, highRow}
+use Rattle.cholesky.specs.TriangularFactor.{lowRow, highRow}
+use Rattle.cholesky.specs.Turns.{highTerm}
 
 -- the factor of n rows below x
 pub record SolveOk (size n l x : ℕ) : Type 0 where

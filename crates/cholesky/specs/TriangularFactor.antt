@@ -20,14 +20,3 @@ module _ (l : List Float) where
 -- `solve_factor`: rows upward, then downward
 unfoldable pub solveFactorOf : ℕ → List Float → List Float → List Float
 solveFactorOf n l rhs = for (λ j. highRow l n (n - 1 - j)) 0 n (for (lowRow l) 0 n rhs)
-
--- ---- the turns of the loops above, by the names that proofs have for them
-
-module _ (l : List Float) where
-  -- `x[row] -= lower[row, k] * x[k]`
-  unfoldable pub lowTerm : ℕ → List Float → ℕ → Float → Float
-  lowTerm row x k value = sub64 value (mul64 (at l (tri row + k)) (at x k))
-
-  -- `x[row] -= lower[k, row] * x[k]`
-  unfoldable pub highTerm : ℕ → List Float → ℕ → Float → Float
-  highTerm row x k value = sub64 value (mul64 (at l (tri k + row)) (at x k))

@@ -2,7 +2,8 @@
 ghost use mathlib.Core.Path.{_≡_};
 ghost use Prim.Native.Nat.{_≤_};
 ghost use lib.ListN.{length};
-ghost use Rattle.cholesky.specs.Triangle.{tri, LessOk, Less};
+ghost use Rattle.cholesky.specs.Triangle.{tri};
+ghost use Rattle.cholesky.specs.TriangleContract.{LessOk, Less};
 
 // own less f[p + k] * f[q + k] for each k below m.
 pub fn less(f: &[f64], p: usize, q: usize, m: usize, own: f64) -> f64

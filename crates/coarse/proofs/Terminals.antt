@@ -21,7 +21,8 @@ use Rattle.cholesky.specs.declared.Terminal.{Terminal}
 use Rattle.cholesky.specs.Contract.{coupledAt, factorAt}
 use Rattle.cholesky.specs.TriangularFactor.{solveFactorOf}
 use Rattle.cholesky.specs.TriangularContract.{SolveOk}
-use Rattle.coarse.specs.Terminal.{diagonalOf, gatherOf, scatterOf, terminalSolution, terminalOf}
+use Rattle.coarse.specs.Terminal.{terminalSolution, terminalOf}
+use Rattle.coarse.specs.Turns.{diagonalOf, gatherOf, scatterOf}
 use Rattle.coarse.specs.Contract.{SpreadOk, DiagonalOk, CoupledOk, SolutionOk, Outside, CoupledSolved, Solved}
 
 -- a turn of `diagonal`

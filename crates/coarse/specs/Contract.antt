@@ -11,7 +11,8 @@ use Rattle.cholesky.specs.Triangle.{tri}
 use Rattle.cholesky.specs.declared.Terminal.{Terminal}
 use Rattle.cholesky.specs.Contract.{coupledAt, factorAt}
 use Rattle.cholesky.specs.TriangularFactor.{solveFactorOf}
-use Rattle.coarse.specs.Terminal.{gatherOf, scatterOf, terminalSolution, terminalOf}
+use Rattle.coarse.specs.Terminal.{terminalSolution, terminalOf}
+use Rattle.coarse.specs.Turns.{gatherOf, scatterOf}
 
 -- so many coupled rows, each below n, with n elements at x and as many as there are coupled rows at u
 pub record SpreadOk (w : List ℕ) (size n count coupled x u : ℕ) : Type 0 where

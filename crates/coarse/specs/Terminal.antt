@@ -23,17 +23,3 @@ unfoldable pub terminalOf : ℕ → List Float → ℕ → List ℕ → List Flo
 terminalOf n inverse size coupled factor rhs =
     let x = terminalSolution n inverse size coupled factor rhs in
     ask (allFinite n x) badCoarseSolution (accepted x)
-
--- ---- the turns of the loops above, by the names that proofs have for them
-
--- `x[row] = rhs[row] * inverse[row]`: what a row without connections needs
-unfoldable pub diagonalOf : ℕ → List Float → List Float → List Float
-diagonalOf n inverse rhs = tab (λ row. mul64 (at rhs row) (at inverse row)) n
-
--- the right-hand side of the coupled rows
-unfoldable pub gatherOf : ℕ → List ℕ → List Float → List Float
-gatherOf size coupled rhs = tab (λ k. at rhs (idx coupled k)) size
-
--- the compact solution, put where the coupled rows are
-unfoldable pub scatterOf : ℕ → List ℕ → List Float → List Float → List Float
-scatterOf size coupled u x = for (λ k x. set x (idx coupled k) (at u k)) 0 size x

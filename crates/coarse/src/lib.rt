@@ -1,7 +1,7 @@
 // coarse.rs: the terminal solve, every row by its diagonal and the coupled ones by the packed factor.
 ghost use lib.ListN.{length};
 ghost use Rattle.store.specs.Region.{part, Wrote};
-ghost use Rattle.coarse.specs.Terminal.{diagonalOf, gatherOf, scatterOf};
+ghost use Rattle.coarse.specs.Turns.{diagonalOf, gatherOf, scatterOf};
 ghost use Rattle.coarse.specs.Contract.{DiagonalOk, SpreadOk, CoupledOk, CoupledSolved, SolutionOk, Solved};
 use cholesky::Terminal;
 use cholesky::solve_factor;

@@ -8,7 +8,7 @@ use lib.Ieee.{Float}
 use Rattle.store.specs.Region.{part, Kept}
 use Rattle.vector.specs.Finite.{allFinite}
 use Rattle.pattern.specs.Pattern.{Pattern, entries, Valid, Rising, Mirrored, coarsePositions, Maps, Onto}
-use Rattle.galerkin.specs.Values.{galerkinOf, restrictWeightsOf, SumsOk, FacesOk, WeightsOk}
+use Rattle.galerkin.specs.Contract.{galerkinOf, restrictWeightsOf, SumsOk, FacesOk, WeightsOk}
 use Rattle.faces.specs.Faces.{facesOf, uppersOf, lowersOf}
 use Rattle.hierarchy.specs.Proper.{Proper}
 use Rattle.hierarchy.specs.Build.{Mesh, coarsened}

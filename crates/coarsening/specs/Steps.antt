@@ -10,13 +10,15 @@ use Rattle.options.specs.declared.options.MultigridOptions.{MultigridOptions}
 use Rattle.refusal.specs.declared.Verdict.{Verdict}
 use Rattle.refusal.specs.Outcome.{Outcome, accepted, refused, askEach}
 use Rattle.vector.specs.Finite.{allFinite}
-use Rattle.coefficients.specs.Update.{Coefficients, diagonalAsked, diagonalAt, after}
+use Rattle.coefficients.specs.Update.{Coefficients, diagonalAsked}
+use Rattle.coefficients.specs.Contract.{diagonalAt, after}
 use Rattle.aggregation.specs.declared.Graph.{Graph}
 use Rattle.aggregation.specs.Pairs.{Pairing}
 use Rattle.pattern.specs.Pattern.{entries, Maps, Onto, composeOf}
 use Rattle.faces.specs.declared.faces.Faces.{Faces}
 use Rattle.hierarchy.specs.Proper.{Proper}
-use Rattle.hierarchy.specs.Build.{Merged, merged, paired, joinedStep, mergeStep}
+use Rattle.hierarchy.specs.Build.{Merged, merged, paired}
+use Rattle.hierarchy.specs.Steps.{joinedStep, mergeStep}
 use Rattle.coarsening.specs.declared.coarsen.Workspace.{Workspace}
 use Rattle.coarsening.specs.declared.coarsen.Formation.{Formation}
 use Rattle.coarsening.specs.CoarsenContract.{patternAt, meshAt, mergedIn, coarseAt, WorkOk}

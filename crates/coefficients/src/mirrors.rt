@@ -3,7 +3,8 @@ ghost use mathlib.Core.Path.{_≡_};
 ghost use Prim.Native.Nat.{_+_, _≤_};
 ghost use lib.ListN.{length};
 ghost use Rattle.store.specs.Region.{part};
-ghost use Rattle.coefficients.specs.Mirrors.{pairAgrees, mirrorsAgree, MirrorsOk, Taken};
+ghost use Rattle.coefficients.specs.Mirrors.{pairAgrees, mirrorsAgree};
+ghost use Rattle.coefficients.specs.Contract.{MirrorsOk, Taken};
 
 // Both finite, and apart by at most 1e-12. Where one is a NaN or infinite, so is the difference, and the comparison fails: it tells all three.
 fn pair_agrees(a: f64, b: f64) -> bool

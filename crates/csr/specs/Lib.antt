@@ -1,2 +1,4 @@
 pub mod Questions
 pub mod Weights
+pub mod Turns
+pub mod Contract

@@ -1,15 +1,13 @@
 -- Questions 1 to 3 of document 01, of a matrix in compressed rows as it is lent: arrays of any lengths.
 -- Definitions only.
-use mathlib.Core.Path.{_≡_}
 use mathlib.Core.Bool.{Bool, _&&_, _||_}
 use mathlib.Core.List.{List}
-use Prim.Native.Nat.{ℕ, _+_, _-_, _≤_, _<_}
+use Prim.Native.Nat.{ℕ, _+_, _-_}
 use lib.Dec.{eqb, leb, ltb}
 use lib.ListN.{length}
 use lib.Ieee.{Float}
 use Rattle.store.specs.Region.{idx}
 use Rattle.store.specs.Vector.{each}
-use Rattle.pattern.specs.Pattern.{Pattern}
 use Rattle.refusal.specs.Outcome.{Outcome, passed, ask, _>>_}
 use Rattle.refusal.specs.Refusal.{tooLarge, badOffsets, badColumns}
 
@@ -46,33 +44,3 @@ matrixAsked rows offsets columns values = do
   ask (offsetsOk rows offsets columns values) badOffsets
   ask (columnsOk rows offsets columns) badColumns
   passed
-
--- the pattern that is lent
-abbrev pub patternOf : ℕ → List ℕ → List ℕ → Pattern
-patternOf rows offsets columns = record { rows = rows; offsets = offsets; columns = columns }
-
--- What a matrix that passed has: few enough rows and entries, and a value for each entry.
-pub record Sizes (rows : ℕ) (columns : List ℕ) (values : List Float) : Type 0 where
-  pub few : rows ≤ 65536
-  pub short : length columns ≤ 1048576
-  pub counted : length values ≡ length columns
-
--- What the walk over the rows asks of the offsets, once question 2 has passed: each row lies among the entries.
-pub record Rowed (rows : ℕ) (offsets columns : List ℕ) : Type 0 where
-  pub size : length offsets ≡ rows + 1
-  pub starts : (r : ℕ) → r < rows → idx offsets r ≤ idx offsets (r + 1)
-  pub ends : (r : ℕ) → r < rows → idx offsets (r + 1) ≤ length columns
-
--- ---- the turns of the loops above, by the names that proofs have for them
-
--- whether row r does not end before it starts
-unfoldable pub stepOk : List ℕ → ℕ → Bool
-stepOk offsets r = leb (idx offsets r) (idx offsets (r + 1))
-
--- the test of the row's k-th entry, counted from `first`
-unfoldable pub entryFrom : ℕ → List ℕ → ℕ → ℕ → ℕ → Bool
-entryFrom rows columns first last k = entryOk rows columns last (first + k)
-
--- the test of row r
-unfoldable pub rowAt : ℕ → List ℕ → List ℕ → ℕ → Bool
-rowAt rows offsets columns r = rowOk rows columns (idx offsets r) (idx offsets (r + 1))

@@ -21,13 +21,3 @@ weightsAsked entries weights = do
   ask (eqb (length weights) entries) weightCount
   ask (weightsOk weights) badWeight
   passed
-
--- ---- the turns of the loops above, by the names that proofs have for them
-
--- question 4: as many weights as entries
-abbrev pub weightsCounted : ℕ → List Float → Bool
-weightsCounted entries weights = eqb (length weights) entries
-
--- the test of weight k: it is finite and not below zero; minus zero passes, a NaN does not
-unfoldable pub weightOk : List Float → ℕ → Bool
-weightOk weights k = tolerable (at weights k)

@@ -3,7 +3,8 @@ ghost use mathlib.Core.Path.{_≡_};
 ghost use Prim.Native.Nat.{_+_, _<_, _≤_};
 ghost use lib.ListN.{length};
 ghost use Rattle.refusal.specs.Outcome.{verdictOf};
-ghost use Rattle.csr.specs.Questions.{sizeOk, neverFall, offsetsOk, entryOk, rowOk, columnsOk, matrixAsked, Rowed};
+ghost use Rattle.csr.specs.Questions.{sizeOk, neverFall, offsetsOk, entryOk, rowOk, columnsOk, matrixAsked};
+ghost use Rattle.csr.specs.Contract.{Rowed};
 use refusal::Verdict;
 
 // Question 1.

@@ -1,3 +1,5 @@
 pub mod Whole
 pub mod Product
 pub mod Values
+pub mod Contract
+pub mod Turns

@@ -3,7 +3,9 @@
 ghost use lib.ListN.{length};
 ghost use Rattle.store.specs.Loop.{for};
 ghost use Rattle.store.specs.Region.{part, Wrote};
-ghost use Rattle.galerkin.specs.Values.{addEntry, sumsOf, symmetrizeOf, SumsOk, FacesOk};
+ghost use Rattle.galerkin.specs.Values.{sumsOf, symmetrizeOf};
+ghost use Rattle.galerkin.specs.Turns.{addEntry};
+ghost use Rattle.galerkin.specs.Contract.{SumsOk, FacesOk};
 use store::fill;
 use store::index_at;
 

@@ -2,7 +2,9 @@
 ghost use Prim.Native.Nat.{_+_};
 ghost use lib.ListN.{length};
 ghost use Rattle.store.specs.Region.{part, Wrote};
-ghost use Rattle.galerkin.specs.Values.{zeroEntries, zeroDiagonalOf, restrictWeightsOf, EntriesOk, RowsOk, WeightsOk};
+ghost use Rattle.galerkin.specs.Values.{zeroDiagonalOf};
+ghost use Rattle.galerkin.specs.Turns.{zeroEntries};
+ghost use Rattle.galerkin.specs.Contract.{restrictWeightsOf, EntriesOk, RowsOk, WeightsOk};
 use crate::galerkin::sum_entries;
 use store::wide;
 

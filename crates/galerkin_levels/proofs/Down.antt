@@ -15,12 +15,13 @@ use Rattle.store.specs.Region.{idx}
 use Rattle.store.proofs.store.Region.{le-or-lt}
 use Rattle.galerkin.specs.Whole.{sizes}
 use Rattle.galerkin.specs.Product.{Σℤ, when}
-use Rattle.galerkin.specs.Values.{galerkinOf}
+use Rattle.galerkin.specs.Contract.{galerkinOf}
 use Rattle.galerkin.proofs.exact.Whole.{natAbs-add}
 use Rattle.galerkin.proofs.exact.Sums.{Σ-same}
 use Rattle.galerkin.proofs.exact.Product.{entrySum, product-is, product-mirror}
-use Rattle.pattern.specs.Pattern.{Pattern, entries, rowOf, columnOf, joinsBy, coarse, coarsePositions, Maps}
-use Rattle.pattern.proofs.pattern.Number.{bool?}
+use Rattle.pattern.specs.Pattern.{Pattern, entries, rowOf, columnOf, coarse, coarsePositions, Maps}
+use Rattle.pattern.specs.Steps.{joinsBy}
+use Rattle.pattern.proofs.pattern.Number.{bool?, not-both}
 use Rattle.pattern.proofs.pattern.Row.{row-in}
 use Rattle.pattern.proofs.pattern.Coarse.{coarse-valid, coarse-rising, coarse-mirrored, position-exactly}
 use Rattle.faces.specs.Faces.{facesOf, uppersOf, lowersOf, hasEntry}
@@ -30,8 +31,7 @@ use Rattle.galerkin_theorem.specs.Theorem.{WholeValues, fineMatrix, coarseMatri
 use Rattle.galerkin_theorem.proofs.Mirror.{fine-symmetric}
 use Rattle.galerkin_theorem.proofs.Theorem.{galerkin-exact}
 use Rattle.hierarchy.specs.Proper.{Proper}
-use Rattle.pattern.proofs.pattern.Number.{not-both}
-use Rattle.galerkin_levels.specs.Levels.{Matrix}
+use Rattle.galerkin_levels.specs.Steps.{Matrix}
 use Rattle.galerkin_levels.proofs.Dense.{dense-at, dense-none}
 
 -- ---- sums of absolute values

@@ -22,12 +22,17 @@ use Rattle.refusal.specs.Outcome.{Outcome, accepted, refused, askRows}
 use Rattle.vector.specs.Finite.{allFinite}
 use Rattle.coefficients.specs.Mirrors.{pairAgrees, mirrorsAgree}
 use Rattle.coefficients.specs.Update.{diagonalAsked, kernelUpdateOf}
-use Rattle.cholesky.specs.Triangle.{tri, lessOf}
+use Rattle.cholesky.specs.Triangle.{tri}
+use Rattle.cholesky.specs.Turns.{lessOf}
 use Rattle.cholesky.specs.Factor as factor
-use Rattle.aggregation.specs.Pairs.{strengthsOf, considerOf, entryOf, strongestOf, assignOf, pairRowOf, turnOf, pairsOf}
+use Rattle.cholesky.specs.Turns as cholesky-turns
+use Rattle.aggregation.specs.Pairs.{strengthsOf, considerOf, strongestOf, assignOf, pairRowOf, pairsOf}
+use Rattle.aggregation.specs.Turns.{entryOf, turnOf}
 use Rattle.pattern.specs.Pattern as pattern
+use Rattle.pattern.specs.Steps as pattern-steps
 use Rattle.pattern.specs.Pattern.{Pattern, entries, rowOf, columnOf}
 use Rattle.galerkin.specs.Values as galerkin
+use Rattle.galerkin.specs.Turns as galerkin-turns
 use Rattle.galerkin.specs.Whole.{sizes}
 use Rattle.galerkin.specs.Product.{Σℤ, transfer, dense, galerkinProduct}
 use Rattle.galerkin.proofs.exact.Whole.{ofInt-whole}
@@ -35,6 +40,7 @@ use Rattle.galerkin.proofs.exact.Sums.{sizes-mono}
 use Rattle.galerkin_theorem.specs.Theorem.{WholeValues, fineMatrix}
 use Rattle.faces.specs.Faces as faces
 use Rattle.csr.specs.Questions as csr
+use Rattle.csr.specs.Turns as csr-turns
 use Rattle.csr.specs.Weights as weights
 use Rattle.hierarchy.specs.Level.{Level, Hierarchy}
 use Rattle.hierarchy.specs.First.{shapesIn}
@@ -136,7 +142,7 @@ pub record RingLevels : Type 0 where
       ∷ [])
 
 pub ring-levels : RingLevels
-unfolding linksIn matricesIn levelsIn update.updateOf update.renewOf update.sameList update.samePattern standing.diagonalStands standing.diagonalsStand buildOf symmetricOf growOf withSums mergeOf csr.sizeOk csr.neverFall csr.offsetsOk csr.entryOk csr.rowOk csr.stepOk csr.rowAt csr.entryFrom csr.columnsOk weights.weightOk weights.weightsOk validOf isFinite lt le eq ofBits ofInt add sub mul div sqrtOf each tab for iter askRows pairAgrees mirrorsAgree pattern.some pattern.howMany pattern.those pattern.rowOf pattern.sumTo pattern.flat pattern.startOf pattern.columnPlaceOf pattern.joinsBy pattern.joins pattern.coarseOffsets pattern.coarseColumns pattern.coarsePositions pattern.composeOf faces.above faces.facesOf faces.uppersOf faces.faceOffsetsOf faces.neighborsOf faces.hasEntry faces.standsAt faces.mirroredOf faces.lowersOf faces.diagonalsAsked faces.diagonalsOf faces.coupledOf faces.coupledCountOf faces.coupledRowsOf kernelUpdateOf diagonalAsked isPositive tri factor.seekOf factor.getOf lessOf factor.restOf factor.columnOf factor.columnsOf factor.factorRowOf factor.rowsOf factor.choleskyOf absOf allFinite strengthsOf considerOf entryOf strongestOf assignOf pairRowOf turnOf pairsOf galerkin.addEntry galerkin.sumsOf galerkin.averageFace galerkin.symmetrizeOf galerkin.zeroEntry galerkin.zeroEntries galerkin.zeroDiagonalOf
+unfolding linksIn matricesIn levelsIn update.updateOf update.renewOf update.sameList update.samePattern standing.diagonalStands standing.diagonalsStand buildOf symmetricOf growOf withSums mergeOf csr.sizeOk csr.neverFall csr.offsetsOk csr.entryOk csr.rowOk csr-turns.stepOk csr-turns.rowAt csr-turns.entryFrom csr.columnsOk csr-turns.weightOk weights.weightsOk validOf isFinite lt le eq ofBits ofInt add sub mul div sqrtOf each tab for iter askRows pairAgrees mirrorsAgree pattern.some pattern.howMany pattern.those pattern.rowOf pattern.sumTo pattern.flat pattern.startOf pattern.columnPlaceOf pattern-steps.joinsBy pattern.joins pattern.coarseOffsets pattern.coarseColumns pattern.coarsePositions pattern.composeOf faces.above faces.facesOf faces.uppersOf faces.faceOffsetsOf faces.neighborsOf faces.hasEntry faces.standsAt faces.mirroredOf faces.lowersOf faces.diagonalsAsked faces.diagonalsOf faces.coupledOf faces.coupledCountOf faces.coupledRowsOf kernelUpdateOf diagonalAsked isPositive tri factor.seekOf factor.getOf lessOf factor.restOf cholesky-turns.columnOf factor.columnsOf factor.factorRowOf factor.rowsOf factor.choleskyOf absOf allFinite strengthsOf considerOf entryOf strongestOf assignOf pairRowOf turnOf pairsOf galerkin-turns.addEntry galerkin.sumsOf galerkin.averageFace galerkin.symmetrizeOf galerkin.zeroEntry galerkin-turns.zeroEntries galerkin.zeroDiagonalOf
 ring-levels = record { aggregates = refl; matrices = refl; merges = refl; updates = refl }
 
 -- ---- the theorem on the ring

@@ -17,7 +17,8 @@ use Rattle.galerkin_theorem.specs.Theorem.{fineMatrix, coarseMatrix}
 use Rattle.hierarchy.specs.Level.{Shape, Level}
 use Rattle.hierarchy.proofs.Twice.{compose-at}
 use Rattle.build_sound.specs.Laid.{Laid}
-use Rattle.galerkin_levels.specs.Levels.{Matrix, MatrixIs, productOf, Galerkin, composed}
+use Rattle.galerkin_levels.specs.Levels.{MatrixIs, Galerkin, composed}
+use Rattle.galerkin_levels.specs.Steps.{Matrix, productOf}
 
 -- The Galerkin product of entries is the matrix of the same entries between the aggregates of their rows and columns.
 pub product-dense : (n m : ℕ) (map row column : ℕ → ℕ) (z : ℕ → ℤ) → ((e : ℕ) → e < m → row e < n) → ((e : ℕ) → e < m → column e < n)

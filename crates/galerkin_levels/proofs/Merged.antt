@@ -8,17 +8,19 @@ use lib.IntN.{ℤ}
 use Rattle.store.specs.Region.{at, idx}
 use Rattle.options.specs.declared.options.MultigridOptions.{MultigridOptions}
 use Rattle.refusal.specs.Outcome.{accepted}
-use Rattle.aggregation.specs.Pairs.{Weighted, weighted, strengthsOf}
+use Rattle.aggregation.specs.Pairs.{Weighted, strengthsOf}
+use Rattle.aggregation.specs.Turns.{weighted}
 use Rattle.galerkin.specs.Whole.{Whole}
 use Rattle.galerkin.specs.Product.{galerkinProduct}
 use Rattle.pattern.specs.Pattern.{Pattern, rowOf, columnOf, coarse, Maps}
 use Rattle.galerkin_theorem.specs.Theorem.{WholeValues, fineMatrix, coarseMatrix}
-use Rattle.hierarchy.specs.Build.{Mesh, Merged, merged, even, paired, coarsened, mergeOf}
+use Rattle.hierarchy.specs.Build.{Mesh, Merged, merged, paired, coarsened, mergeOf}
+use Rattle.hierarchy.specs.Steps.{even}
 use Rattle.hierarchy.specs.Proper.{Proper}
 use Rattle.hierarchy.proofs.Twice.{compose-maps}
 use Rattle.hierarchy.proofs.Accepted.{joinedBy, merge-keeps}
 use Rattle.hierarchy.proofs.Proper.{coarse-proper, valid-range, paired-maps, paired-onto}
-use Rattle.galerkin_levels.specs.Levels.{Matrix, MergedIs}
+use Rattle.galerkin_levels.specs.Steps.{Matrix, MergedIs}
 use Rattle.galerkin_levels.proofs.Dense.{dense-at, dense-none}
 use Rattle.galerkin_levels.proofs.Down.{coarse-whole, coarse-dense}
 use Rattle.galerkin_levels.proofs.Finest.{product-twice}

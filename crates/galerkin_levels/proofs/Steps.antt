@@ -20,14 +20,16 @@ use Rattle.galerkin.specs.Product.{galerkinProduct}
 use Rattle.pattern.specs.Pattern.{Pattern, entries, coarse}
 use Rattle.galerkin_theorem.specs.Theorem.{WholeValues, fineMatrix, coarseMatrix}
 use Rattle.hierarchy.specs.Level.{Shape, Numbers, Level, kernelOf, csrOf}
-use Rattle.hierarchy.specs.Refresh.{coefficientsOf, smootherOf, lastNumbers, innerNumbers, numbersOf, coarseValues, refreshOf}
+use Rattle.hierarchy.specs.Refresh.{refreshOf, lastNumbers, innerNumbers, numbersOf, coarseValues}
+use Rattle.hierarchy.specs.Steps.{coefficientsOf, smootherOf}
 use Rattle.hierarchy.specs.Build.{shapeOf, innerShape}
 use Rattle.hierarchy.specs.First.{shapesIn}
 use Rattle.hierarchy.specs.Proper.{Proper}
 use Rattle.hierarchy.proofs.Accepted.{ask-split, then-split}
 use Rattle.hierarchy.proofs.First.{length-uppers}
 use Rattle.build_sound.specs.Laid.{Laid}
-use Rattle.galerkin_levels.specs.Levels.{Matrix, MatrixIs, productOf, Galerkin}
+use Rattle.galerkin_levels.specs.Levels.{MatrixIs, Galerkin}
+use Rattle.galerkin_levels.specs.Steps.{Matrix, productOf}
 use Rattle.galerkin_levels.proofs.Down.{valueIn, galerkinValues, coarse-whole, coarse-dense}
 use Rattle.galerkin_levels.proofs.Kernel.{level-is}
 

@@ -12,8 +12,8 @@ use Rattle.options.specs.declared.options.MultigridOptions.{MultigridOptions}
 use Rattle.refusal.specs.Outcome.{accepted}
 use Rattle.pattern.specs.Pattern.{Pattern, Valid}
 use Rattle.galerkin_theorem.specs.Theorem.{WholeValues}
-use Rattle.hierarchy.specs.Level.{Shape, Level, Hierarchy}
 use Rattle.hierarchy.specs.Refresh.{refreshOf}
+use Rattle.hierarchy.specs.Level.{Shape, Level, Hierarchy}
 use Rattle.hierarchy.specs.Build.{Lent, Input, patternIn, buildOf}
 use Rattle.hierarchy.specs.First.{shapesIn}
 use Rattle.hierarchy.proofs.Accepted.{build-built}

@@ -15,9 +15,8 @@ use Rattle.matrix.specs.Kernel.{Kernel}
 use Rattle.pattern.specs.Pattern.{Pattern}
 use Rattle.galerkin.specs.Whole.{Whole}
 use Rattle.galerkin.specs.Product.{galerkinProduct}
-use Rattle.galerkin_theorem.specs.Theorem.{fineMatrix, coarseMatrix, Exactly}
+use Rattle.galerkin_theorem.specs.Theorem.{fineMatrix}
 use Rattle.hierarchy.specs.Level.{Level, kernelIn}
-use Rattle.hierarchy.specs.Build.{Merged}
 
 -- ---- the matrix of a level
 
@@ -43,11 +42,6 @@ pub data Galerkin : (ℕ → ℕ → ℤ) → List Level → Type 0 where
   inner : {A : ℕ → ℕ → ℤ} {l next : Level} {rest : List Level} → MatrixIs l A
       → Galerkin (galerkinProduct (l .shape .pattern .rows) (idx (l .shape .links)) A) (next ∷ rest) → Galerkin A (l ∷ next ∷ rest)
 
--- What merged steps have made of a level with the pattern p and the whole values z is exactly Pᵀ A P of the level's matrix A, with the
--- transfer P of the map so far.
-pub record MergedIs (p : Pattern) (z : ℕ → ℤ) (s : Merged) : Type 0 where
-  pub exact : Exactly (s .mesh .pattern) (s .mesh .values) (coarseMatrix p (s .map) z)
-
 -- ---- from the finest
 
 -- the composed map: the aggregate in level k of row i of the finest, by the aggregates of the levels above it, one after the other
@@ -63,13 +57,3 @@ pub record ExactLevels (p : Pattern) (z : ℕ → ℤ) (levels : List Level) : T
   -- and level k that of the finest: exactly Pᵀ A P, with the transfer P of the composed map
   pub finest : (k : ℕ) (l : Level) (rest : List Level) → drop k levels ≡ l ∷ rest
       → MatrixIs l (galerkinProduct (p .rows) (composed k levels) (fineMatrix p z))
-
--- ---- by the names that proofs have for them
-
--- a matrix of whole numbers
-abbrev pub Matrix : Type 0
-Matrix = ℕ → ℕ → ℤ
-
--- Pᵀ A P, with the transfer P of a level's aggregates
-abbrev pub productOf : Level → Matrix → Matrix
-productOf l A = galerkinProduct (l .shape .pattern .rows) (idx (l .shape .links)) A

@@ -12,7 +12,8 @@ use Rattle.store.specs.Region.{at, idx}
 use Rattle.store.proofs.store.Loop.{for-count}
 use Rattle.store.proofs.store.Region.{le-or-lt}
 use Rattle.pattern.specs.Pattern.{Pattern, entries, rowOf, columnOf, Valid, Rising}
-use Rattle.galerkin.specs.Values.{meanOf, averageFace, symmetrizeOf}
+use Rattle.galerkin.specs.Values.{averageFace, symmetrizeOf}
+use Rattle.galerkin.specs.Turns.{meanOf}
 use Rattle.galerkin_theorem.specs.Theorem.{FacesOf, Symmetrized}
 use Rattle.galerkin_theorem.proofs.Mirror.{entry-once}
 

@@ -23,11 +23,14 @@ use Rattle.galerkin.specs.Product.{Σℤ, when}
 use Rattle.galerkin.proofs.exact.Whole.{add-whole, halves, zero-is, ofInt-whole}
 use Rattle.galerkin.proofs.exact.Sums.{Σ-same, Σ-zero, Σ-size, sizes-mono}
 use Rattle.galerkin.proofs.exact.Product.{entrySum, product-is, product-mirror}
-use Rattle.pattern.specs.Pattern.{Pattern, entries, rowOf, columnOf, Valid, Rising, Mirrored, joinsBy, coarsePositions, coarse, Maps}
+use Rattle.pattern.specs.Pattern.{Pattern, entries, rowOf, columnOf, Valid, Rising, Mirrored, coarsePositions, coarse, Maps}
+use Rattle.pattern.specs.Steps.{joinsBy}
 use Rattle.pattern.proofs.pattern.Number.{bool?, same?}
 use Rattle.pattern.proofs.pattern.Row.{row-in, joins-only}
 use Rattle.pattern.proofs.pattern.Coarse.{position-below, position-exactly}
-use Rattle.galerkin.specs.Values.{addEntry, sumsOf, meanOf, averageFace, symmetrizeOf, galerkinOf}
+use Rattle.galerkin.specs.Values.{sumsOf, averageFace, symmetrizeOf}
+use Rattle.galerkin.specs.Turns.{addEntry, meanOf}
+use Rattle.galerkin.specs.Contract.{galerkinOf}
 use Rattle.galerkin_theorem.specs.Theorem.{WholeValues, MirrorPairs, fineMatrix, coarseMatrix, Exactly}
 use Rattle.galerkin_theorem.proofs.Mirror.{fine-symmetric}
 

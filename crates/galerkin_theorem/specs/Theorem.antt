@@ -10,7 +10,7 @@ use Rattle.store.specs.Region.{at, idx}
 use Rattle.galerkin.specs.Whole.{Whole, sizes}
 use Rattle.galerkin.specs.Product.{dense, galerkinProduct}
 use Rattle.pattern.specs.Pattern.{Pattern, entries, rowOf, columnOf}
-use Rattle.galerkin.specs.Values.{meanOf}
+use Rattle.galerkin.specs.Turns.{meanOf}
 
 -- The fine values are the whole numbers z, mirrored entries have equal ones, and their absolute values sum to at most 2^53.
 pub record WholeValues (p : Pattern) (values : List Float) (z : ℕ → ℤ) : Type 0 where

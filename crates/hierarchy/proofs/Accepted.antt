@@ -25,7 +25,8 @@ use Rattle.csr.specs.Questions.{matrixAsked}
 use Rattle.csr.specs.Weights.{weightsAsked}
 use Rattle.hierarchy.specs.Level.{Numbers, Level, Hierarchy}
 use Rattle.hierarchy.specs.Refresh.{innerNumbers, lastNumbers, withSums}
-use Rattle.hierarchy.specs.Build.{Charge, fixedCharge, andLevel, holds, lastShape, innerShape, Mesh, Merged, merged, kernelAsked, paired, coarsened, coarsenedAsked, fewCoupled, endsAt, lastLevel, mergeOf, innerLevel, levelStep, deeperOf, growOf, Lent, Input, patternIn, meshIn, symmetricOf, buildOf}
+use Rattle.hierarchy.specs.Build.{Charge, fixedCharge, andLevel, holds, lastShape, innerShape, Mesh, Merged, merged, kernelAsked, paired, coarsened, coarsenedAsked, fewCoupled, lastLevel, mergeOf, growOf, Lent, Input, patternIn, meshIn, symmetricOf, buildOf}
+use Rattle.hierarchy.specs.Steps.{endsAt, innerLevel, levelStep, deeperOf}
 
 -- ---- chains of questions
 

@@ -20,7 +20,8 @@ use Rattle.csr.specs.Questions.{matrixAsked}
 use Rattle.csr.specs.Weights.{weightsAsked}
 use Rattle.hierarchy.specs.Level.{Level, Hierarchy}
 use Rattle.hierarchy.specs.Refresh.{innerNumbers, withSums}
-use Rattle.hierarchy.specs.Build.{Charge, andLevel, holds, innerShape, Mesh, merged, kernelAsked, paired, coarsenedAsked, endsAt, lastLevel, mergeOf, levelStep, growOf, Lent, Input, patternIn, meshIn, symmetricOf, buildOf}
+use Rattle.hierarchy.specs.Build.{Charge, andLevel, holds, innerShape, Mesh, merged, kernelAsked, paired, coarsenedAsked, lastLevel, mergeOf, growOf, Lent, Input, patternIn, meshIn, symmetricOf, buildOf}
+use Rattle.hierarchy.specs.Steps.{endsAt, levelStep}
 use Rattle.hierarchy.specs.Depth.{Ending, last, inner, Deep, Larger, LargerLent}
 use Rattle.hierarchy.proofs.Accepted.{ask-split, then-split, Last, onward, grow-is, grow-keeps, fixedIn, chargeIn, build-built}
 use Rattle.hierarchy.proofs.First.{grow-headed}

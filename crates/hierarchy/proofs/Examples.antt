@@ -21,14 +21,20 @@ use Rattle.vector.specs.Finite.{allFinite}
 use Rattle.matrix.specs.Kernel.{sumFace, sumRow, rowSumsOf}
 use Rattle.coefficients.specs.Mirrors.{pairAgrees, mirrorsAgree}
 use Rattle.coefficients.specs.Update.{diagonalAsked, kernelUpdateOf}
-use Rattle.cholesky.specs.Triangle.{tri, lessOf}
+use Rattle.cholesky.specs.Triangle.{tri}
+use Rattle.cholesky.specs.Turns.{lessOf}
 use Rattle.cholesky.specs.Factor as factor
+use Rattle.cholesky.specs.Turns as cholesky-turns
 use Rattle.dic.specs.Dic.{isPivot, pivotFace, pivotRow, pivotsOf, reciprocalsOf, dicOf}
-use Rattle.aggregation.specs.Pairs.{strengthsOf, considerOf, entryOf, strongestOf, assignOf, pairRowOf, turnOf, pairsOf}
+use Rattle.aggregation.specs.Pairs.{strengthsOf, considerOf, strongestOf, assignOf, pairRowOf, pairsOf}
+use Rattle.aggregation.specs.Turns.{entryOf, turnOf}
 use Rattle.pattern.specs.Pattern as pattern
-use Rattle.galerkin.specs.Values.{addEntry, sumsOf, averageFace, symmetrizeOf}
+use Rattle.pattern.specs.Steps as pattern-steps
+use Rattle.galerkin.specs.Values.{sumsOf, averageFace, symmetrizeOf}
+use Rattle.galerkin.specs.Turns.{addEntry}
 use Rattle.faces.specs.Faces as faces
 use Rattle.csr.specs.Questions as csr
+use Rattle.csr.specs.Turns as csr-turns
 use Rattle.hierarchy.specs.Level.{Level, Hierarchy}
 use Rattle.hierarchy.specs.Refresh.{withSums}
 use Rattle.hierarchy.specs.Build.{mergeOf, growOf, Lent, Input, symmetricOf, buildOf}
@@ -147,7 +153,7 @@ one-level : buildOf (lent 178 212) (small own) ≡ accepted (record {
   } ∷ [];
   sums = two ∷ zero64 ∷ [];
 })
-unfolding buildOf symmetricOf growOf withSums csr.sizeOk csr.neverFall csr.offsetsOk csr.entryOk csr.rowOk csr.stepOk csr.rowAt csr.entryFrom csr.columnsOk validOf isFinite absOf lt le eq ofBits add sub mul div sqrtOf each tab for iter askRows pairAgrees mirrorsAgree pattern.some pattern.howMany pattern.those pattern.rowOf faces.above faces.facesOf faces.uppersOf faces.faceOffsetsOf faces.neighborsOf faces.hasEntry faces.standsAt faces.mirroredOf faces.lowersOf faces.diagonalsAsked faces.diagonalsOf faces.coupledOf faces.coupledCountOf faces.coupledRowsOf kernelUpdateOf diagonalAsked isPositive tri factor.seekOf factor.getOf lessOf factor.restOf factor.columnOf factor.columnsOf factor.factorRowOf factor.rowsOf factor.choleskyOf sumFace sumRow rowSumsOf
+unfolding buildOf symmetricOf growOf withSums csr.sizeOk csr.neverFall csr.offsetsOk csr.entryOk csr.rowOk csr-turns.stepOk csr-turns.rowAt csr-turns.entryFrom csr.columnsOk validOf isFinite absOf lt le eq ofBits add sub mul div sqrtOf each tab for iter askRows pairAgrees mirrorsAgree pattern.some pattern.howMany pattern.those pattern.rowOf faces.above faces.facesOf faces.uppersOf faces.faceOffsetsOf faces.neighborsOf faces.hasEntry faces.standsAt faces.mirroredOf faces.lowersOf faces.diagonalsAsked faces.diagonalsOf faces.coupledOf faces.coupledCountOf faces.coupledRowsOf kernelUpdateOf diagonalAsked isPositive tri factor.seekOf factor.getOf lessOf factor.restOf cholesky-turns.columnOf factor.columnsOf factor.factorRowOf factor.rowsOf factor.choleskyOf sumFace sumRow rowSumsOf
 one-level = refl
 
 -- Tiny inputs that questions 2, 3, 6, 8, 9 (a word too few, a float too few), 10 (no mirror, other values), 11, 12, 13 and 15 refuse.
@@ -178,7 +184,7 @@ refusals : (
     ∷ refused (badReciprocal 0 1)
     ∷ refused (badPivot 0 1)
     ∷ [])
-unfolding buildOf symmetricOf growOf withSums csr.sizeOk csr.neverFall csr.offsetsOk csr.entryOk csr.rowOk csr.stepOk csr.rowAt csr.entryFrom csr.columnsOk validOf isFinite absOf lt le eq ofBits add sub mul div sqrtOf each tab for iter askRows pairAgrees mirrorsAgree pattern.some pattern.howMany pattern.those pattern.rowOf faces.above faces.facesOf faces.uppersOf faces.faceOffsetsOf faces.neighborsOf faces.hasEntry faces.standsAt faces.mirroredOf faces.lowersOf faces.diagonalsAsked faces.diagonalsOf faces.coupledOf faces.coupledCountOf faces.coupledRowsOf kernelUpdateOf diagonalAsked isPositive tri factor.seekOf factor.getOf lessOf factor.restOf factor.columnOf factor.columnsOf factor.factorRowOf factor.rowsOf factor.choleskyOf sumFace sumRow rowSumsOf
+unfolding buildOf symmetricOf growOf withSums csr.sizeOk csr.neverFall csr.offsetsOk csr.entryOk csr.rowOk csr-turns.stepOk csr-turns.rowAt csr-turns.entryFrom csr.columnsOk validOf isFinite absOf lt le eq ofBits add sub mul div sqrtOf each tab for iter askRows pairAgrees mirrorsAgree pattern.some pattern.howMany pattern.those pattern.rowOf faces.above faces.facesOf faces.uppersOf faces.faceOffsetsOf faces.neighborsOf faces.hasEntry faces.standsAt faces.mirroredOf faces.lowersOf faces.diagonalsAsked faces.diagonalsOf faces.coupledOf faces.coupledCountOf faces.coupledRowsOf kernelUpdateOf diagonalAsked isPositive tri factor.seekOf factor.getOf lessOf factor.restOf cholesky-turns.columnOf factor.columnsOf factor.factorRowOf factor.rowsOf factor.choleskyOf sumFace sumRow rowSumsOf
 refusals = refl
 
 -- With an end of one cell P is paired into one row, 2: the entries of P are summed, and its DIC inverses are 0.25 and 1.
@@ -224,7 +230,7 @@ two-levels : buildOf ample (plain (controls 1 4 1) 2 (0 ∷ 2 ∷ 4 ∷ []) (0 �
   } ∷ [];
   sums = two ∷ zero64 ∷ [];
 })
-unfolding buildOf symmetricOf growOf withSums csr.sizeOk csr.neverFall csr.offsetsOk csr.entryOk csr.rowOk csr.stepOk csr.rowAt csr.entryFrom csr.columnsOk validOf isFinite lt le eq ofBits add sub mul div sqrtOf each tab for iter askRows pairAgrees mirrorsAgree pattern.some pattern.howMany pattern.those pattern.rowOf faces.above faces.facesOf faces.uppersOf faces.faceOffsetsOf faces.neighborsOf faces.hasEntry faces.standsAt faces.mirroredOf faces.lowersOf faces.diagonalsAsked faces.diagonalsOf faces.coupledOf faces.coupledCountOf faces.coupledRowsOf kernelUpdateOf diagonalAsked isPositive tri factor.seekOf factor.getOf lessOf factor.restOf factor.columnOf factor.columnsOf factor.factorRowOf factor.rowsOf factor.choleskyOf sumFace sumRow rowSumsOf absOf allFinite strengthsOf considerOf entryOf strongestOf assignOf pairRowOf turnOf pairsOf mergeOf pattern.sumTo pattern.flat pattern.startOf pattern.columnPlaceOf pattern.joinsBy pattern.joins pattern.coarseOffsets pattern.coarseColumns pattern.coarsePositions addEntry sumsOf averageFace symmetrizeOf dicOf pivotsOf pivotRow pivotFace reciprocalsOf isPivot pattern.composeOf
+unfolding buildOf symmetricOf growOf withSums csr.sizeOk csr.neverFall csr.offsetsOk csr.entryOk csr.rowOk csr-turns.stepOk csr-turns.rowAt csr-turns.entryFrom csr.columnsOk validOf isFinite lt le eq ofBits add sub mul div sqrtOf each tab for iter askRows pairAgrees mirrorsAgree pattern.some pattern.howMany pattern.those pattern.rowOf faces.above faces.facesOf faces.uppersOf faces.faceOffsetsOf faces.neighborsOf faces.hasEntry faces.standsAt faces.mirroredOf faces.lowersOf faces.diagonalsAsked faces.diagonalsOf faces.coupledOf faces.coupledCountOf faces.coupledRowsOf kernelUpdateOf diagonalAsked isPositive tri factor.seekOf factor.getOf lessOf factor.restOf cholesky-turns.columnOf factor.columnsOf factor.factorRowOf factor.rowsOf factor.choleskyOf sumFace sumRow rowSumsOf absOf allFinite strengthsOf considerOf entryOf strongestOf assignOf pairRowOf turnOf pairsOf mergeOf pattern.sumTo pattern.flat pattern.startOf pattern.columnPlaceOf pattern-steps.joinsBy pattern.joins pattern.coarseOffsets pattern.coarseColumns pattern.coarsePositions addEntry sumsOf averageFace symmetrizeOf dicOf pivotsOf pivotRow pivotFace reciprocalsOf isPivot pattern.composeOf
 two-levels = refl
 
 -- Builds of the path. One step to a level leads to 2 coupled rows: an end of one cell is refused by question 14, as no third level is
@@ -238,5 +244,5 @@ pub record PathBuilds : Type 0 where
   pub coarsest : matricesIn (buildOf ample (path 1 2)) ≡ whole ∷ (two ∷ []) ∷ []
 
 path-builds : PathBuilds
-unfolding buildOf symmetricOf growOf withSums csr.sizeOk csr.neverFall csr.offsetsOk csr.entryOk csr.rowOk csr.stepOk csr.rowAt csr.entryFrom csr.columnsOk validOf isFinite lt le eq ofBits add sub mul div sqrtOf each tab for iter askRows pairAgrees mirrorsAgree pattern.some pattern.howMany pattern.those pattern.rowOf faces.above faces.facesOf faces.uppersOf faces.faceOffsetsOf faces.neighborsOf faces.hasEntry faces.standsAt faces.mirroredOf faces.lowersOf faces.diagonalsAsked faces.diagonalsOf faces.coupledOf faces.coupledCountOf faces.coupledRowsOf kernelUpdateOf diagonalAsked isPositive tri factor.seekOf factor.getOf lessOf factor.restOf factor.columnOf factor.columnsOf factor.factorRowOf factor.rowsOf factor.choleskyOf sumFace sumRow rowSumsOf absOf allFinite strengthsOf considerOf entryOf strongestOf assignOf pairRowOf turnOf pairsOf mergeOf pattern.sumTo pattern.flat pattern.startOf pattern.columnPlaceOf pattern.joinsBy pattern.joins pattern.coarseOffsets pattern.coarseColumns pattern.coarsePositions addEntry sumsOf averageFace symmetrizeOf dicOf pivotsOf pivotRow pivotFace reciprocalsOf isPivot pattern.composeOf linksIn matricesIn
+unfolding buildOf symmetricOf growOf withSums csr.sizeOk csr.neverFall csr.offsetsOk csr.entryOk csr.rowOk csr-turns.stepOk csr-turns.rowAt csr-turns.entryFrom csr.columnsOk validOf isFinite lt le eq ofBits add sub mul div sqrtOf each tab for iter askRows pairAgrees mirrorsAgree pattern.some pattern.howMany pattern.those pattern.rowOf faces.above faces.facesOf faces.uppersOf faces.faceOffsetsOf faces.neighborsOf faces.hasEntry faces.standsAt faces.mirroredOf faces.lowersOf faces.diagonalsAsked faces.diagonalsOf faces.coupledOf faces.coupledCountOf faces.coupledRowsOf kernelUpdateOf diagonalAsked isPositive tri factor.seekOf factor.getOf lessOf factor.restOf cholesky-turns.columnOf factor.columnsOf factor.factorRowOf factor.rowsOf factor.choleskyOf sumFace sumRow rowSumsOf absOf allFinite strengthsOf considerOf entryOf strongestOf assignOf pairRowOf turnOf pairsOf mergeOf pattern.sumTo pattern.flat pattern.startOf pattern.columnPlaceOf pattern-steps.joinsBy pattern.joins pattern.coarseOffsets pattern.coarseColumns pattern.coarsePositions addEntry sumsOf averageFace symmetrizeOf dicOf pivotsOf pivotRow pivotFace reciprocalsOf isPivot pattern.composeOf linksIn matricesIn
 path-builds = record { refuses = refl; aggregates = refl; coarser = refl; merges = refl; coarsest = refl }

@@ -15,11 +15,12 @@ use Rattle.vector.specs.Finite.{allFinite}
 use Rattle.aggregation.specs.Pairs.{Pairing, strengthsOf}
 use Rattle.pattern.specs.Pattern.{Pattern, entries, coarse, coarsePositions, composeOf}
 use Rattle.pattern.proofs.pattern.Place.{length-those}
-use Rattle.galerkin.specs.Values.{galerkinOf}
+use Rattle.galerkin.specs.Contract.{galerkinOf}
 use Rattle.faces.specs.Faces.{above, facesOf, uppersOf, lowersOf}
 use Rattle.hierarchy.specs.Level.{Shape, Numbers, Level, Hierarchy}
-use Rattle.hierarchy.specs.Refresh.{numbersOf, coarseValues, refreshOf}
-use Rattle.hierarchy.specs.Build.{Charge, shapeOf, lastShape, innerShape, Mesh, Merged, merged, kernelAsked, paired, coarsenedAsked, fewCoupled, endsAt, joinedStep, mergeOf, growOf, Lent, Input, patternIn, meshIn, buildOf}
+use Rattle.hierarchy.specs.Refresh.{refreshOf, numbersOf, coarseValues}
+use Rattle.hierarchy.specs.Steps.{endsAt, joinedStep}
+use Rattle.hierarchy.specs.Build.{Charge, shapeOf, lastShape, innerShape, Mesh, Merged, merged, kernelAsked, paired, coarsenedAsked, fewCoupled, mergeOf, growOf, Lent, Input, patternIn, meshIn, buildOf}
 use Rattle.hierarchy.specs.Shapes.{Weights, Traced, pairedBy, coarseWeights, traceJoined, traceOf, tracedFrom, shapesOf, patternOf}
 use Rattle.hierarchy.specs.First.{shapesIn, First}
 use Rattle.hierarchy.proofs.Accepted.{then-split, coarsened-is, Last, onward, Inner, ends-zero, Halts, by-pattern, by-pairs, grow-keeps, joinedBy, chargeIn, build-built}

@@ -8,13 +8,16 @@ use Prim.Native.Nat.{ℕ, _+_, _-_}
 use native.Mathlib.Omega.{arith}
 use Rattle.options.specs.declared.options.MultigridOptions.{MultigridOptions}
 use Rattle.refusal.specs.Outcome.{Outcome, accepted}
-use Rattle.aggregation.specs.Pairs.{Weighted, weighted, strengthsOf, pairsOf, InRange}
+use Rattle.aggregation.specs.Pairs.{Weighted, strengthsOf, pairsOf}
+use Rattle.aggregation.specs.Contract.{InRange}
+use Rattle.aggregation.specs.Turns.{weighted}
 use Rattle.aggregation.proofs.Numbers.{map-length, map-below, all-used}
 use Rattle.pattern.specs.Pattern.{Pattern, entries, Valid, coarse, Maps, Onto}
 use Rattle.pattern.proofs.pattern.Row.{offset-mono}
 use Rattle.pattern.proofs.pattern.Coarse.{coarse-valid, coarse-rising, coarse-mirrored, coarse-diagonal}
 use Rattle.hierarchy.specs.Level.{Level}
-use Rattle.hierarchy.specs.Build.{Charge, Mesh, Merged, merged, even, paired, coarsened, mergeOf}
+use Rattle.hierarchy.specs.Build.{Charge, Mesh, Merged, merged, paired, coarsened, mergeOf}
+use Rattle.hierarchy.specs.Steps.{even}
 use Rattle.hierarchy.specs.Proper.{Proper, Joined}
 use Rattle.hierarchy.proofs.Twice.{compose-maps, compose-onto, coarse-twice}
 use Rattle.hierarchy.proofs.Accepted.{coarsened-is, Inner, joinedBy, merge-keeps}

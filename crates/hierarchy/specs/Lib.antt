@@ -5,3 +5,4 @@ pub mod Shapes
 pub mod Proper
 pub mod First
 pub mod Depth
+pub mod Steps

@@ -12,13 +12,12 @@ pub use Rattle.options.specs.Options.{needsDic}
 use Rattle.refusal.specs.Refusal.{badCoarseValue}
 use Rattle.refusal.specs.Outcome.{Outcome, accepted, ask, _>>=_, _>>_}
 use Rattle.vector.specs.Finite.{allFinite}
-use Rattle.matrix.specs.Kernel.{Kernel, rowSumsOf}
+use Rattle.matrix.specs.Kernel.{rowSumsOf}
 use Rattle.coefficients.specs.Update.{Coefficients, kernelUpdateOf}
 use Rattle.dic.specs.Dic.{dicOf}
 use Rattle.cholesky.specs.Factor.{choleskyOf}
 use Rattle.pattern.specs.Pattern.{entries}
-use Rattle.galerkin.specs.Values.{symmetrizeOf}
-use Rattle.galerkin.specs.Values.{sumsOf as sumsBy}
+use Rattle.galerkin.specs.Values.{symmetrizeOf, sumsOf as sumsBy}
 use Rattle.hierarchy.specs.Level.{Shape, Numbers, Level, Hierarchy, kernelOf, kernelIn, csrOf}
 
 -- whether the norm needs row sums
@@ -61,35 +60,14 @@ module _ (o : MultigridOptions) where
   withSums (l ∷ rest) =
       record { levels = l ∷ rest; sums = cond (needsSums (o .«residual_norm»)) (rowSumsOf (kernelIn l)) (filled (l .shape .pattern .rows) zero64) }
 
--- ---- for the proofs
-
--- the DIC data of a kernel where they are needed, else zeros: questions 16 and 17
-abbrev pub smootherUnder : Bool → ℕ → Kernel → Outcome (List Float)
-smootherUnder dic level k = cond dic (dicOf level k) (accepted (filled (k .rows) zero64))
-
-module _ (o : MultigridOptions) where
-  -- questions 12 and 13 of a level, and its coefficients
-  abbrev pub coefficientsOf : ℕ → Shape → List Float → Outcome Coefficients
-  coefficientsOf level s values = kernelUpdateOf level (s .pattern .rows) (s .diagonals) (s .uppers) values
-
-  -- the DIC data of a level that is not the last: questions 16 and 17
-  abbrev pub smootherOf : ℕ → Kernel → Outcome (List Float)
-  smootherOf = smootherUnder (needsDic (o .smoother))
-
   -- the levels of the shapes from `level` on, from the values of the first: question 18 of the next level's values before its 12
   unfoldable pub refreshOf : ℕ → List Shape → List Float → Outcome (List Level)
   refreshOf level [] values = accepted []
   refreshOf level (s ∷ []) values = do
-    n ← numbersOf o level s values
+    n ← numbersOf level s values
     accepted (record { shape = s; numbers = n } ∷ [])
   refreshOf level (s ∷ t ∷ rest) values = do
-    n ← numbersOf o level s values
-    ask (allFinite (entries (t .pattern)) (coarseValues o s t values)) badCoarseValue
-    deeper ← refreshOf (level + 1) (t ∷ rest) (coarseValues o s t values)
+    n ← numbersOf level s values
+    ask (allFinite (entries (t .pattern)) (coarseValues s t values)) badCoarseValue
+    deeper ← refreshOf (level + 1) (t ∷ rest) (coarseValues s t values)
     accepted (record { shape = s; numbers = n } ∷ deeper)
-
-  -- the row sums of a level, if the norm needs them
-  abbrev pub sumsOf : Level → List Float
-  sumsOf l =
-      let k = kernelOf (l .shape) (l .numbers .diagonal) (l .numbers .inverse) (l .numbers .coefficients) in
-      cond (needsSums (o .«residual_norm»)) (rowSumsOf k) (filled (k .rows) zero64)

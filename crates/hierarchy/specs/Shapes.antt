@@ -7,11 +7,13 @@ use lib.Dec.{eqb}
 use lib.ListN.{length}
 use lib.Ieee.{Float}
 use Rattle.options.specs.declared.options.MultigridOptions.{MultigridOptions}
-use Rattle.aggregation.specs.Pairs.{Pairing, weighted, pairsOf}
+use Rattle.aggregation.specs.Pairs.{Pairing, pairsOf}
+use Rattle.aggregation.specs.Turns.{weighted}
 use Rattle.pattern.specs.Pattern.{Pattern, entries, coarse, coarsePositions, composeOf}
-use Rattle.galerkin.specs.Values.{restrictWeightsOf}
+use Rattle.galerkin.specs.Contract.{restrictWeightsOf}
 use Rattle.hierarchy.specs.Level.{Shape}
-use Rattle.hierarchy.specs.Build.{lastShape, innerShape, even, fewCoupled, endsAt, Input, patternIn}
+use Rattle.hierarchy.specs.Build.{lastShape, innerShape, fewCoupled, Input, patternIn}
+use Rattle.hierarchy.specs.Steps.{even, endsAt}
 
 -- a pattern with the weight of each entry
 pub record Weights : Type 0 where

@@ -8,21 +8,14 @@ use Rattle.float.specs.Float.{zero64}
 use Rattle.store.specs.Vector.{filled}
 use Rattle.options.specs.declared.options.MultigridOptions.{MultigridOptions}
 use Rattle.refusal.specs.Refusal.{badResidual}
-use Rattle.refusal.specs.Outcome.{Outcome, accepted, refused, _>>=_}
-use Rattle.vector.specs.declared.vector.Product.{Product}
-use Rattle.vector.specs.declared.vector.Product.the-variants.{Finite, NotFinite}
+use Rattle.refusal.specs.Outcome.{Outcome, accepted, _>>=_}
 use Rattle.matrix.specs.Kernel.{Kernel, applyOf}
 use Rattle.correction.specs.Correction.{subtractOf, addPlainOf}
-use Rattle.acceleration.specs.Directions.{Pair}
+use Rattle.acceleration.specs.Directions.{Pair, finite}
 use Rattle.acceleration.specs.Gcr.{Corrections, correctOf}
 use Rattle.residual_norm.specs.Measure.{measureOf}
 use Rattle.hierarchy.specs.Level.{Level, Hierarchy, kernelIn}
 use Rattle.cycle.specs.Cycle.{cycleOf}
-
--- `measure(..)?`: question 23
-abbrev pub measured : Product → Outcome Float
-measured (Finite value) = accepted value
-measured NotFinite = refused badResidual
 
 -- where an iteration stands: solution, residual, the stored pairs of GCR, the counters, and the measured residual
 pub record State : Type 0 where
@@ -44,9 +37,9 @@ module _ (y : System) (rhs : List Float) (factor : Float) where
   abbrev pub trueResidualOf : List Float → List Float
   trueResidualOf x = subtractOf (y .kernel .rows) rhs (applyOf (y .kernel) x)
 
-  -- its norm: question 23
+  -- its norm, `measure(..)?`: question 23
   abbrev pub measuredOf : List Float → Outcome Float
-  measuredOf residual = measured (measureOf (y .options .«residual_norm») (y .kernel .rows) residual factor)
+  measuredOf residual = finite badResidual (measureOf (y .options .«residual_norm») (y .kernel .rows) residual factor)
 
   -- the solution moved by a correction: as it is where the controls ask for no directions, else by GCR (28 to 30)
   unfoldable pub movedOf : List Pair → List Float → List Float → List Float → Outcome Corrections
@@ -56,20 +49,24 @@ module _ (y : System) (rhs : List Float) (factor : Float) where
       (correctOf (y .kernel .rows) (y .options .«krylov_dimension») memory
       (record { direction = correction; image = applyOf (y .kernel) correction }) residual x)
 
-  -- one iteration: a cycle on the residual (24 to 27), the solution moved, and its true residual
-  unfoldable pub stepOf : State → Outcome State
-  stepOf s = do
-    let n = y .kernel .rows
-    c ← cycleOf (y .options) (y .levels) 0 (s .residual) (filled n zero64) (s .counts)
-    m ← movedOf (s .memory) (c .x) (s .residual) (s .x)
+  -- an iteration after its cycle, which gave the correction and the counters: the solution moved, and its true residual
+  abbrev pub afterOf : List Pair → List Float → List Float → List Float → List ℕ → Outcome State
+  afterOf memory correction residual x counts = do
+    m ← movedOf memory correction residual x
     last ← measuredOf (trueResidualOf (m .solution))
     accepted (record {
       x = m .solution;
       residual = trueResidualOf (m .solution);
       memory = m .memory;
-      counts = c .counts;
+      counts = counts;
       last = last;
     })
+
+  -- one iteration: a cycle on the residual (24 to 27), and what follows
+  unfoldable pub stepOf : State → Outcome State
+  stepOf s = do
+    c ← cycleOf (y .options) (y .levels) 0 (s .residual) (filled (y .kernel .rows) zero64) (s .counts)
+    afterOf (s .memory) (c .x) (s .residual) (s .x) (c .counts)
 
 -- ---- the hierarchy
 

@@ -23,7 +23,7 @@ use Rattle.index_check.specs.declared.sound.Walk.{Walk}
 use Rattle.index_check.specs.Sound.{walkOf, scratchStart, scratchEnd, cycleStart}
 use Rattle.iterations.specs.declared.stepping.Regions.{Regions}
 use Rattle.iterations.specs.declared.stepping.Step.{Step}
-use Rattle.iterations.specs.Iteration.{System, State, trueResidualOf, measuredOf, movedOf, stepOf}
+use Rattle.iterations.specs.Iteration.{State, afterOf, stepOf}
 use Rattle.iterations.specs.System.{systemAt}
 
 -- ---- places
@@ -133,20 +133,7 @@ stateAt g used F t last = record {
   last = last;
 }
 
--- an iteration after its cycle, which gave the correction and the counters
-unfoldable pub afterOf : System → List Float → Float → List Pair → List Float → List Float → List Float → List ℕ → Outcome State
-afterOf y rhs factor memory correction residual x counts = do
-  m ← movedOf y rhs factor memory correction residual x
-  last ← measuredOf y rhs factor (trueResidualOf y rhs factor (m .solution))
-  accepted (record {
-    x = m .solution;
-    residual = trueResidualOf y rhs factor (m .solution);
-    memory = m .memory;
-    counts = counts;
-    last = last;
-  })
-
--- the same of the vectors in the store
+-- an iteration after its cycle, of the vectors in the store
 abbrev pub afterAt : Handle → List ℕ → List Float → Regions → ℕ → Float → List ℕ → Outcome State
 afterAt h w F g used factor counts =
     afterOf (systemAt h w F) (part (g .rhs) (g .rows) F) factor (memoryAt used (g .rows) (g .directions) (g .images) F)

@@ -5,3 +5,4 @@ pub mod Placed
 pub mod PlaceContract
 pub mod TerminalContract
 pub mod SmootherContract
+pub mod SumsContract

@@ -6,7 +6,7 @@ use lib.Ieee.{Float}
 use Rattle.refusal.specs.Outcome.{Outcome}
 use Rattle.matrix.specs.Kernel.{kernelAt}
 use Rattle.dic.specs.Dic.{DicOk}
-use Rattle.hierarchy.specs.Refresh.{smootherUnder}
+use Rattle.hierarchy.specs.Steps.{smootherUnder}
 use Rattle.layout.specs.declared.Place.{Place}
 use Rattle.layout.specs.Parts.{kernelIn}
 

@@ -10,9 +10,11 @@ use faces::Faces;
 use matrix::SymmetricMatrix;
 
 pub mod smoother;
+pub mod sums;
 pub mod terminal;
 
 pub use smoother::smoother_data;
+pub use sums::row_sums;
 pub use terminal::factor;
 pub use terminal::terminal_in;
 

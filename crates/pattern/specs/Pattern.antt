@@ -125,9 +125,3 @@ pub record Onto (map : List ℕ) (n count : ℕ) : Type 0 where
 -- the map of a step followed by that of the next: `*aggregate = next_map[*aggregate]` of hierarchy.rs
 unfoldable pub composeOf : ℕ → List ℕ → List ℕ → List ℕ
 composeOf n map next = tab (λ i. idx next (idx map i)) n
-
--- ---- the turns of the loops above, by the names that proofs have for them
-
--- whether fine entry e joins aggregate a to aggregate b
-unfoldable pub joinsBy : Pattern → List ℕ → ℕ → ℕ → ℕ → Bool
-joinsBy p map a b e = eqb (idx map (rowOf p e)) a && eqb (idx map (columnOf p e)) b

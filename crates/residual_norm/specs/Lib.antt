@@ -1,2 +1,4 @@
 pub mod Measure
 pub mod Normalization
+pub mod Turns
+pub mod Contract

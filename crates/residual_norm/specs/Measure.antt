@@ -22,25 +22,3 @@ valueOf MultigridResidualNorm.NormalizedL1 n residual factor = div64 (sumOf n (�
 -- `measure` of mod.rs, with question 23
 unfoldable pub measureOf : MultigridResidualNorm → ℕ → List Float → Float → Product
 measureOf norm n residual factor = productOf (valueOf norm n residual factor)
-
--- ---- the turns of the loops above, by the names that proofs have for them
-
--- one term more
-unfoldable pub sumTurn : (ℕ → Float) → ℕ → Float → Float
-sumTurn g row sum = add64 sum (g row)
-
--- `v * v` of one row
-unfoldable pub squareAt : List Float → ℕ → Float
-squareAt v row = mul64 (at v row) (at v row)
-
--- `v.abs()` of one row
-unfoldable pub sizeAt : List Float → ℕ → Float
-sizeAt v row = absOf (at v row)
-
--- the squares of n elements, added up
-unfoldable pub squaresOf : ℕ → List Float → Float
-squaresOf n v = sumOf n (squareAt v)
-
--- the absolute values of n elements, added up
-unfoldable pub sizesOf : ℕ → List Float → Float
-sizesOf n v = sumOf n (sizeAt v)

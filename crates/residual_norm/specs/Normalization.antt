@@ -1,6 +1,6 @@
 -- The normalization of mod.rs, over lists. Definitions only.
 use mathlib.Core.List.{List}
-use Prim.Native.Nat.{ℕ, _+_, _≤_, _^_}
+use Prim.Native.Nat.{ℕ, _^_}
 use lib.IntN.{pos}
 use lib.Ieee.{Float, binary64, ofInt}
 use Rattle.float.specs.Float.{add64, sub64, mul64, div64, one64, ratio, absOf, maxNum}
@@ -19,24 +19,3 @@ normalizationOf MultigridResidualNorm.NormalizedL1 n x rhs product rowsums =
     let mean = meanOf n x in
     let spread : ℕ → Float = λ row. add64 (absOf (sub64 (at product row) (mul64 (at rowsums row) mean))) (absOf (sub64 (at rhs row) (mul64 (at rowsums row) mean))) in
     maxNum (sumOf n spread) (ratio 1 (10 ^ 300))
-
--- four regions of n elements in a store of that size
-pub record NormalizationOk (size n x rhs product rowsums : ℕ) : Type 0 where
-  pub xs : x + n ≤ size
-  pub rhss : rhs + n ≤ size
-  pub products : product + n ≤ size
-  pub sums : rowsums + n ≤ size
-
--- ---- the turns of the loops above, by the names that proofs have for them
-
--- `(ax - sum * mean).abs() + (b - sum * mean).abs()`
-unfoldable pub spreadOf : Float → Float → Float → Float → Float
-spreadOf b ax rowsum mean = add64 (absOf (sub64 ax (mul64 rowsum mean))) (absOf (sub64 b (mul64 rowsum mean)))
-
--- the same of one row
-unfoldable pub spreadAt : List Float → List Float → List Float → Float → ℕ → Float
-spreadAt rhs product rowsums mean row = spreadOf (at rhs row) (at product row) (at rowsums row) mean
-
--- the same of n rows, added up
-unfoldable pub spreadsOf : ℕ → List Float → List Float → List Float → Float → Float
-spreadsOf n rhs product rowsums mean = sumOf n (spreadAt rhs product rowsums mean)

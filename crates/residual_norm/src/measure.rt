@@ -3,7 +3,8 @@ ghost use mathlib.Core.Path.{_≡_};
 ghost use Prim.Native.Nat.{_+_, _≤_};
 ghost use lib.ListN.{length};
 ghost use Rattle.store.specs.Region.{part};
-ghost use Rattle.residual_norm.specs.Measure.{squaresOf, sizesOf, valueOf, measureOf};
+ghost use Rattle.residual_norm.specs.Measure.{valueOf, measureOf};
+ghost use Rattle.residual_norm.specs.Turns.{squaresOf, sizesOf};
 use options::MultigridResidualNorm;
 use vector::Product;
 

@@ -4,7 +4,9 @@ ghost use Prim.Native.Nat.{_+_, _≤_};
 ghost use lib.ListN.{length};
 ghost use Rattle.store.specs.Region.{at, part};
 ghost use Rattle.residual_norm.specs.Measure.{sumOf};
-ghost use Rattle.residual_norm.specs.Normalization.{meanOf, spreadOf, spreadsOf, normalizationOf, NormalizationOk};
+ghost use Rattle.residual_norm.specs.Normalization.{meanOf, normalizationOf};
+ghost use Rattle.residual_norm.specs.Contract.{NormalizationOk};
+ghost use Rattle.residual_norm.specs.Turns.{spreadOf, spreadsOf};
 use options::MultigridResidualNorm;
 
 // The n elements at x, added up.

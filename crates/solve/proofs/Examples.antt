@@ -21,10 +21,13 @@ use Rattle.vector.specs.Dot as dot
 use Rattle.vector.specs.Finite as finite
 use Rattle.matrix.specs.Kernel as matrix
 use Rattle.cholesky.specs.TriangularFactor as factor
+use Rattle.cholesky.specs.Turns as cholesky-turns
 use Rattle.coarse.specs.Terminal as terminal
+use Rattle.coarse.specs.Turns as coarse-turns
 use Rattle.cholesky.specs.Triangle.{tri}
 use Rattle.correction.specs.Correction as correction
 use Rattle.residual_norm.specs.Measure as measure
+use Rattle.residual_norm.specs.Turns as residual-norm-turns
 use Rattle.residual_norm.specs.Normalization as normalization
 use Rattle.solver.specs.Solver as solver
 use Rattle.hierarchy.specs.Level.{Hierarchy}
@@ -116,5 +119,5 @@ small-press : solve.solveOf (iteration.systemOf (controls MultigridResidualNorm.
       x = one64 ∷ one64 ∷ [];
       counts = lay (1 ∷ 0 ∷ 0 ∷ 0 ∷ []) solve.uncounted;
     })
-unfolding solve.solveOf input.inputOk solve.runOf iterating.iterateOf iteration.stepOf iteration.movedOf cycle.cycleOf cycle.endOf cycle.countOf terminal.terminalOf terminal.terminalSolution terminal.scatterOf terminal.gatherOf terminal.diagonalOf factor.solveFactorOf factor.lowRow factor.highRow factor.lowTerm factor.highTerm tri measure.measureOf measure.valueOf measure.squaresOf measure.squareAt measure.sumOf measure.sumTurn finite.allFinite dot.productOf normalization.normalizationOf solver.relativeOf matrix.applyOf matrix.spreadOf matrix.spreadRow matrix.spreadFace correction.subtractOf correction.addPlainOf isFinite maxNum sqrtOf each tab lay for iter lt le eq ne ofBits add sub mul div
+unfolding solve.solveOf input.inputOk solve.runOf iterating.iterateOf iteration.stepOf iteration.movedOf cycle.cycleOf cycle.endOf cycle.countOf terminal.terminalOf terminal.terminalSolution coarse-turns.scatterOf coarse-turns.gatherOf coarse-turns.diagonalOf factor.solveFactorOf factor.lowRow factor.highRow cholesky-turns.lowTerm cholesky-turns.highTerm tri measure.measureOf measure.valueOf residual-norm-turns.squaresOf residual-norm-turns.squareAt measure.sumOf residual-norm-turns.sumTurn finite.allFinite dot.productOf normalization.normalizationOf solver.relativeOf matrix.applyOf matrix.spreadOf matrix.spreadRow matrix.spreadFace correction.subtractOf correction.addPlainOf isFinite maxNum sqrtOf each tab lay for iter lt le eq ne ofBits add sub mul div
 small-press = refl

@@ -28,9 +28,11 @@ use Rattle.refusal.proofs.Outcome.{ask-yes, ask-no, refuses, never, accepts-it}
 use Rattle.vector.specs.declared.vector.Product.{Product}
 use Rattle.matrix.specs.Kernel.{Kernel, applyOf}
 use Rattle.correction.specs.Correction.{subtractOf}
+use Rattle.acceleration.specs.Directions.{finite}
 use Rattle.acceleration.specs.DirectionsContract.{memoryAt}
 use Rattle.residual_norm.specs.Measure.{measureOf}
-use Rattle.residual_norm.specs.Normalization.{normalizationOf, NormalizationOk}
+use Rattle.residual_norm.specs.Normalization.{normalizationOf}
+use Rattle.residual_norm.specs.Contract.{NormalizationOk}
 use Rattle.solver.specs.Solver.{thresholdOf, reportOf}
 use Rattle.layout.specs.Layout.{rowsAt, entriesAt}
 use Rattle.index_check.specs.Sound.{levelsSound, handleSound, scratchStart, scratchEnd, cycleStart, soundOf}
@@ -38,21 +40,21 @@ use Rattle.index_check.proofs.sound.Question.{handle-few}
 use Rattle.index_check.proofs.sound.Accepts.{walk-passes}
 use Rattle.solve.specs.Copies.{EnterOk, Entered}
 use Rattle.iterations.specs.declared.stepping.Regions.{Regions}
-use Rattle.iterations.specs.Iteration.{System, measured, trueResidualOf}
+use Rattle.iterations.specs.Iteration.{System, trueResidualOf}
 use Rattle.iterations.specs.System.{systemAt}
 use Rattle.iterations.specs.Steps.{regionsAt, Opened, Ready, Renewed, productAt}
 use Rattle.iterations.proofs.stepping.Placing.{vectors, rows-is, system-kept, sums-is, kernel-is, kernel-rows}
 use Rattle.solver.specs.declared.answers.Solved.{Solved}
 use Rattle.solver.specs.declared.answers.SolveRun.{SolveRun}
-use Rattle.solve.specs.Input.{lengthsOk, inputOk, askedOf}
+use Rattle.solve.specs.Input.{lengthsOk, inputOk}
+use Rattle.solve.specs.Steps.{askedOf, attemptAt, AttemptOk, begunAt, BeginOk}
 use Rattle.solve.proofs.input.Asked.{asked-no, both-asked, asked-yes}
 use Rattle.iterations.specs.Iterate.{Solution, answerOf}
 use Rattle.iterations.specs.Contract.{Ran, iterateAt}
 use Rattle.iterations.proofs.iterating.Iterations.{ran-accepted, ran-refused}
-use Rattle.solve.specs.Solve.{uncounted, factorOf, runOf, solveOf}
+use Rattle.solve.specs.Solve.{uncounted, factorOf, runOf, solveOf, attemptOf}
 use Rattle.solve.specs.Solved.{solvedAt, solutionOf}
 use Rattle.solve.specs.Contract.{levelsCounted, refusedRun, SolveDone}
-use Rattle.solve.specs.Steps.{attemptOf, attemptAt, AttemptOk, begunAt, BeginOk}
 
 -- ---- from question 22 on
 
@@ -125,7 +127,7 @@ module _ {h : Handle} {w : List ℕ} (F : List Float) {g : Regions} (ready : Rea
       module _ (holds : isFinite factor ≡ true) where
         -- What follows: the first norm, and the iterations unless it is small enough.
         abbrev following : Outcome Solution
-        following = _>>=_ (measured (measureOf (h .options .«residual_norm») (g .rows) (part (g .residual) (g .rows) G) factor)) (λ initial.
+        following = _>>=_ (finite badResidual (measureOf (h .options .«residual_norm») (g .rows) (part (g .residual) (g .rows) G) factor)) (λ initial.
             cond (le initial (thresholdOf (s .«absolute_tolerance») (s .«relative_tolerance») initial))
             (accepted (record { report = reportOf LinearSolverStatus.Converged 0 initial initial; x = part (g .solution) (g .rows) G; counts = t }))
             (iterateAt h w G t g factor initial (thresholdOf (s .«absolute_tolerance») (s .«relative_tolerance») initial) (s .«max_iterations»)))

@@ -7,8 +7,6 @@ use lib.Ieee.{Float}
 use lib.ListN.{length}
 use Rattle.solver.specs.declared.solver.LinearSolverOptions.{LinearSolverOptions}
 use Rattle.options.specs.Options.{tolerable}
-use Rattle.refusal.specs.Refusal.{wrongLength, badInput}
-use Rattle.refusal.specs.Outcome.{Outcome, accepted, ask}
 use Rattle.vector.specs.Finite.{allFinite}
 
 -- question 20: right-hand side and solution have the row count
@@ -23,7 +21,3 @@ inputOk s rhs x =
     && tolerable (s .«relative_tolerance»)
     && allFinite (length rhs) rhs
     && allFinite (length x) x
-
--- questions 20 and 21, of a system of so many rows; the start passes them with the rest
-abbrev pub askedOf : ℕ → LinearSolverOptions → List Float → List Float → Outcome (List Float)
-askedOf n s rhs x = ask (lengthsOk n rhs x) wrongLength (ask (inputOk s rhs x) badInput (accepted x))

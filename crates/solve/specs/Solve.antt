@@ -38,10 +38,13 @@ runOf y s rhs x factor = do
 abbrev pub factorOf : System → List Float → List Float → Float
 factorOf y rhs x = normalizationOf (y .options .«residual_norm») (y .kernel .rows) x rhs (applyOf (y .kernel) x) (y .sums)
 
--- `solve`: questions 20 to 22, and the rest
+-- `solve` from question 22 on
+abbrev pub attemptOf : System → LinearSolverOptions → List Float → List Float → Outcome Solution
+attemptOf y s rhs x = ask (isFinite (factorOf y rhs x)) badNormalization (runOf y s rhs x (factorOf y rhs x))
+
+-- `solve`: questions 20 and 21 of its input, and the rest
 unfoldable pub solveOf : System → LinearSolverOptions → List Float → List Float → Outcome Solution
 solveOf y s rhs x = do
   ask (lengthsOk (y .kernel .rows) rhs x) wrongLength
   ask (inputOk s rhs x) badInput
-  ask (isFinite (factorOf y rhs x)) badNormalization
-  runOf y s rhs x (factorOf y rhs x)
+  attemptOf y s rhs x

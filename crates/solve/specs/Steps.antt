@@ -3,24 +3,23 @@ use mathlib.Core.Path.{_≡_}
 use mathlib.Core.List.{List}
 use Prim.Native.Nat.{ℕ}
 use lib.Ieee.{Float}
-use Rattle.float.specs.Float.{isFinite}
 use Rattle.store.specs.Region.{part}
 use Rattle.options.specs.declared.options.Handle.{Handle}
 use Rattle.solver.specs.declared.solver.LinearSolverOptions.{LinearSolverOptions}
-use Rattle.refusal.specs.Refusal.{badNormalization}
-use Rattle.refusal.specs.Outcome.{Outcome, ask}
+use Rattle.refusal.specs.Refusal.{wrongLength, badInput}
+use Rattle.refusal.specs.Outcome.{Outcome, ask, accepted}
 use Rattle.iterations.specs.declared.stepping.Regions.{Regions}
-use Rattle.iterations.specs.Iteration.{System}
 use Rattle.iterations.specs.System.{systemAt}
 use Rattle.iterations.specs.Steps.{Opened, Ready}
 use Rattle.iterations.specs.Iterate.{Solution}
-use Rattle.solve.specs.Solve.{uncounted, factorOf, runOf}
+use Rattle.solve.specs.Solve.{uncounted, attemptOf}
+use Rattle.solve.specs.Input.{lengthsOk, inputOk}
 
--- `solve` from question 22 on
-abbrev pub attemptOf : System → LinearSolverOptions → List Float → List Float → Outcome Solution
-attemptOf y s rhs x = ask (isFinite (factorOf y rhs x)) badNormalization (runOf y s rhs x (factorOf y rhs x))
+-- questions 20 and 21, of a system of so many rows; the start passes them with the rest
+abbrev pub askedOf : ℕ → LinearSolverOptions → List Float → List Float → Outcome (List Float)
+askedOf n s rhs x = ask (lengthsOk n rhs x) wrongLength (ask (inputOk s rhs x) badInput (accepted x))
 
--- the same of the vectors in the store
+-- `solve` from question 22 on, of the vectors in the store
 abbrev pub attemptAt : Handle → List ℕ → List Float → Regions → LinearSolverOptions → Outcome Solution
 attemptAt h w F g s = attemptOf (systemAt h w F) s (part (g .rhs) (g .rows) F) (part (g .solution) (g .rows) F)
 

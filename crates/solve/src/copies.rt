@@ -2,20 +2,8 @@
 ghost use mathlib.Core.Path.{_≡_};
 ghost use Prim.Native.Nat.{_+_, _≤_};
 ghost use lib.ListN.{length};
-ghost use Rattle.store.specs.Region.{part, Wrote};
+ghost use Rattle.store.specs.Region.{part};
 ghost use Rattle.solve.specs.Copies.{EnterOk, Entered};
-
-// The vector v into the store, at `to`.
-fn copy_in(f: &mut [f64], to: usize, v: &[f64])
-    requires { ⌜ to + length (now v) ≤ length (now f) ⌝ }
-    ensures { λ _. ⌜ Wrote to (length (now (v .entry))) (now (v .entry)) (now (f .entry)) (now (f .exit)) ⌝ }
-{
-    let mut k = 0;
-    while k < v.len() {
-        f[to + k] = v[k];
-        k += 1;
-    }
-}
 
 // The vector at `from` in the store, over the whole of x.
 pub fn copy_out(x: &mut [f64], f: &[f64], from: usize)
@@ -34,6 +22,6 @@ pub fn enter(f: &mut [f64], rhs: &[f64], x: &[f64], to: usize, start: usize)
     requires { ⌜ EnterOk (length (now f)) (length (now rhs)) (length (now x)) to start ⌝ }
     ensures { λ _. ⌜ Entered (now (f .entry)) (now (f .exit)) (now (rhs .entry)) (now (x .entry)) to start ⌝ }
 {
-    copy_in(f, to, rhs);
-    copy_in(f, start, x);
+    store::load(f, rhs, to);
+    store::load(f, x, start);
 }

@@ -1,7 +1,8 @@
 // mod.rs: the input of a solve, questions 20 and 21.
 ghost use mathlib.Core.Path.{_≡_};
 ghost use Rattle.refusal.specs.Outcome.{verdictOf};
-ghost use Rattle.solve.specs.Input.{inputOk, askedOf};
+ghost use Rattle.solve.specs.Input.{inputOk};
+ghost use Rattle.solve.specs.Steps.{askedOf};
 use refusal::Verdict;
 use solver::LinearSolverOptions;
 

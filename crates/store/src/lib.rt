@@ -11,6 +11,8 @@ pub use store::copy_words;
 pub use store::fill;
 pub use store::fill_words;
 pub use store::index_at;
+pub use store::load;
+pub use store::load_words;
 pub use store::wide;
 pub use store::zero_floats;
 pub use store::zero_words;

@@ -72,6 +72,32 @@ pub fn copy_words(w: &mut [u32], n: usize, from: usize, to: usize)
     }
 }
 
+// The floats of another slice, copied to `to`.
+pub fn load(f: &mut [f64], from: &[f64], to: usize)
+    requires { ⌜ to + length (now from) ≤ length (now f) ⌝ }
+    ensures { λ _. ⌜ Wrote to (length (now (from .entry))) (now (from .entry)) (now (f .entry)) (now (f .exit)) ⌝ }
+{
+    let n = from.len();
+    let mut k = 0;
+    while k < n {
+        f[to + k] = from[k];
+        k += 1;
+    }
+}
+
+// The same of words.
+pub fn load_words(w: &mut [u32], from: &[u32], to: usize)
+    requires { ⌜ to + length (now from) ≤ length (now w) ⌝ }
+    ensures { λ _. ⌜ Wrote to (length (now (from .entry))) (now (from .entry)) (now (w .entry)) (now (w .exit)) ⌝ }
+{
+    let n = from.len();
+    let mut k = 0;
+    while k < n {
+        w[to + k] = from[k];
+        k += 1;
+    }
+}
+
 // Every float zero.
 pub fn zero_floats(f: &mut [f64])
     ensures { λ _. ⌜ now (f .exit) ≡ filled (length (now (f .entry))) (ofBits binary64 0) ⌝ }

@@ -14,7 +14,9 @@ use Rattle.refusal.specs.Outcome.{askRows}
 use Rattle.hierarchy.specs.Build as building
 use Rattle.hierarchy.specs.Refresh as refreshing
 use Rattle.aggregation.specs.Pairs as pairs
+use Rattle.aggregation.specs.Turns as aggregation-turns
 use Rattle.galerkin.specs.Values as galerkin
+use Rattle.galerkin.specs.Turns as galerkin-turns
 use Rattle.dic.specs.Dic as dic
 use Rattle.gauss_seidel.specs.Sweep as sweep
 use Rattle.smoother.specs.Smooth as smooth
@@ -26,21 +28,29 @@ use Rattle.acceleration.specs.Gcr as gcr
 use Rattle.acceleration.specs.Directions as directions
 use Rattle.acceleration.specs.Normal as normal
 use Rattle.acceleration.specs.Advance as advance
+use Rattle.acceleration.specs.Turns as acceleration-turns
 use Rattle.coefficients.specs.Mirrors.{pairAgrees, mirrorsAgree}
 use Rattle.coefficients.specs.Update.{diagonalAsked, kernelUpdateOf}
-use Rattle.cholesky.specs.Triangle.{tri, lessOf}
+use Rattle.cholesky.specs.Triangle.{tri}
+use Rattle.cholesky.specs.Turns.{lessOf}
 use Rattle.cholesky.specs.Factor as cholesky
+use Rattle.cholesky.specs.Turns as cholesky-turns
 use Rattle.cholesky.specs.TriangularFactor as factor
 use Rattle.pattern.specs.Pattern as pattern
+use Rattle.pattern.specs.Steps as pattern-steps
 use Rattle.faces.specs.Faces as faces
 use Rattle.csr.specs.Questions as csr
+use Rattle.csr.specs.Turns as csr-turns
 use Rattle.csr.specs.Weights as weights
 use Rattle.vector.specs.Dot as dot
+use Rattle.vector.specs.Turns as vector-turns
 use Rattle.vector.specs.Finite as finite
 use Rattle.matrix.specs.Kernel as matrix
 use Rattle.coarse.specs.Terminal as terminal
+use Rattle.coarse.specs.Turns as coarse-turns
 use Rattle.correction.specs.Correction as correction
 use Rattle.residual_norm.specs.Measure as measure
+use Rattle.residual_norm.specs.Turns as residual-norm-turns
 use Rattle.residual_norm.specs.Normalization as normalization
 use Rattle.solver.specs.Solver as solver
 use Rattle.solver.specs.Statistics.{unvisited, countedAt, countedOn}
@@ -66,7 +76,7 @@ use Rattle.trace_example.proofs.Ring.{fine, before, after}
 -- Of the cell and of the ring: the build with the first values and with the accepted ones; both hold in the stores; one update is refused, the
 -- other accepted; and the solve has its two answers.
 pub computed : Computes cell (oneCell one64 one64) (oneCell two half) × Computes ring before after
-unfolding headers.headsAt headers.headsOf building.buildOf building.symmetricOf building.growOf refreshing.withSums csr.sizeOk csr.neverFall csr.offsetsOk csr.entryOk csr.rowOk csr.stepOk csr.rowAt csr.entryFrom csr.columnsOk weights.weightsOk weights.weightOk validOf isFinite lt le eq ofBits add sub mul div sqrtOf each tab for iter askRows pairAgrees mirrorsAgree pattern.some pattern.howMany pattern.those pattern.rowOf faces.above faces.facesOf faces.uppersOf faces.faceOffsetsOf faces.neighborsOf faces.hasEntry faces.standsAt faces.mirroredOf faces.lowersOf faces.diagonalsAsked faces.diagonalsOf faces.coupledOf faces.coupledCountOf faces.coupledRowsOf kernelUpdateOf diagonalAsked isPositive tri cholesky.seekOf cholesky.getOf lessOf cholesky.restOf cholesky.columnOf cholesky.columnsOf cholesky.factorRowOf cholesky.rowsOf cholesky.choleskyOf layout.viewOf layout.levelsAt layout.levelAt layout.wordsEnd layout.floatsEnd layout.imageEnd layout.wordsFit part lay splice levelWords levelFloats allLevels wordsFor floatsFor update.updateOf update.renewOf update.sameList update.samePattern standing.diagonalStands standing.diagonalsStand solve.solveOf input.inputOk solve.runOf iterating.iterateOf iteration.stepOf iteration.movedOf cycle.cycleOf cycle.endOf cycle.countOf terminal.terminalOf terminal.terminalSolution terminal.scatterOf terminal.gatherOf terminal.diagonalOf factor.solveFactorOf factor.lowRow factor.highRow factor.lowTerm factor.highTerm measure.measureOf measure.valueOf measure.squaresOf measure.squareAt measure.sumOf measure.sumTurn finite.allFinite dot.termOf dot.blockOf dot.blockTurn dot.dotOf dot.productOf dot.rootOf dot.normOf normalization.normalizationOf solver.relativeOf matrix.applyOf matrix.spreadOf matrix.spreadRow matrix.spreadFace correction.subtractOf correction.addPlainOf maxNum ne ofInt absOf pairs.strengthsOf pairs.considerOf pairs.entryOf pairs.strongestOf pairs.assignOf pairs.pairRowOf pairs.turnOf pairs.pairsOf pattern.sumTo pattern.flat pattern.startOf pattern.columnPlaceOf pattern.joinsBy pattern.joins pattern.coarseOffsets pattern.coarseColumns pattern.coarsePositions pattern.composeOf galerkin.addEntry galerkin.sumsOf galerkin.averageFace galerkin.symmetrizeOf galerkin.zeroEntry galerkin.zeroEntries galerkin.zeroDiagonalOf building.mergeOf dic.isPivot dic.pivotFace dic.pivotRow dic.pivotsOf dic.reciprocalsOf dic.dicOf matrix.sumFace matrix.sumRow matrix.rowSumsOf sweep.gatherFace sweep.castFace sweep.freshOf sweep.forwardRow sweep.backwardRow sweep.gaussSeidelOf sweep.lowerRow sweep.upperRow sweep.dicSweepOf matrix.residualOf smooth.gaussSeidelsOf smooth.dicSweepsOf smooth.sweptOf smooth.smoothOf scaling.productsTurn scaling.productsOf scaling.quotientOf scaling.scaleOf scaling.correctionFactorOf scaled.addScaledOf transfer.gatherTurn transfer.gatherOf transfer.restrictOf transfer.prolongOf counts.preSweepsOf counts.postSweepsOf cycle.residualAfter cycle.corrected cycle.upOf measure.sizeAt measure.sizesOf normalization.meanOf normalization.spreadOf normalization.spreadAt normalization.spreadsOf gcr.twiceOf gcr.keptOf gcr.correctOf directions.lessOf directions.orthogonalTo directions.passOf normal.overOf normal.normalOf advance.moreOf advance.advanceOf
+unfolding headers.headsAt headers.headsOf building.buildOf building.symmetricOf building.growOf refreshing.withSums csr.sizeOk csr.neverFall csr.offsetsOk csr.entryOk csr.rowOk csr-turns.stepOk csr-turns.rowAt csr-turns.entryFrom csr.columnsOk weights.weightsOk csr-turns.weightOk validOf isFinite lt le eq ofBits add sub mul div sqrtOf each tab for iter askRows pairAgrees mirrorsAgree pattern.some pattern.howMany pattern.those pattern.rowOf faces.above faces.facesOf faces.uppersOf faces.faceOffsetsOf faces.neighborsOf faces.hasEntry faces.standsAt faces.mirroredOf faces.lowersOf faces.diagonalsAsked faces.diagonalsOf faces.coupledOf faces.coupledCountOf faces.coupledRowsOf kernelUpdateOf diagonalAsked isPositive tri cholesky.seekOf cholesky.getOf lessOf cholesky.restOf cholesky-turns.columnOf cholesky.columnsOf cholesky.factorRowOf cholesky.rowsOf cholesky.choleskyOf layout.viewOf layout.levelsAt layout.levelAt layout.wordsEnd layout.floatsEnd layout.imageEnd layout.wordsFit part lay splice levelWords levelFloats allLevels wordsFor floatsFor update.updateOf update.renewOf update.sameList update.samePattern standing.diagonalStands standing.diagonalsStand solve.solveOf input.inputOk solve.runOf iterating.iterateOf iteration.stepOf iteration.movedOf cycle.cycleOf cycle.endOf cycle.countOf terminal.terminalOf terminal.terminalSolution coarse-turns.scatterOf coarse-turns.gatherOf coarse-turns.diagonalOf factor.solveFactorOf factor.lowRow factor.highRow cholesky-turns.lowTerm cholesky-turns.highTerm measure.measureOf measure.valueOf residual-norm-turns.squaresOf residual-norm-turns.squareAt measure.sumOf residual-norm-turns.sumTurn finite.allFinite vector-turns.termOf dot.blockOf vector-turns.blockTurn dot.dotOf dot.productOf dot.rootOf dot.normOf normalization.normalizationOf solver.relativeOf matrix.applyOf matrix.spreadOf matrix.spreadRow matrix.spreadFace correction.subtractOf correction.addPlainOf maxNum ne ofInt absOf pairs.strengthsOf pairs.considerOf aggregation-turns.entryOf pairs.strongestOf pairs.assignOf pairs.pairRowOf aggregation-turns.turnOf pairs.pairsOf pattern.sumTo pattern.flat pattern.startOf pattern.columnPlaceOf pattern-steps.joinsBy pattern.joins pattern.coarseOffsets pattern.coarseColumns pattern.coarsePositions pattern.composeOf galerkin-turns.addEntry galerkin.sumsOf galerkin.averageFace galerkin.symmetrizeOf galerkin.zeroEntry galerkin-turns.zeroEntries galerkin.zeroDiagonalOf building.mergeOf dic.isPivot dic.pivotFace dic.pivotRow dic.pivotsOf dic.reciprocalsOf dic.dicOf matrix.sumFace matrix.sumRow matrix.rowSumsOf sweep.gatherFace sweep.castFace sweep.freshOf sweep.forwardRow sweep.backwardRow sweep.gaussSeidelOf sweep.lowerRow sweep.upperRow sweep.dicSweepOf matrix.residualOf smooth.gaussSeidelsOf smooth.dicSweepsOf smooth.sweptOf smooth.smoothOf scaling.productsTurn scaling.productsOf scaling.quotientOf scaling.scaleOf scaling.correctionFactorOf scaled.addScaledOf transfer.gatherTurn transfer.gatherOf transfer.restrictOf transfer.prolongOf counts.preSweepsOf counts.postSweepsOf cycle.residualAfter cycle.corrected cycle.upOf residual-norm-turns.sizeAt residual-norm-turns.sizesOf normalization.meanOf residual-norm-turns.spreadOf residual-norm-turns.spreadAt residual-norm-turns.spreadsOf gcr.twiceOf gcr.keptOf gcr.correctOf directions.lessOf directions.orthogonalTo directions.passOf normal.overOf normal.normalOf acceleration-turns.moreOf advance.advanceOf
 computed = (
   record { weights = refl; built = refl; anew = refl; view = refl; viewed = refl; fits = refl; heads = refl; refuses = refl; accepts = refl; solves = refl; solved = refl },
   record { weights = refl; built = refl; anew = refl; view = refl; viewed = refl; fits = refl; heads = refl; refuses = refl; accepts = refl; solves = refl; solved = refl },
@@ -74,7 +84,7 @@ computed = (
 
 -- The ring is paired by its weights; by its values it would be paired otherwise.
 pub weights-decide : (paired true 0 (meshIn (ring .input)) .map ≡ fine .links) × (paired false 0 (meshIn (ring .input)) .map ≡ 0 ∷ 0 ∷ 1 ∷ 1 ∷ [])
-unfolding ofInt ofBits lt absOf for iter tab pairs.strengthsOf pairs.considerOf pairs.entryOf pairs.strongestOf pairs.assignOf pairs.pairRowOf pairs.turnOf pairs.pairsOf
+unfolding ofInt ofBits lt absOf for iter tab pairs.strengthsOf pairs.considerOf aggregation-turns.entryOf pairs.strongestOf pairs.assignOf pairs.pairRowOf aggregation-turns.turnOf pairs.pairsOf
 weights-decide = (refl, refl)
 
 -- Each solve of their calls agrees with a build that there is.

@@ -2,3 +2,4 @@ pub mod Arrays
 pub mod Shadow
 pub mod Updated
 pub mod Steps
+pub mod ShadowContract

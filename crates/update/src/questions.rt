@@ -7,7 +7,7 @@ ghost use lib.ListN.{length};
 ghost use Rattle.store.specs.Region.{idx, part};
 ghost use Rattle.store.specs.Vector.{each};
 ghost use Rattle.update_levels.specs.Update.{sameList, samePattern};
-ghost use Rattle.update_levels.specs.Standing.{bareAt};
+ghost use Rattle.update_levels.specs.StandingContract.{bareAt};
 ghost use Rattle.update.specs.Arrays.{PatternOk, AskOk, Asked};
 use layout::Place;
 use refusal::Verdict;

@@ -3,7 +3,7 @@
 ghost use mathlib.Core.Path.{_≡_};
 ghost use lib.ListN.{length};
 ghost use Rattle.update.specs.Updated.{updatedAt, UpdateDone};
-ghost use Rattle.update.specs.Shadow.{With};
+ghost use Rattle.update.specs.ShadowContract.{With};
 ghost use Rattle.update.specs.Steps.{CommitOk, Committed, AttemptOk, attemptOf, Attempted, toldOf, UpdateOk};
 use crate::questions;
 use crate::shadow;

@@ -1,10 +1,9 @@
 // The new image of `update_values` of mod.rs: the levels, computed in a shadow behind the old image, and the row sums of the finest.
-ghost use mathlib.Core.Path.{_≡_};
 ghost use lib.ListN.{length};
 ghost use Rattle.layout.specs.Layout.{locate};
 ghost use Rattle.update_levels.specs.Level.{FacesReady};
 ghost use Rattle.update_levels.specs.Steps.{Renewed};
-ghost use Rattle.update.specs.Shadow.{SumOk, Summed, Smoothed, ShadowOk};
+ghost use Rattle.update.specs.ShadowContract.{SumOk, Summed, Smoothed, ShadowOk};
 use options::MultigridResidualNorm;
 use options::MultigridSmoother;
 use refusal::Verdict;
@@ -32,10 +31,5 @@ pub fn sums(w: &[u32], f: &mut [f64], norm: MultigridResidualNorm, image: usize)
 {
     let p = layout::place_at(w, 0, 0);
     let start = image - p.rows;
-    match norm {
-        MultigridResidualNorm::AbsoluteL2 => store::fill(f, start, p.rows, 0.0),
-        MultigridResidualNorm::NormalizedL1 => {
-            matrix::row_sums_into(w, f, layout::kernel_in(p), start);
-        }
-    }
+    layout::row_sums(w, f, norm, layout::kernel_in(p), start);
 }

@@ -10,17 +10,20 @@ use Rattle.options.specs.declared.options.MultigridOptions.{MultigridOptions}
 use Rattle.refusal.specs.declared.Verdict.{Verdict}
 use Rattle.refusal.specs.Outcome.{Outcome, accepted, verdictOf, _>>=_, _>>_}
 use Rattle.vector.specs.Finite.{allFinite}
-use Rattle.coefficients.specs.Update.{Coefficients, updateWith, FacesTaken, UpdateOk}
+use Rattle.coefficients.specs.Update.{Coefficients}
+use Rattle.coefficients.specs.Contract.{updateWith, FacesTaken, UpdateOk}
 use Rattle.cholesky.specs.Triangle.{tri}
-use Rattle.galerkin.specs.Values.{galerkinOf, SumsOk, FacesOk}
+use Rattle.galerkin.specs.Contract.{galerkinOf, SumsOk, FacesOk}
 use Rattle.galerkin.specs.Values as galerkin
+use Rattle.galerkin.specs.Contract as galerkin-contract
 use Rattle.hierarchy.specs.Level.{Shape, Numbers}
 use Rattle.hierarchy.specs.Refresh.{needsDic, numbersOf}
 use Rattle.layout.specs.declared.Place.{Place}
 use Rattle.layout.specs.Layout.{shapeAt, numbersAt}
 use Rattle.layout.specs.Parts.{kernelIn, entriesIn}
 pub use Rattle.layout.specs.TerminalContract.{factorOf, FactorOk, FactorDone}
-use Rattle.update_levels.specs.Standing.{diagonalsStand, RowsOk, bareAt}
+use Rattle.update_levels.specs.Standing.{diagonalsStand}
+use Rattle.update_levels.specs.StandingContract.{RowsOk, bareAt}
 
 -- What holds under all options whose smoother needs DIC data, or none: of the options a renewal reads no more.
 abbrev pub Under : Bool → (MultigridOptions → Type 0) → Type 0
@@ -110,7 +113,7 @@ pub record CoarseDone (w : List ℕ) (old F G : List Float) (p t : Place) (r : B
 -- The values of the level at t, summed from values that are given.
 pub record FirstOk (w : List ℕ) (size count : ℕ) (p t : Place) : Type 0 where
   pub level : LevelOk w size p 0
-  pub sums : galerkin.GivenOk w size count (p .entries) (p .positions) (t .entries) (t .values)
+  pub sums : galerkin-contract.GivenOk w size count (p .entries) (p .positions) (t .entries) (t .values)
   pub faces : FacesOk w size (t .faces) (t .uppers) (t .lowers) (t .entries) (t .values)
   pub after : p .factor ≤ t .values
   pub many : p .entries ≤ count

@@ -3,7 +3,7 @@ ghost use mathlib.Core.Bool.{false};
 ghost use Prim.Native.Nat.{_≤_};
 ghost use lib.ListN.{length};
 ghost use Rattle.store.specs.Region.{part};
-ghost use Rattle.coefficients.specs.Update.{Updated};
+ghost use Rattle.coefficients.specs.Contract.{Updated};
 ghost use Rattle.layout.specs.Parts.{kernelIn};
 ghost use Rattle.update_levels.specs.Level.{Under, CoefficientsOk, FacesReady, coefficientsAsked};
 ghost use Rattle.update_levels.specs.Level.{LevelOk, LevelReady, LevelDone, CoarseOk, FirstOk, CoarseDone};

@@ -1,7 +1,7 @@
 // The loop over the levels of `update` of hierarchy.rs: new numbers for each level in turn, and the values of the next.
-ghost use Prim.Native.Nat.{_+_, _-_, _≤_};
+ghost use Prim.Native.Nat.{_+_, _-_};
 ghost use lib.ListN.{length};
-ghost use Rattle.store.specs.Region.{part, Wrote};
+ghost use Rattle.store.specs.Region.{part};
 ghost use Rattle.update_levels.specs.Level.{Under, FirstOk, FacesReady};
 ghost use Rattle.layout.specs.Layout.{locate};
 ghost use Rattle.update_levels.specs.Steps.{TurnOk, Turned, RestOk, StartOk, Renewed};
@@ -70,19 +70,6 @@ fn renew_rest(
     level::renew_level(w, f, dic, p, true, coupled, level)
 }
 
-// The values `from`, copied to `to`.
-fn load(f: &mut [f64], from: &[f64], to: usize)
-    requires { ⌜ to + length (now from) ≤ length (now f) ⌝ }
-    ensures { λ _. ⌜ Wrote to (length (now (from .entry))) (now (from .entry)) (now (f .entry)) (now (f .exit)) ⌝ }
-{
-    let n = from.len();
-    let mut k = 0;
-    while k < n {
-        f[to + k] = from[k];
-        k += 1;
-    }
-}
-
 // So many levels, whose floats start at `image`, from the values of the finest, which are given; `dic` tells whether the smoother needs
 // DIC data. The finest level reads them where they are, and its coefficients stand there already; only where it is the last, which a
 // factor is made of, they are copied.
@@ -100,7 +87,7 @@ pub fn renew(
 {
     let p = layout::place_at(w, 0, image);
     if levels < 2 {
-        load(f, given, image);
+        store::load(f, given, image);
         return renew_rest(w, f, dic, levels, 0, 0, p);
     }
     let a = layout::words_end(w, 0);

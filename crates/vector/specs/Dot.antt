@@ -8,16 +8,11 @@ use Rattle.float.specs.Sqrt.{sqrtOf}
 use Rattle.store.specs.Loop.{for}
 use Rattle.store.specs.Region.{at}
 use Rattle.vector.specs.declared.vector.Product.{Product}
-use Rattle.vector.specs.declared.vector.Sums.{Sums}
 use Rattle.vector.specs.declared.vector.Product.the-variants.{Finite, NotFinite}
 
 -- `chunk`: the products from lo to hi, added up from −0
 unfoldable pub blockOf : List Float → List Float → ℕ → ℕ → Float
 blockOf u v lo hi = for (λ k sum. add64 sum (mul64 (at u k) (at v k))) lo hi negZero
-
--- the block from lo on and the next
-abbrev pub blocksOf : List Float → List Float → ℕ → Sums
-blocksOf u v lo = record { first = blockOf u v lo (lo + 1024); second = blockOf u v (lo + 1024) (lo + 2048) }
 
 -- `dot` of n elements, before its finiteness test: the sums of blocks of 1,024 products, or what is left of the n, added up from −0
 unfoldable pub dotOf : ℕ → List Float → List Float → Float
@@ -35,13 +30,3 @@ rootOf NotFinite = NotFinite
 -- `norm_l2` of n elements
 unfoldable pub normOf : ℕ → List Float → Product
 normOf n u = rootOf (productOf (dotOf n u u))
-
--- ---- the turns of the loops above, by the names that proofs have for them
-
--- one product more
-unfoldable pub termOf : List Float → List Float → ℕ → Float → Float
-termOf u v k sum = add64 sum (mul64 (at u k) (at v k))
-
--- block i more: 1,024 products, or what is left of the n
-unfoldable pub blockTurn : ℕ → List Float → List Float → ℕ → Float → Float
-blockTurn n u v i sum = add64 sum (blockOf u v (i * 1024) (min (i * 1024 + 1024) n))

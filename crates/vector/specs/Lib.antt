@@ -1,2 +1,3 @@
 pub mod Dot
 pub mod Finite
+pub mod Turns

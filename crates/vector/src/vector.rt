@@ -5,7 +5,8 @@ ghost use lib.ListN.{length};
 ghost use Rattle.store.specs.Region.{part};
 ghost use Rattle.float.specs.Float.{negZero};
 ghost use Rattle.store.specs.Loop.{for};
-ghost use Rattle.vector.specs.Dot.{blockOf, blocksOf, blockTurn, dotOf, productOf, normOf};
+ghost use Rattle.vector.specs.Dot.{blockOf, dotOf, productOf, normOf};
+ghost use Rattle.vector.specs.Turns.{blocksOf, blockTurn};
 
 // What a reduction gives: the source's `Ok(value)`, or its refusal of a value that is not finite.
 pub enum Product {

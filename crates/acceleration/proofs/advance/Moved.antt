@@ -13,7 +13,8 @@ use Rattle.vector.specs.declared.vector.Product.{Product}
 use Rattle.vector.specs.declared.vector.Product.the-variants.{Finite, NotFinite}
 use Rattle.vector.specs.Dot.{dotOf, productOf}
 use Rattle.acceleration.specs.DirectionsContract.{pairAt, AxpyOk}
-use Rattle.acceleration.specs.Advance.{moreOf, advanceOf}
+use Rattle.acceleration.specs.Advance.{advanceOf}
+use Rattle.acceleration.specs.Turns.{moreOf}
 use Rattle.acceleration.specs.AdvanceContract.{AdvanceOk, Advanced}
 
 -- Where `more` finds its regions.

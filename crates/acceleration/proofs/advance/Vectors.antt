@@ -13,7 +13,7 @@ use Rattle.store.proofs.store.Loop.{Left, left-end}
 use Rattle.store.proofs.store.Region.{getD-part, wrote}
 use Rattle.store.proofs.store.Vector.{length-tab, tab-same, for-each}
 use Rattle.acceleration.specs.DirectionsContract.{AxpyOk}
-use Rattle.acceleration.specs.Advance.{moreOf}
+use Rattle.acceleration.specs.Turns.{moreOf}
 
 -- a turn of `more`
 unfoldable pub moreTurn : Float → ℕ → ℕ → ℕ → List Float → List Float

@@ -1,7 +1,7 @@
 -- The row sums of the finest level: the place of its kernel, and what is written under each norm.
 -- Assumes nothing.
 use mathlib.Core.Path.{_≡_, sym, ap, _∙_, subst}
-use mathlib.Core.Bool.{Bool, true, false, cond}
+use mathlib.Core.Bool.{cond}
 use mathlib.Core.List.{List}
 use Prim.Native.Nat.{ℕ, _+_, _*_, _≤_}
 use native.Mathlib.Omega.{arith}
@@ -10,13 +10,13 @@ use Rattle.store.specs.Region.{idx, Wrote}
 use Rattle.float.specs.Float.{zero64}
 use Rattle.store.specs.Vector.{filled}
 use Rattle.options.specs.declared.options.MultigridOptions.{MultigridOptions}
-use Rattle.options.specs.declared.options.MultigridResidualNorm.{MultigridResidualNorm}
 use Rattle.matrix.specs.declared.matrix.SymmetricMatrix.{SymmetricMatrix}
 use Rattle.matrix.specs.Kernel.{kernelAt, rowSumsOf, KernelOk}
 use Rattle.hierarchy.specs.Refresh.{needsSums}
 use Rattle.layout.specs.declared.Place.{Place}
 use Rattle.layout.specs.Layout.{placeOf, rowsAt, entriesAt, facesAt, locate}
 use Rattle.layout.specs.Parts.{kernelIn}
+use Rattle.layout.specs.SumsContract.{sumsAt}
 use Rattle.build.specs.Finest.{FirstOk, SumsOk, Summed}
 
 -- ---- the place of the first level
@@ -51,25 +51,13 @@ first-kernel {w} {size} {end} {rows} {entries} ok e =
     let tall = ok .first .tall in
     rw e (ok .kernel, omega (arith, ok .room))
 
-cond-no : {A : Type 0} (b : Bool) (x y : A) → b ≡ false → cond b x y ≡ y
-cond-no b x y e = rw e
-
-cond-yes : {A : Type 0} (b : Bool) (x y : A) → b ≡ true → cond b x y ≡ x
-cond-yes b x y e = rw e
-
--- Under a norm that needs no row sums zeros are written;
-pub summed-none : {w : List ℕ} {F G : List Float} {o : MultigridOptions} {end rows : ℕ}
-    → o .«residual_norm» ≡ MultigridResidualNorm.AbsoluteL2
-    → Wrote end rows (filled rows zero64) F G → Summed w F G o end rows
-summed-none {w} {F} {G} {o} {end} {rows} e s = record {
-  wrote = subst (λ (v : List Float). Wrote end rows v F G) (sym (cond-no (needsSums (o .«residual_norm»)) _ _ (ap needsSums e))) s;
-}
-
--- under the other the row sums.
-pub summed-all : {w : List ℕ} {F G : List Float} {o : MultigridOptions} {size end rows entries : ℕ} {k : SymmetricMatrix}
-    → o .«residual_norm» ≡ MultigridResidualNorm.NormalizedL1 → SumsOk w size end rows entries → k ≡ kernelIn (locate w 0 0)
-    → Wrote end (k .rows) (rowSumsOf (kernelAt k w F)) F G → Summed w F G o end rows
-summed-all {w} {F} {G} {o} {size} {end} {rows} n ok e s =
-    let a = subst (λ (k : SymmetricMatrix). Wrote end (k .rows) (rowSumsOf (kernelAt k w F)) F G) e s in
-    let b = subst (λ (n : ℕ). Wrote end n (rowSumsOf (kernelAt (kernelIn (locate w 0 0)) w F)) F G) (ok .first .tall) a in
-    record { wrote = subst (λ (v : List Float). Wrote end rows v F G) (sym (cond-yes (needsSums (o .«residual_norm»)) _ _ (ap needsSums n))) b }
+-- The row sums, as its matrix has them, are those of the finest level.
+pub summed : {w : List ℕ} {F G : List Float} {o : MultigridOptions} {size end rows entries : ℕ} {k : SymmetricMatrix}
+    → SumsOk w size end rows entries → k ≡ kernelIn (locate w 0 0)
+    → Wrote end (k .rows) (sumsAt (o .«residual_norm») w F k) F G → Summed w F G o end rows
+summed {w} {F} {G} {o} {size} {end} {rows} ok e s =
+    let kernel = kernelIn (locate w 0 0) in
+    let a = subst (λ (k : SymmetricMatrix). Wrote end (k .rows) (sumsAt (o .«residual_norm») w F k) F G) e s in
+    record {
+      wrote = subst (λ (n : ℕ). Wrote end n (cond (needsSums (o .«residual_norm»)) (rowSumsOf (kernelAt kernel w F)) (filled n zero64)) F G) (ok .first .tall) a;
+    }

@@ -11,6 +11,7 @@ use Rattle.store.specs.Region.{idx, part, Kept}
 use Rattle.store.proofs.store.Region.{getD-part, length-part, wrote-off, kept-wrote, kept-on, kept-less}
 use Rattle.coefficients.specs.Mirrors.{mirrorsAgree}
 use Rattle.coefficients.specs.Mirrors as agreeing
+use Rattle.coefficients.specs.Contract as coefficients-contract
 use Rattle.pattern.specs.Pattern.{Pattern, entries}
 use Rattle.faces.specs.Faces.{facesOf, uppersOf, lowersOf, mirroredOf}
 use Rattle.faces.specs.Contract.{Ordered, OffsetsOk, OffsetsDone, FillOk, Filled, MirrorsOk, MirrorsDone}
@@ -116,7 +117,7 @@ module _ {w : List ℕ} {values : List Float} {t : Workspace} (ok : SymmetricOk 
           lowers-at = done .lowers yes ∙ ap lowersOf same
 
           -- What the comparison of the values requires.
-          pub values-ok : agreeing.MirrorsOk z (length values) faces (t .uppers) (t .lowers)
+          pub values-ok : coefficients-contract.MirrorsOk z (length values) faces (t .uppers) (t .lowers)
           values-ok =
               let few = few-faces in
               let is = count in

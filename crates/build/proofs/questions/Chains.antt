@@ -18,7 +18,7 @@ use Rattle.refusal.specs.Outcome.{Outcome, accepted, refused, passed, ask, verd
 use Rattle.csr.specs.Questions.{matrixAsked}
 use Rattle.csr.specs.Weights.{weightsAsked}
 use Rattle.hierarchy.specs.Build.{Lent, Input}
-use Rattle.build.specs.Asking.{weighedAsked, arraysAsked, roomAsked, askedOf, lending, WeightsAsked, ArraysAsked, RoomAsked, Asked, Vectors, Squared}
+use Rattle.build.specs.AskingContract.{weighedAsked, arraysAsked, roomAsked, askedOf, lending, WeightsAsked, ArraysAsked, RoomAsked, Asked, Vectors, Squared}
 
 -- A chain whose first part passed is the rest.
 pub passed-then : {A : Type 0} (o : Outcome Unit) (rest : Outcome A) → verdictOf o ≡ Verdict.Passed → _>>=_ o (λ _. rest) ≡ rest

@@ -19,7 +19,7 @@ use Rattle.csr.specs.Weights.{weightsAsked}
 use Rattle.csr.proofs.csr.Laws.{asked-yes, matrix-valid, matrix-rising, matrix-sizes}
 use Rattle.csr.proofs.weights.Laws.{weights-length}
 use Rattle.hierarchy.specs.Build.{charge, fixedCharge, holds, Input}
-use Rattle.build.specs.Asking.{weighedAsked, arraysAsked, roomAsked, askedOf, lending, ArraysAsked, Asked, ControlsFit, ChargeOk, ArraysFit, Fitting}
+use Rattle.build.specs.AskingContract.{weighedAsked, arraysAsked, roomAsked, askedOf, lending, ArraysAsked, Asked, ControlsFit, ChargeOk, ArraysFit, Fitting}
 use Rattle.build.proofs.questions.Chains.{then-passed}
 
 amid : (a b c d e f g h i j k : Bool) → (a && b && c && d && e && f && g && h && i && j && k) ≡ true

@@ -5,7 +5,7 @@ use Prim.Native.Nat.{ℕ, _+_, _-_, _*_, _≤_}
 use native.Mathlib.Nat.{mul-le-mul}
 use native.Mathlib.Omega.{arith}
 use Rattle.coarsening.specs.declared.coarsen.Workspace.{Workspace}
-use Rattle.build.specs.Asking.{Small, Vectors, Squared, SpaceOk, Spaced}
+use Rattle.build.specs.AskingContract.{Small, Vectors, Squared, SpaceOk, Spaced}
 
 -- The vectors over few rows are few floats.
 pub vectors-few : {rows krylov : ℕ} → Small rows krylov → (12 + 2 * krylov) * rows ≤ 2883584

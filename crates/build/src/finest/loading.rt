@@ -1,35 +1,7 @@
 // The matrix that is built from, copied into the temporaries of the next level's matrix.
-ghost use Prim.Native.Nat.{_+_, _≤_};
 ghost use lib.ListN.{length};
-ghost use Rattle.store.specs.Region.{Wrote};
 ghost use Rattle.build.specs.Finest.{WeightsOk, WeightsLoaded, LoadOk, Loaded};
 use coarsening::Workspace;
-
-// The words `from`, copied to `to`.
-fn load_words(w: &mut [u32], from: &[u32], to: usize)
-    requires { ⌜ to + length (now from) ≤ length (now w) ⌝ }
-    ensures { λ _. ⌜ Wrote to (length (now (from .entry))) (now (from .entry)) (now (w .entry)) (now (w .exit)) ⌝ }
-{
-    let n = from.len();
-    let mut k = 0;
-    while k < n {
-        w[to + k] = from[k];
-        k += 1;
-    }
-}
-
-// The same of floats.
-fn load_floats(f: &mut [f64], from: &[f64], to: usize)
-    requires { ⌜ to + length (now from) ≤ length (now f) ⌝ }
-    ensures { λ _. ⌜ Wrote to (length (now (from .entry))) (now (from .entry)) (now (f .entry)) (now (f .exit)) ⌝ }
-{
-    let n = from.len();
-    let mut k = 0;
-    while k < n {
-        f[to + k] = from[k];
-        k += 1;
-    }
-}
 
 // The weights, where they are given.
 fn load_weights(f: &mut [f64], given: bool, weights: &[f64], to: usize)
@@ -39,7 +11,7 @@ fn load_weights(f: &mut [f64], given: bool, weights: &[f64], to: usize)
     if !given {
         return;
     }
-    load_floats(f, weights, to);
+    store::load(f, weights, to);
 }
 
 // The arrays, each where the next level's stands.
@@ -56,8 +28,8 @@ pub fn load(
     requires { ⌜ LoadOk (length (now w)) (length (now f)) (now offsets) (now columns) (now values) given (now weights) t ⌝ }
     ensures { λ _. ⌜ Loaded (now (w .entry)) (now (w .exit)) (now (f .entry)) (now (f .exit)) (now (offsets .entry)) (now (columns .entry)) (now (values .entry)) given (now (weights .entry)) t ⌝ }
 {
-    load_words(w, offsets, t.offsets);
-    load_words(w, columns, t.columns);
-    load_floats(f, values, t.values);
+    store::load_words(w, offsets, t.offsets);
+    store::load_words(w, columns, t.columns);
+    store::load(f, values, t.values);
     load_weights(f, given, weights, t.weights);
 }

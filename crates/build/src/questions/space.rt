@@ -1,6 +1,6 @@
 // The temporaries of a build, at the ends of the stores.
 ghost use Prim.Native.Nat.{_≤_};
-ghost use Rattle.build.specs.Asking.{Small, Vectors, Squared, SpaceOk, Spaced};
+ghost use Rattle.build.specs.AskingContract.{Small, Vectors, Squared, SpaceOk, Spaced};
 use coarsening::Workspace;
 
 // The floats of the vectors over the finest rows.

@@ -19,7 +19,8 @@ use Rattle.faces.specs.Faces.{coupledCountOf}
 use Rattle.faces.specs.Contract.{CoupledOk, CoupledCount}
 use Rattle.faces.proofs.faces.Entries.{offset-few}
 use Rattle.faces.proofs.faces.Laws.{faces-half}
-use Rattle.hierarchy.specs.Build.{even, paired, endsAt}
+use Rattle.hierarchy.specs.Build.{paired}
+use Rattle.hierarchy.specs.Steps.{even, endsAt}
 use Rattle.layout.specs.declared.Place.{Place}
 use Rattle.layout.specs.Parts.{facesIn}
 use Rattle.coarsening.specs.declared.coarsen.Workspace.{Workspace}

@@ -14,7 +14,8 @@ use Rattle.refusal.specs.declared.Refusal.{Refusal}
 use Rattle.refusal.specs.declared.Verdict.{Verdict}
 use Rattle.refusal.specs.Outcome.{Outcome, accepted, refused, verdictOf}
 use Rattle.refusal.proofs.Outcome.{passes, refuses}
-use Rattle.coefficients.specs.Update.{Coefficients, UpdateOk, Holds}
+use Rattle.coefficients.specs.Update.{Coefficients}
+use Rattle.coefficients.specs.Contract.{UpdateOk, Holds}
 use Rattle.coefficients.proofs.values.UpdateLaws.{within-kept, within-above}
 use Rattle.pattern.specs.Pattern.{Pattern, Valid}
 use Rattle.faces.specs.Faces.{facesOf, faceOffsetsOf, neighborsOf, uppersOf, lowersOf, diagonalsOf, diagonalsAsked}

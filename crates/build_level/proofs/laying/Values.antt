@@ -11,7 +11,7 @@ use Rattle.store.proofs.store.Region.{wrote-at, kept-part}
 use Rattle.refusal.specs.declared.Verdict.{Verdict}
 use Rattle.matrix.specs.declared.matrix.SymmetricMatrix.{SymmetricMatrix}
 use Rattle.coefficients.specs.declared.values.entries.Entries.{Entries}
-use Rattle.coefficients.specs.Update.{updateAt, UpdateOk, Updated}
+use Rattle.coefficients.specs.Contract.{updateAt, UpdateOk, Updated}
 use Rattle.coefficients.proofs.values.UpdateLaws.{within-wrote, within-on, within-more, within-kept}
 use Rattle.layout.specs.declared.Place.{Place}
 use Rattle.layout.specs.Parts.{kernelIn, entriesIn}

@@ -25,7 +25,8 @@ use Rattle.cholesky.specs.Triangle.{tri}
 use Rattle.pattern.specs.Pattern.{Pattern, entries, coarsePositions, Maps, Onto}
 use Rattle.pattern.proofs.pattern.Coarse.{coarse-few}
 use Rattle.hierarchy.specs.Level.{Shape, Numbers, kernelOf}
-use Rattle.hierarchy.specs.Refresh.{needsDic, smootherOf, innerNumbers}
+use Rattle.hierarchy.specs.Refresh.{needsDic, innerNumbers}
+use Rattle.hierarchy.specs.Steps.{smootherOf}
 use Rattle.hierarchy.specs.Proper.{Proper}
 use Rattle.hierarchy.specs.Build.{Mesh, Merged, innerShape, coarsened, coarsenedAsked}
 use Rattle.layout.specs.declared.Place.{Place}

@@ -9,11 +9,13 @@ use lib.Dec.{eqb}
 use Rattle.options.specs.declared.options.MultigridOptions.{MultigridOptions}
 use Rattle.refusal.specs.Outcome.{accepted, _>>=_}
 use Rattle.refusal.proofs.Outcome.{accepted-one}
-use Rattle.aggregation.specs.Pairs.{Pairing, weighted, strengthsOf}
+use Rattle.aggregation.specs.Pairs.{Pairing, strengthsOf}
+use Rattle.aggregation.specs.Turns.{weighted}
 use Rattle.aggregation.proofs.Numbers.{count-most}
 use Rattle.pattern.specs.Pattern.{Pattern, Valid, Maps, Onto}
 use Rattle.pattern.proofs.pattern.Coarse.{coarse-valid}
-use Rattle.hierarchy.specs.Build.{Mesh, Merged, merged, even, kernelAsked, paired, coarsened, coarsenedAsked, fewCoupled, mergeOf}
+use Rattle.hierarchy.specs.Build.{Mesh, Merged, merged, kernelAsked, paired, coarsened, coarsenedAsked, fewCoupled, mergeOf}
+use Rattle.hierarchy.specs.Steps.{even}
 use Rattle.hierarchy.specs.Proper.{Proper, Joined}
 use Rattle.hierarchy.proofs.Accepted.{then-split, coarsened-is, joinedBy, merge-keeps}
 use Rattle.hierarchy.proofs.Proper.{coarse-proper, valid-range, merge-proper}

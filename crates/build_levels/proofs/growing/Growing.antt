@@ -27,7 +27,8 @@ use Rattle.faces.proofs.faces.Laws.{faces-half}
 use Rattle.hierarchy.specs.Level.{Numbers, Level}
 use Rattle.hierarchy.specs.Refresh.{innerNumbers}
 use Rattle.hierarchy.specs.Proper.{Proper}
-use Rattle.hierarchy.specs.Build.{charge, Charge, fixedCharge, andLevel, holds, innerShape, Mesh, Merged, merged, kernelAsked, paired, coarsenedAsked, endsAt, lastLevel, mergeOf, innerLevel, growOf, deeperOf}
+use Rattle.hierarchy.specs.Build.{charge, Charge, fixedCharge, andLevel, holds, innerShape, Mesh, Merged, merged, kernelAsked, paired, coarsenedAsked, lastLevel, mergeOf, growOf}
+use Rattle.hierarchy.specs.Steps.{endsAt, innerLevel, deeperOf}
 use Rattle.hierarchy.proofs.Accepted.{grow-is, then-split, ends-zero}
 use Rattle.hierarchy.proofs.Proper.{valid-range, first-joined}
 use Rattle.layout.specs.declared.Place.{Place}

@@ -7,7 +7,8 @@ use native.Mathlib.Nat.{add-assoc, not-suc-le-zero}
 use native.Mathlib.Numerals.{add-one}
 use native.Mathlib.Omega.{arith}
 use Rattle.store.proofs.store.Region.{le-or-lt}
-use Rattle.cholesky.specs.Triangle.{tri, RowAt}
+use Rattle.cholesky.specs.Triangle.{tri}
+use Rattle.cholesky.specs.TriangleContract.{RowAt}
 
 -- The step of a running start.
 pub tri-on : (r : ℕ) → tri (r + 1) ≡ tri r + (r + 1)

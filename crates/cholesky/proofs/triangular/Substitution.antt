@@ -12,9 +12,11 @@ use Rattle.store.specs.Loop.{for}
 use Rattle.store.specs.Region.{at, part, splice, Wrote, CopyOk}
 use Rattle.store.proofs.store.Loop.{for-map, for-same, Left, left-end}
 use Rattle.store.proofs.store.Region.{length-part, getD-part, getD-splice-in, getD-splice-below, part-splice, part-splice-below, set-splice, splice-part, wrote, wrote-at, wrote-off, wrote-again}
-use Rattle.cholesky.specs.Triangle.{tri, RowAt, lessOf, LessOk, Less}
+use Rattle.cholesky.specs.Triangle.{tri}
+use Rattle.cholesky.specs.TriangleContract.{RowAt, LessOk, Less}
+use Rattle.cholesky.specs.Turns.{lessOf, lowTerm, highTerm}
 use Rattle.cholesky.proofs.packed.Triangles.{tri-at, UpAt, up-end}
-use Rattle.cholesky.specs.TriangularFactor.{lowTerm, highTerm, lowRow, highRow, solveFactorOf}
+use Rattle.cholesky.specs.TriangularFactor.{lowRow, highRow, solveFactorOf}
 use Rattle.cholesky.specs.TriangularContract.{SolveOk, Lowered, High, Raised}
 
 -- a turn of `lower_solve`

@@ -13,7 +13,7 @@ use Rattle.pattern.specs.Pattern.{Pattern, entries}
 use Rattle.pattern.proofs.pattern.Number.{not-both}
 use Rattle.pattern.proofs.pattern.Row.{offset-mono}
 use Rattle.pattern.proofs.pattern.Coarse.{coarse-valid}
-use Rattle.galerkin.specs.Values.{restrictWeightsOf}
+use Rattle.galerkin.specs.Contract.{restrictWeightsOf}
 use Rattle.hierarchy.specs.Build.{Mesh}
 use Rattle.coarsening.specs.declared.coarsen.Held.{Held}
 use Rattle.coarsening.specs.declared.coarsen.Workspace.{Workspace}

@@ -16,16 +16,19 @@ use Rattle.refusal.specs.Outcome.{accepted, refused}
 use Rattle.store.specs.Region.{idx, part, Kept}
 use Rattle.store.specs.Vector.{tab}
 use Rattle.store.proofs.store.Region.{length-part, getD-part, wrote-at, kept-wrote, kept-on, kept-less, kept-part}
-use Rattle.coefficients.specs.Update.{entryOf, Coefficients, kernelUpdateOf, after}
+use Rattle.coefficients.specs.Update.{entryOf, Coefficients, kernelUpdateOf}
+use Rattle.coefficients.specs.Contract.{after}
 use Rattle.aggregation.specs.declared.Graph.{Graph}
-use Rattle.aggregation.specs.Pairs.{InRange, pairsOf}
+use Rattle.aggregation.specs.Pairs.{pairsOf}
+use Rattle.aggregation.specs.Contract.{InRange}
 use Rattle.aggregation.specs.Layout.{weightedAt, GraphOk, Paired}
 use Rattle.pattern.specs.Pattern.{Pattern, entries}
 use Rattle.faces.specs.declared.faces.Faces.{Faces}
 use Rattle.faces.specs.Faces.{uppersOf, diagonalsOf, coupledCountOf}
 use Rattle.faces.specs.Contract.{DiagonalsOk, DiagonalsDone, CoupledOk, CoupledCount}
 use Rattle.faces.proofs.faces.Laws.{diagonal-was, diagonal-entry}
-use Rattle.hierarchy.specs.Build.{Mesh, even, kernelAsked, paired, fewCoupled}
+use Rattle.hierarchy.specs.Build.{Mesh, kernelAsked, paired, fewCoupled}
+use Rattle.hierarchy.specs.Steps.{even}
 use Rattle.hierarchy.proofs.Proper.{valid-range}
 use Rattle.coarsening.specs.declared.coarsen.Workspace.{Workspace}
 use Rattle.coarsening.specs.CoarsenContract.{patternAt, meshAt, mergedIn}

@@ -15,7 +15,8 @@ use Rattle.refusal.specs.Outcome.{Outcome, passed, askFrom, askEach, verdictOf}
 use Rattle.refusal.proofs.Outcome.{each-step, each-stop, each-done, passes, refuses}
 use Rattle.store.specs.Region.{at, idx}
 use Rattle.store.proofs.store.Region.{getD-part}
-use Rattle.coefficients.specs.Update.{diagonalAsked, Coefficients, diagonalAt, after}
+use Rattle.coefficients.specs.Update.{diagonalAsked, Coefficients}
+use Rattle.coefficients.specs.Contract.{diagonalAt, after}
 use Rattle.coarsening.specs.Steps.{RowsOk, RowsAsked}
 
 -- ---- one row

@@ -16,11 +16,14 @@ use Rattle.refusal.specs.Outcome.{Outcome, accepted, refused}
 use Rattle.store.specs.Region.{part, Kept}
 use Rattle.store.proofs.store.Region.{kept-on, kept-less, kept-self, kept-part}
 use Rattle.vector.specs.Finite.{allFinite}
-use Rattle.aggregation.specs.Pairs.{Weighted, weighted, strengthsOf, Pairing, InRange}
+use Rattle.aggregation.specs.Pairs.{Weighted, strengthsOf, Pairing}
+use Rattle.aggregation.specs.Contract.{InRange}
+use Rattle.aggregation.specs.Turns.{weighted}
 use Rattle.aggregation.proofs.Numbers.{count-most}
 use Rattle.pattern.specs.Pattern.{entries, coarse, Maps, Onto, composeOf}
 use Rattle.pattern.proofs.pattern.Coarse.{coarse-few}
-use Rattle.hierarchy.specs.Build.{Mesh, Merged, merged, even, coarsened, joinedStep, mergeStep, mergeOf}
+use Rattle.hierarchy.specs.Build.{Mesh, Merged, merged, coarsened, mergeOf}
+use Rattle.hierarchy.specs.Steps.{even, joinedStep, mergeStep}
 use Rattle.hierarchy.proofs.Proper.{coarse-proper, valid-range, paired-maps, paired-onto}
 use Rattle.hierarchy.proofs.Twice.{compose-maps, compose-onto}
 use Rattle.coarsening.specs.declared.coarsen.Workspace.{Workspace}

@@ -14,7 +14,8 @@ use Rattle.store.proofs.store.Loop.{Left, left-start, left-on, left-end}
 use Rattle.store.proofs.store.Region.{getD-part, wrote}
 use Rattle.store.proofs.store.Vector.{length-tab, tab-same, for-each}
 use Rattle.store.proofs.store.Each.{Tested, each-same, tested-start, tested-on, tested-done}
-use Rattle.coefficients.specs.Mirrors.{pairAgrees, mirrorsAgree, MirrorsOk, Taken}
+use Rattle.coefficients.specs.Mirrors.{pairAgrees, mirrorsAgree}
+use Rattle.coefficients.specs.Contract.{MirrorsOk, Taken}
 
 -- A difference that is at most a number is that of finite numbers: with a NaN or an infinity on either side it is a NaN or an infinity.
 pub finite-within : (a b : Float) → le (absOf (sub64 a b)) (ofBits binary64 0x3d71_9799_812d_ea11) ≡ pairAgrees a b

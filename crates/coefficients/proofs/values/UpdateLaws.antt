@@ -24,7 +24,8 @@ use Rattle.store.proofs.store.Vector.{length-tab, getD-tab, tab-same, for-each}
 use Rattle.store.proofs.store.Each.{Tested, both-l, both-r, each-at, tested-start, tested-on, tested-done}
 use Rattle.matrix.specs.declared.matrix.SymmetricMatrix.{SymmetricMatrix}
 use Rattle.coefficients.specs.declared.values.entries.Entries.{Entries}
-use Rattle.coefficients.specs.Update.{diagonalAsked, diagonalGood, entryOf, Coefficients, kernelUpdateOf, updateWith, updateAt, FacesTaken, Within, Holds, UpdateOk, Updated, EntriesOk, GivenOk, pickTurn, Inverted, after, RowsTold, RowsAsked}
+use Rattle.coefficients.specs.Update.{diagonalAsked, entryOf, Coefficients, kernelUpdateOf}
+use Rattle.coefficients.specs.Contract.{diagonalGood, updateWith, updateAt, FacesTaken, Within, Holds, UpdateOk, Updated, EntriesOk, GivenOk, pickTurn, Inverted, after, RowsTold, RowsAsked}
 
 -- ---- the frame
 

@@ -15,7 +15,8 @@ use Rattle.refusal.specs.declared.Verdict.{Verdict}
 use Rattle.refusal.specs.Outcome.{Outcome, passed, ask, verdictOf}
 use Rattle.pattern.specs.Pattern.{Pattern, rowOf, Valid, Rising}
 use Rattle.pattern.proofs.pattern.Row.{offset-mono, row-is, row-in}
-use Rattle.csr.specs.Questions.{sizeOk, offsetsOk, columnsOk, matrixAsked, patternOf, entryOk, Sizes}
+use Rattle.csr.specs.Questions.{sizeOk, offsetsOk, columnsOk, matrixAsked, entryOk}
+use Rattle.csr.specs.Contract.{patternOf, Sizes}
 use Rattle.csr.proofs.csr.Walk.{size-told, offsets-fit, fit-offsets, fit-in, entry-told, told-entry, columns-at, at-columns}
 
 -- Where a question and the rest passed, the question holds and the rest passed.

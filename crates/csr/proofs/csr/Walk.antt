@@ -17,7 +17,9 @@ use Rattle.store.proofs.store.Vector.{length-tab, getD-tab}
 use Rattle.store.proofs.store.Each.{Passed, both-l, both-r, each-at, passed-on, passed-no, each-all}
 use Rattle.pattern.specs.Pattern.{Valid}
 use Rattle.pattern.proofs.pattern.Row.{offset-mono, row-in}
-use Rattle.csr.specs.Questions.{sizeOk, stepOk, neverFall, offsetsOk, entryOk, entryFrom, rowOk, rowAt, columnsOk, Rowed}
+use Rattle.csr.specs.Questions.{sizeOk, neverFall, offsetsOk, entryOk, rowOk, columnsOk}
+use Rattle.csr.specs.Contract.{Rowed}
+use Rattle.csr.specs.Turns.{stepOk, entryFrom, rowAt}
 
 -- ---- question 1
 

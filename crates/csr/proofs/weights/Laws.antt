@@ -10,7 +10,8 @@ use Rattle.refusal.specs.Refusal.{weightCount, badWeight}
 use Rattle.refusal.specs.declared.Verdict.{Verdict}
 use Rattle.refusal.specs.Outcome.{passed, ask, verdictOf}
 use Rattle.csr.proofs.csr.Laws.{asked-yes}
-use Rattle.csr.specs.Weights.{weightsCounted, weightsOk, weightsAsked}
+use Rattle.csr.specs.Weights.{weightsOk, weightsAsked}
+use Rattle.csr.specs.Turns.{weightsCounted}
 
 -- Weights that passed are as many as the entries.
 pub weights-length : (entries : ℕ) (weights : List Float) → verdictOf (weightsAsked entries weights) ≡ Verdict.Passed → length weights ≡ entries

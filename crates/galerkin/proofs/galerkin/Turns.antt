@@ -14,8 +14,9 @@ use Rattle.store.specs.Region.{at, idx, part, Wrote}
 use Rattle.store.specs.Vector.{filled}
 use Rattle.store.proofs.store.Region.{getD-part, splice-part, wrote, wrote-at, wrote-off, wrote-again}
 use borrow.Author.Tests.{eq-eqb, ne-eqb}
-use Rattle.galerkin.specs.Values.{addEntry, sumsOf, meanOf, averageFace, symmetrizeOf, zeroEntry, zeroEntries, zeroRow, zeroDiagonalOf}
-use Rattle.galerkin.specs.Values.{SumsOk, GivenOk, FacesOk, EntriesOk, RowsOk}
+use Rattle.galerkin.specs.Values.{sumsOf, averageFace, symmetrizeOf, zeroEntry, zeroDiagonalOf}
+use Rattle.galerkin.specs.Turns.{addEntry, meanOf, zeroEntries, zeroRow}
+use Rattle.galerkin.specs.Contract.{SumsOk, GivenOk, FacesOk, EntriesOk, RowsOk}
 use Rattle.galerkin.proofs.galerkin.Region.{Going, going-on, wrote-set}
 
 -- ---- sums by position

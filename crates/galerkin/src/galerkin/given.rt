@@ -2,7 +2,9 @@
 ghost use lib.ListN.{length};
 ghost use Rattle.store.specs.Loop.{for};
 ghost use Rattle.store.specs.Region.{part, Wrote};
-ghost use Rattle.galerkin.specs.Values.{addEntry, sumsOf, GivenOk};
+ghost use Rattle.galerkin.specs.Values.{sumsOf};
+ghost use Rattle.galerkin.specs.Turns.{addEntry};
+ghost use Rattle.galerkin.specs.Contract.{GivenOk};
 use store::fill;
 use store::index_at;
 

@@ -22,7 +22,7 @@ use Rattle.matrix.specs.Kernel.{Kernel, kernelAt, applyOf}
 use Rattle.matrix.proofs.matrix.Kernel.{kernel-kept, kernel-above}
 use Rattle.correction.specs.Correction.{subtractOf}
 use Rattle.acceleration.specs.declared.acceleration.Corrected.{Corrected}
-use Rattle.acceleration.specs.Directions.{Pair}
+use Rattle.acceleration.specs.Directions.{Pair, finite}
 use Rattle.acceleration.specs.Gcr.{Corrections}
 use Rattle.acceleration.specs.DirectionsContract.{memoryAt}
 use Rattle.acceleration.specs.AccelerationContract.{correctedOf}
@@ -32,9 +32,9 @@ use Rattle.cycle.specs.Cycle.{Cycled, cycleOf}
 use Rattle.cycle.specs.Contract.{cycleAt, CycleOk, CycleDone}
 use Rattle.iterations.specs.declared.stepping.Regions.{Regions}
 use Rattle.iterations.specs.declared.stepping.Step.{Step}
-use Rattle.iterations.specs.Iteration.{System, State, measured, trueResidualOf, movedOf, stepOf}
+use Rattle.iterations.specs.Iteration.{System, State, afterOf, trueResidualOf, movedOf, stepOf}
 use Rattle.iterations.specs.System.{systemAt}
-use Rattle.iterations.specs.Steps.{StepOk, VectorsOk, Renewed, Moved, moveOf, moveAt, afterOf, afterAt, stateAt, stepAt, AdvanceDone, StepDone}
+use Rattle.iterations.specs.Steps.{StepOk, VectorsOk, Renewed, Moved, moveOf, moveAt, afterAt, stateAt, stepAt, AdvanceDone, StepDone}
 use Rattle.iterations.proofs.stepping.Moving.{memory-kept}
 use Rattle.iterations.proofs.stepping.Placing.{vectors, move-ok, cycle-ok, rows-is, correction-is, system-kept, kernel-is, kernel-rows}
 
@@ -67,7 +67,7 @@ module _ {h : Handle} {w : List ℕ} {size : ℕ} {g : Regions} {used other : �
 -- the end of an iteration: the norm of a residual of so many rows
 abbrev finished : Handle → Float → List ℕ → ℕ → List Float → List Float → List Pair → Outcome State
 finished h factor counts rows x residual memory = do
-  last ← measured (measureOf (h .options .«residual_norm») rows residual factor)
+  last ← finite badResidual (measureOf (h .options .«residual_norm») rows residual factor)
   accepted (record { x = x; residual = residual; memory = memory; counts = counts; last = last })
 
 module _ {h : Handle} {w : List ℕ} (F : List Float) {g : Regions} {used : ℕ} (ok : StepOk h w (length F) g used) where
@@ -98,7 +98,6 @@ module _ {h : Handle} {w : List ℕ} (F : List Float) {g : Regions} {used : ℕ}
   module _ {G : List Float} {r : Corrected} (m : Moved krylov g (moveAt w F g krylov used) F G r) where
     -- A refused correction.
     pub advance-no : {factor : Float} {q : Refusal} → r ≡ Corrected.Refused q → AdvanceDone h w F G g used factor (Step.Refused q)
-    unfolding afterOf
     advance-no {factor} {q} told =
         let out = moved-is factor ∙ refused-is (moveAt w F g krylov used) (m .answer) told in
         record {
@@ -135,9 +134,8 @@ module _ {h : Handle} {w : List ℕ} (F : List Float) {g : Regions} {used : ℕ}
       -- What is left of the iteration: the norm.
       after-is : (factor : Float) (counts : List ℕ)
           → afterAt h w F g used factor counts
-          ≡ _>>=_ (measured (measureOf (h .options .«residual_norm») n (part (g .residual) n H) factor))
+          ≡ _>>=_ (finite badResidual (measureOf (h .options .«residual_norm») n (part (g .residual) n H) factor))
           (λ last. accepted (stateAt g stored H counts last))
-      unfolding afterOf
       after-is factor counts =
           let l = vectors (ok .ready) in
           let o = move-ok (ok .ready) few in
@@ -209,7 +207,7 @@ module _ {h : Handle} {w : List ℕ} (F : List Float) {g : Regions} {used : ℕ}
         ≡ _>>=_ (cycleAt (h .options) (h .levels) w E t 0 0 0 (g .residual))
         (λ c. afterOf (systemAt h w F) (part (g .rhs) (g .rows) F) factor (memoryAt used (g .rows) (g .directions) (g .images) F)
         (c .x) (part (g .residual) (g .rows) F) (part (g .solution) (g .rows) F) (c .counts))
-    unfolding stepOf afterOf
+    unfolding stepOf
     step-is factor last t =
         let rest : Cycled → Outcome State = λ c. afterOf (systemAt h w F) (part (g .rhs) (g .rows) F) factor (memoryAt used (g .rows) (g .directions) (g .images) F)
         (c .x) (part (g .residual) (g .rows) F) (part (g .solution) (g .rows) F) (c .counts) in

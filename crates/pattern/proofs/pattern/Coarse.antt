@@ -14,7 +14,8 @@ use lib.ListN.{length}
 use Rattle.store.specs.Region.{idx}
 use Rattle.store.proofs.store.Region.{le-or-lt}
 use Rattle.store.proofs.store.Vector.{length-tab, getD-tab}
-use Rattle.pattern.specs.Pattern.{Pattern, entries, columnOf, rowOf, Valid, Rising, Mirrored, Diagonal, startOf, columnPlaceOf, joinsBy, joins, coarseOffsets, coarseColumns, coarsePositions, coarse, Maps, Onto}
+use Rattle.pattern.specs.Pattern.{Pattern, entries, columnOf, rowOf, Valid, Rising, Mirrored, Diagonal, startOf, columnPlaceOf, joins, coarseOffsets, coarseColumns, coarsePositions, coarse, Maps, Onto}
+use Rattle.pattern.specs.Steps.{joinsBy}
 use Rattle.pattern.proofs.pattern.Place.{start-zero, start-mono, start-which, place-in, place-below, place-mono, place-which, place-exactly, length-columns, columns-at}
 use Rattle.pattern.proofs.pattern.Row.{row-is, joins-at, joins-below, joins-mirror, joins-few}
 

@@ -17,9 +17,9 @@ use Rattle.store.specs.Vector.{filled}
 use Rattle.store.proofs.store.Region.{le-or-lt, getD-splice-in, getD-splice-below, kept-wrote, kept-on, kept-self, kept-get}
 use Rattle.store.proofs.store.Vector.{getD-tab}
 use Rattle.pattern.specs.declared.pattern.Coarsening.{Coarsening}
-use Rattle.pattern.specs.Pattern.{some, Pattern, columnOf, rowOf, joinsBy, joins}
+use Rattle.pattern.specs.Pattern.{some, Pattern, columnOf, rowOf, joins}
+use Rattle.pattern.specs.Steps.{joinsBy, start, marks, Listed, joinsTo, Gathering, GatheringAt, Gathered, MeetOk, EntriesOk, RowOk, Linked}
 use Rattle.pattern.specs.Coarsening.{fineAt, mapAt}
-use Rattle.pattern.specs.Steps.{start, marks, Listed, joinsTo, Gathering, GatheringAt, Gathered, MeetOk, EntriesOk, RowOk, Linked}
 use Rattle.pattern.proofs.pattern.Number.{bool?, not-both, same?, some-at, some-which, some-same, some-skip, some-none, many-none, many-sub, many-more}
 use Rattle.pattern.proofs.pattern.Place.{start-zero, start-step, start-mono}
 use Rattle.pattern.proofs.pattern.Row.{row-in, joins-only, joins-few, offset-mono}

@@ -12,7 +12,8 @@ use borrow.Author.Tests.{eqb-true, eq-eqb, le-leb, lt-leb}
 use Rattle.store.specs.Region.{idx}
 use Rattle.store.proofs.store.Region.{le-or-lt}
 use Rattle.store.proofs.store.Each.{both-l, both-r}
-use Rattle.pattern.specs.Pattern.{some, howMany, sumTo, Pattern, entries, columnOf, rowOf, Valid, Mirrored, startOf, joinsBy, joins, Maps}
+use Rattle.pattern.specs.Pattern.{some, howMany, sumTo, Pattern, entries, columnOf, rowOf, Valid, Mirrored, startOf, joins, Maps}
+use Rattle.pattern.specs.Steps.{joinsBy}
 use Rattle.pattern.proofs.pattern.Number.{both-ways, some-at, some-which, many-first, many-none, many-extra, many-one, sum-none, sum-extra}
 
 module _ {p : Pattern} (valid : Valid p) where

@@ -12,7 +12,8 @@ use Rattle.store.specs.Region.{at, part}
 use Rattle.store.proofs.store.Region.{getD-part}
 use Rattle.vector.specs.declared.vector.Product.the-variants.{Finite, NotFinite}
 use Rattle.vector.proofs.vector.Laws.{product-yes, product-no}
-use Rattle.residual_norm.specs.Measure.{sumTurn, squareAt, sizeAt, squaresOf, sizesOf, valueOf, measureOf}
+use Rattle.residual_norm.specs.Measure.{valueOf, measureOf}
+use Rattle.residual_norm.specs.Turns.{sumTurn, squareAt, sizeAt, squaresOf, sizesOf}
 
 module _ (F : List Float) (n row : ℕ) (sum : Float) (h : row < n) where
   -- A turn of `sum_squares`.

@@ -9,8 +9,9 @@ use Rattle.float.specs.Float.{add64, div64, ratio, maxNum}
 use Rattle.options.specs.declared.options.MultigridResidualNorm.{MultigridResidualNorm}
 use Rattle.store.specs.Region.{at, part}
 use Rattle.store.proofs.store.Region.{getD-part}
-use Rattle.residual_norm.specs.Measure.{sumTurn, sumOf}
-use Rattle.residual_norm.specs.Normalization.{meanOf, spreadOf, spreadAt, spreadsOf, normalizationOf}
+use Rattle.residual_norm.specs.Measure.{sumOf}
+use Rattle.residual_norm.specs.Turns.{sumTurn, spreadOf, spreadAt, spreadsOf}
+use Rattle.residual_norm.specs.Normalization.{meanOf, normalizationOf}
 
 module _ (F : List Float) (n row : ℕ) (sum : Float) (h : row < n) where
   -- A turn of `sum`: an element of the store is one of the region's.

@@ -14,25 +14,12 @@ use Rattle.store.proofs.store.Region.{getD-part, length-part, wrote, wrote-at, 
 use Rattle.store.proofs.store.Vector.{tab-same, tab-getD, for-each}
 use Rattle.solve.specs.Copies.{EnterOk, Entered}
 
--- a turn of a loop that copies v to the place `to`; d stands for what is past its end
-unfoldable pub inTurn : {A : Type 0} → A → List A → ℕ → ℕ → List A → List A
-inTurn d v to k F = set F (to + k) (getD v k d)
-
 -- a turn of a loop that copies what stands at `from`
 unfoldable pub outTurn : {A : Type 0} → A → List A → ℕ → ℕ → List A → List A
 outTurn d v from k F = set F k (getD v (from + k) d)
 
 module _ {A : Type 0} where
-  -- A loop that copies v leaves it at `to`.
-  pub in-done : {v F G : List A} {to k : ℕ} (d : A) → Left (inTurn d v to) k (length v) G (for (inTurn d v to) 0 (length v) F)
-      → length v ≤ k → Wrote to (length v) v F G
-  unfolding inTurn
-  in-done {v} {F} {G} {to} d l h =
-      wrote (left-end l h
-      ∙ for-each to (length v) F (λ k _. getD v k d) (λ _ _ _ _. refl)
-      ∙ ap (λ (u : List A). splice to u F) (tab-getD d v (length v) refl)) refl
-
-  -- One that copies n elements at `from` leaves them at the start,
+  -- A loop that copies n elements at `from` leaves them at the start,
   out-wrote : (v F : List A) {G : List A} (from n : ℕ) {k : ℕ} (d : A) → from + n ≤ length v
       → Left (outTurn d v from) k n G (for (outTurn d v from) 0 n F) → n ≤ k → Wrote 0 n (part from n v) F G
   unfolding outTurn

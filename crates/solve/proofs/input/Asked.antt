@@ -19,7 +19,8 @@ use Rattle.refusal.specs.declared.Verdict.{Verdict}
 use Rattle.refusal.specs.Outcome.{Outcome, accepted, refused, ask, verdictOf}
 use Rattle.refusal.proofs.Outcome.{ask-yes}
 use Rattle.vector.specs.Finite.{allFinite}
-use Rattle.solve.specs.Input.{inputOk, askedOf}
+use Rattle.solve.specs.Input.{inputOk}
+use Rattle.solve.specs.Steps.{askedOf}
 
 -- Two questions before a result: what refuses it refuses the whole,
 pub asked-no : {A : Type 0} {q : Refusal} (a b : Bool) (y : List Float) (out : Outcome A)

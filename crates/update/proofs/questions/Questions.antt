@@ -19,12 +19,13 @@ use Rattle.refusal.specs.declared.Refusal.{Refusal}
 use Rattle.refusal.specs.declared.Verdict.{Verdict}
 use Rattle.refusal.specs.Outcome.{Outcome, refused, passed, ask, verdictOf}
 use Rattle.refusal.proofs.Outcome.{ask-yes, ask-no}
-use Rattle.coefficients.specs.Mirrors.{mirrorsAgree, MirrorsOk, Taken}
+use Rattle.coefficients.specs.Mirrors.{mirrorsAgree}
+use Rattle.coefficients.specs.Contract.{MirrorsOk, Taken}
 use Rattle.layout.specs.declared.Place.{Place}
 use Rattle.layout.specs.Layout.{entriesAt, locate}
 use Rattle.index_check.specs.Sound.{shapeIn}
 use Rattle.update_levels.specs.Update.{sameList, samePattern}
-use Rattle.update_levels.specs.Standing.{bareAt}
+use Rattle.update_levels.specs.StandingContract.{bareAt}
 use Rattle.update_levels.specs.Level.{FacesReady}
 use Rattle.update.specs.Arrays.{askedOf, PatternOk, AskOk, Asked}
 

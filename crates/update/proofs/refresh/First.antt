@@ -15,7 +15,7 @@ use Rattle.coefficients.specs.Mirrors.{mirrorsAgree}
 use Rattle.pattern.specs.Pattern.{entries}
 use Rattle.hierarchy.specs.Level.{Shape, Numbers, Level, Hierarchy}
 use Rattle.hierarchy.specs.First.{shapesIn}
-use Rattle.hierarchy.specs.Refresh.{numbersOf, coarseValues, refreshOf, withSums}
+use Rattle.hierarchy.specs.Refresh.{refreshOf, numbersOf, coarseValues, withSums}
 use Rattle.hierarchy.proofs.Accepted.{ask-split, then-split}
 use Rattle.update_levels.specs.Standing.{diagonalsStand}
 use Rattle.update_levels.specs.Update.{samePattern, renewOf, updateOf}

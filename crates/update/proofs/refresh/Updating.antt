@@ -33,7 +33,8 @@ use Rattle.update_levels.proofs.levels.Renewing.{shapes-some, floats-end}
 use Rattle.update_levels.specs.Level.{FacesReady}
 use Rattle.update.specs.Arrays.{askedOf, AskOk, Asked}
 use Rattle.update.proofs.questions.Questions.{many-values}
-use Rattle.update.specs.Shadow.{imageOf, SumOk, Summed, With, ShadowOk}
+use Rattle.update.specs.Shadow.{imageOf}
+use Rattle.update.specs.ShadowContract.{SumOk, Summed, With, ShadowOk}
 use Rattle.update.proofs.shadow.Moving.{shapes-are, view-stays}
 use Rattle.update.proofs.shadow.Shadowing.{shadow-end, sums-ready, with-sums}
 use Rattle.solver.specs.declared.answers.Updated.{Updated}

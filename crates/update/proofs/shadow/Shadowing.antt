@@ -26,7 +26,8 @@ use Rattle.update_levels.specs.Steps.{Chain, StartOk, Renewed}
 use Rattle.update_levels.proofs.levels.Chains.{opened}
 use Rattle.update_levels.proofs.level.Levels.{kernel-ready}
 use Rattle.update_levels.proofs.levels.Renewing.{bare-ok, levels-some, floats-end}
-use Rattle.update.specs.Shadow.{imageOf, sumsStart, SumOk, Summed, Smoothed, ShadowOk}
+use Rattle.update.specs.Shadow.{imageOf}
+use Rattle.update.specs.ShadowContract.{sumsStart, SumOk, Summed, Smoothed, ShadowOk}
 use Rattle.update.proofs.shadow.Moving.{image-shift, levels-stay}
 
 -- The levels of a shadow end as far behind its start as those of the image.

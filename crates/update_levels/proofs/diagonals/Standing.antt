@@ -17,7 +17,8 @@ use Rattle.refusal.specs.declared.Verdict.{Verdict}
 use Rattle.refusal.specs.Outcome.{Outcome, accepted, refused, passed, ask, askRows, askFrom, verdictOf, _>>=_}
 use Rattle.refusal.proofs.Outcome.{ask-yes, ask-no, each-step, each-stop, each-done, never}
 use Rattle.layout.specs.declared.Place.{Place}
-use Rattle.update_levels.specs.Standing.{diagonalStands, diagonalsStand, bareAt, RowOk, RowsOk}
+use Rattle.update_levels.specs.Standing.{diagonalStands, diagonalsStand}
+use Rattle.update_levels.specs.StandingContract.{bareAt, RowOk, RowsOk}
 
 -- The test of a row as the code has it.
 pub stands-is : {w : List ℕ} {p : Place} {row entry first end column : ℕ} → RowOk w p row → entry ≡ idx w (p .diagonals + row)

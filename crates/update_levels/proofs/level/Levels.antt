@@ -17,12 +17,15 @@ use Rattle.vector.specs.Finite.{allFinite}
 use Rattle.matrix.specs.declared.matrix.SymmetricMatrix.{SymmetricMatrix}
 use Rattle.matrix.specs.Kernel.{KernelOk}
 use Rattle.coefficients.specs.declared.values.entries.Entries.{Entries}
-use Rattle.coefficients.specs.Update.{Coefficients, updateWith, updateAt, FacesTaken, UpdateOk, Updated}
-use Rattle.galerkin.specs.Values.{sumsOf, symmetrizeOf, FacesOk}
+use Rattle.coefficients.specs.Update.{Coefficients}
+use Rattle.coefficients.specs.Contract.{updateWith, updateAt, FacesTaken, UpdateOk, Updated}
+use Rattle.galerkin.specs.Values.{sumsOf, symmetrizeOf}
+use Rattle.galerkin.specs.Contract.{FacesOk}
 use Rattle.layout.specs.declared.Place.{Place}
 use Rattle.layout.specs.Parts.{kernelIn, entriesIn}
 use Rattle.layout.specs.SmootherContract.{SmootherOk}
-use Rattle.update_levels.specs.Standing.{diagonalStands, diagonalsStand, bareAt}
+use Rattle.update_levels.specs.Standing.{diagonalStands, diagonalsStand}
+use Rattle.update_levels.specs.StandingContract.{bareAt}
 use Rattle.update_levels.specs.Level.{LevelOk, CoefficientsOk, FacesReady, coefficientsAsked, FactorOk, coarseAt, CoarseDone}
 use Rattle.update_levels.proofs.diagonals.Standing.{stand-all, stand-not}
 

@@ -16,19 +16,22 @@ use Rattle.refusal.specs.declared.Verdict.{Verdict}
 use Rattle.refusal.specs.Outcome.{Outcome, accepted, refused, verdictOf, isRefused, _>>=_}
 use Rattle.refusal.proofs.Outcome.{then-accepted, then-refused, verdict-passed, accepted-one, then-then, never}
 use Rattle.matrix.specs.Kernel.{kernelAt}
-use Rattle.coefficients.specs.Update.{Coefficients, kernelUpdateOf, updateWith, Updated}
+use Rattle.coefficients.specs.Update.{Coefficients, kernelUpdateOf}
+use Rattle.coefficients.specs.Contract.{updateWith, Updated}
 use Rattle.coefficients.proofs.values.UpdateLaws.{within-kept}
 use Rattle.dic.specs.Dic.{settled, Settled}
 use Rattle.cholesky.specs.Triangle.{tri}
 use Rattle.cholesky.specs.Factor.{choleskyOf}
 use Rattle.hierarchy.specs.Level.{Shape, Numbers, kernelOf, csrOf}
-use Rattle.hierarchy.specs.Refresh.{needsDic, coefficientsOf, smootherUnder, smootherOf, innerNumbers, lastNumbers}
+use Rattle.hierarchy.specs.Refresh.{needsDic, innerNumbers, lastNumbers}
+use Rattle.hierarchy.specs.Steps.{coefficientsOf, smootherUnder, smootherOf}
 use Rattle.hierarchy.proofs.Accepted.{then-split}
 use Rattle.layout.specs.declared.Place.{Place}
 use Rattle.layout.specs.Layout.{shapeAt, numbersAt}
 use Rattle.layout.specs.Parts.{kernelIn, entriesIn}
 use Rattle.layout.specs.SmootherContract.{smootherAt}
-use Rattle.update_levels.specs.Standing.{diagonalStands, diagonalsStand, bareAt}
+use Rattle.update_levels.specs.Standing.{diagonalStands, diagonalsStand}
+use Rattle.update_levels.specs.StandingContract.{bareAt}
 use Rattle.update_levels.specs.Level.{LevelOk, LevelReady, coefficientsAsked, factorOf, FactorDone, levelRenewed, LevelDone}
 use Rattle.update_levels.proofs.diagonals.Outcomes.{verdict-then, told-accepted, told-refused}
 

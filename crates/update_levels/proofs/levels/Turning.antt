@@ -14,7 +14,7 @@ use Rattle.refusal.specs.declared.Verdict.{Verdict}
 use Rattle.refusal.specs.Outcome.{Outcome, accepted, refused, ask, verdictOf, isRefused}
 use Rattle.refusal.proofs.Outcome.{ask-yes, ask-no, then-accepted, then-refused, went-on, accepted-one, never}
 use Rattle.vector.specs.Finite.{allFinite}
-use Rattle.galerkin.specs.Values.{galerkinOf}
+use Rattle.galerkin.specs.Contract.{galerkinOf}
 use Rattle.cholesky.specs.Triangle.{tri}
 use Rattle.hierarchy.specs.Level.{Numbers}
 use Rattle.layout.specs.declared.Place.{Place}

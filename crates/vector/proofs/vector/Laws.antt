@@ -15,7 +15,8 @@ use Rattle.store.proofs.store.Region.{getD-part}
 use Rattle.vector.specs.declared.vector.Product.{Product}
 use Rattle.vector.specs.declared.vector.Product.the-variants.{Finite, NotFinite}
 use Rattle.vector.specs.declared.vector.Sums.{Sums}
-use Rattle.vector.specs.Dot.{termOf, blockOf, blocksOf, blockTurn, dotOf, productOf, rootOf, normOf}
+use Rattle.vector.specs.Dot.{blockOf, dotOf, productOf, rootOf, normOf}
+use Rattle.vector.specs.Turns.{termOf, blocksOf, blockTurn}
 
 -- A product of elements of the store is one of the regions' elements.
 pub term-on : (a b n hi : ℕ) (F : List Float) (k : ℕ) (sum : Float) → k < hi → hi ≤ n

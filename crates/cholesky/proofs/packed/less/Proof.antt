@@ -5,7 +5,7 @@ use native.Mathlib.Omega.{arith}
 use Prim.Native.Nat.{_-_}
 use Rattle.store.specs.Loop.{for}
 use Rattle.store.proofs.store.Loop.{Left, left-start, left-on}
-use Rattle.cholesky.specs.Triangle.{lessOf}
+use Rattle.cholesky.specs.Turns.{lessOf}
 use Rattle.cholesky.proofs.packed.Sums.{less-done}
 use Rattle.cholesky.proofs.packed.less.Statement.{statement}
 use Rattle.cholesky.proofs.packed.less.Tie as tie

@@ -4,7 +4,8 @@ use Prim.Native.Nat.{_-_}
 use native.Mathlib.Omega.{arith}
 use borrow.Author.Needs.{needs}
 use Rattle.store.proofs.store.Each.{Passed, passed-start, passed-yes}
-use Rattle.csr.specs.Questions.{rowAt, columnsOk}
+use Rattle.csr.specs.Questions.{columnsOk}
+use Rattle.csr.specs.Turns.{rowAt}
 use Rattle.csr.proofs.csr.Walk.{row-ok, row-on, row-no}
 use Rattle.csr.proofs.csr.columns_rise.Statement.{statement}
 use Rattle.csr.proofs.csr.columns_rise.Tie as tie

@@ -3,7 +3,8 @@
 use Prim.Native.Nat.{_-_}
 use native.Mathlib.Omega.{arith}
 use Rattle.store.proofs.store.Each.{Passed, passed-start, passed-yes}
-use Rattle.csr.specs.Questions.{stepOk, neverFall}
+use Rattle.csr.specs.Questions.{neverFall}
+use Rattle.csr.specs.Turns.{stepOk}
 use Rattle.csr.proofs.csr.Walk.{step-on, step-no}
 use Rattle.csr.proofs.csr.never_fall.Statement.{statement}
 use Rattle.csr.proofs.csr.never_fall.Tie as tie

@@ -4,7 +4,8 @@ use Prim.Native.Nat.{_-_}
 use native.Mathlib.Omega.{arith}
 use borrow.Author.Needs.{needs}
 use Rattle.store.proofs.store.Each.{Passed, passed-start, passed-on, passed-no, passed-yes}
-use Rattle.csr.specs.Questions.{entryFrom, rowOk}
+use Rattle.csr.specs.Questions.{rowOk}
+use Rattle.csr.specs.Turns.{entryFrom}
 use Rattle.csr.proofs.csr.row_rises.Statement.{statement}
 use Rattle.csr.proofs.csr.row_rises.Tie as tie
 

@@ -5,7 +5,8 @@ use native.Mathlib.Omega.{arith}
 use borrow.Author.Needs.{needs}
 use lib.ListN.{length}
 use Rattle.store.proofs.store.Each.{Passed, passed-start, passed-on, passed-no, passed-yes}
-use Rattle.csr.specs.Weights.{weightOk, weightsOk}
+use Rattle.csr.specs.Weights.{weightsOk}
+use Rattle.csr.specs.Turns.{weightOk}
 use Rattle.csr.proofs.weights.weights_fit.Statement.{statement}
 use Rattle.csr.proofs.weights.weights_fit.Tie as tie
 

@@ -3,7 +3,8 @@
 use Prim.Native.Nat.{_-_}
 use native.Mathlib.Omega.{arith}
 use borrow.Author.Needs.{needs}
-use Rattle.galerkin.specs.Values.{zeroDiagonalOf, zeroEntries}
+use Rattle.galerkin.specs.Values.{zeroDiagonalOf}
+use Rattle.galerkin.specs.Turns.{zeroEntries}
 use Rattle.galerkin.proofs.galerkin.Region.{going-start, going-end}
 use Rattle.galerkin.proofs.galerkin.Turns.{Clearing, row-ok, row-on}
 use Rattle.galerkin.proofs.weights.zero_diagonal.Statement.{statement}

@@ -4,7 +4,7 @@ use mathlib.Core.Logic.{⊎-elim}
 use Prim.Native.Nat.{_-_}
 use native.Mathlib.Omega.{arith}
 use borrow.Author.Needs.{needs}
-use Rattle.galerkin.specs.Values.{zeroEntries}
+use Rattle.galerkin.specs.Turns.{zeroEntries}
 use Rattle.galerkin.proofs.galerkin.Region.{going-start, going-end}
 use Rattle.galerkin.proofs.galerkin.Turns.{Zeroing, zero-on, zero-off}
 use Rattle.galerkin.proofs.weights.zero_entries.Statement.{statement}

@@ -1,6 +1,7 @@
 -- `normalization::normalization` meets its contract; the floor of the code is the f64 nearest to 1e-300.
 -- Assumes nothing.
-use Rattle.residual_norm.specs.Normalization.{normalizationOf, spreadsOf, spreadAt, spreadOf}
+use Rattle.residual_norm.specs.Normalization.{normalizationOf}
+use Rattle.residual_norm.specs.Turns.{spreadsOf, spreadAt, spreadOf}
 use Rattle.residual_norm.proofs.normalization.Laws.{normal-done}
 use borrow.Author.Needs.{needs}
 use Rattle.residual_norm.proofs.normalization.normalization.Statement.{statement}

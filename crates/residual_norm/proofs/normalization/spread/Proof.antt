@@ -1,6 +1,6 @@
 -- `normalization::spread` meets its contract.
 -- Assumes nothing.
-use Rattle.residual_norm.specs.Normalization.{spreadOf}
+use Rattle.residual_norm.specs.Turns.{spreadOf}
 use borrow.Author.Needs.{needs}
 use Rattle.residual_norm.proofs.normalization.spread.Statement.{statement}
 use Rattle.residual_norm.proofs.normalization.spread.Tie as tie

@@ -6,14 +6,14 @@ use borrow.Author.Needs.{needs}
 use Rattle.solve.proofs.copies.enter.Statement.{statement}
 use Rattle.solve.proofs.copies.enter.Tie as tie
 
-copy-in-requires : tie.Need-copy-in-requires
-copy-in-requires c κs = omega (arith, c .before .before .before .before .pre .given, c .before .before .before .before .pre .room)
+load-requires : tie.Need-load-requires
+load-requires c κs = omega (arith, c .before .before .before .before .pre .given, c .before .before .before .before .pre .room)
 
-copy-in-requires-2 : tie.Need-copy-in-requires-2
-copy-in-requires-2 c κs = second-fits (c .before .before .before .before .before .before .before .before .pre) (c .before .before .before .copy-in .ensures)
+load-requires-2 : tie.Need-load-requires-2
+load-requires-2 c κs = second-fits (c .before .before .before .before .before .before .before .before .pre) (c .before .before .before .load .ensures)
 
 returns : tie.Need-returns
-returns c = entered (c .before .before .before .before .before .before .before .before .before .before .before .pre) (c .before .before .before .before .before .before .copy-in .ensures) (c .before .before .copy-in2 .ensures)
+returns c = entered (c .before .before .before .before .before .before .before .before .before .before .before .pre) (c .before .before .before .before .before .before .load .ensures) (c .before .before .load2 .ensures)
 
 pub enter-spec : {M : Type 1} → statement M
-enter-spec = tie.close (tie.spec copy-in-requires copy-in-requires-2 (λ c. search needs) returns)
+enter-spec = tie.close (tie.spec load-requires load-requires-2 (λ c. search needs) returns)

@@ -4,7 +4,8 @@ use Prim.Native.Nat.{_-_}
 use native.Mathlib.Omega.{arith}
 use Rattle.store.proofs.store.Loop.{Left, left-start, left-on, left-end}
 use Rattle.store.specs.Region.{part}
-use Rattle.vector.specs.Dot.{termOf, blockOf}
+use Rattle.vector.specs.Dot.{blockOf}
+use Rattle.vector.specs.Turns.{termOf}
 use Rattle.vector.proofs.vector.Laws.{term-on}
 use Rattle.vector.proofs.vector.dot_block.Statement.{statement}
 use Rattle.vector.proofs.vector.dot_block.Tie as tie

@@ -6,7 +6,7 @@ use Rattle.float.specs.Float.{negZero}
 use Rattle.store.proofs.store.Loop.{Left, left-start}
 use Rattle.store.specs.Loop.{for}
 use Rattle.store.specs.Region.{part}
-use Rattle.vector.specs.Dot.{blockTurn}
+use Rattle.vector.specs.Turns.{blockTurn}
 use Rattle.vector.proofs.vector.Laws.{pair-on, pairs-end}
 use Rattle.vector.proofs.vector.dot_pairs.Statement.{statement}
 use Rattle.vector.proofs.vector.dot_pairs.Tie as tie

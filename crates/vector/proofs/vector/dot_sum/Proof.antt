@@ -4,7 +4,8 @@ use Prim.Native.Nat.{_-_}
 use native.Mathlib.Omega.{arith}
 use Rattle.store.proofs.store.Loop.{Left, left-on, left-end}
 use Rattle.store.specs.Region.{part}
-use Rattle.vector.specs.Dot.{blockTurn, dotOf}
+use Rattle.vector.specs.Dot.{dotOf}
+use Rattle.vector.specs.Turns.{blockTurn}
 use Rattle.vector.proofs.vector.Laws.{block-on, pairs-left}
 use Rattle.vector.proofs.vector.dot_sum.Statement.{statement}
 use Rattle.vector.proofs.vector.dot_sum.Tie as tie

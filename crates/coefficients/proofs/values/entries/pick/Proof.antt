@@ -5,7 +5,7 @@ use Prim.Native.Nat.{_-_}
 use lib.ListN.{length}
 use Rattle.store.specs.Loop.{for}
 use Rattle.store.proofs.store.Loop.{Left, left-start, left-on}
-use Rattle.coefficients.specs.Update.{pickTurn}
+use Rattle.coefficients.specs.Contract.{pickTurn}
 use Rattle.coefficients.proofs.values.UpdateLaws.{entry-of, pick-on, picked}
 use native.Mathlib.Omega.{arith}
 use borrow.Author.Needs.{needs}
