@@ -40,9 +40,10 @@ uint64_t probe_check_matrix(size_t rows, const uint32_t *offsets, size_t offsets
                             size_t columns_length, const double *values, size_t values_length);
 uint64_t probe_check_weights(const double *weights, size_t weights_length, size_t entries);
 
-/* The aggregate of each row is written to the map; the answer is their count. The strengths are the weights, or,
- * where absolute is not 0, the absolute values of what stands there. Rows upward where forward is not 0.
- * Required: rows <= 65536, offsets + rows + 1 <= map, columns + entries <= map, map + rows <= w_length,
+/* The aggregate of each row is written to the map, and the sizes of the aggregates behind it; the answer is their
+ * count. The strengths are the weights, or, where absolute is not 0, the absolute values of what stands there. Rows
+ * upward where forward is not 0.
+ * Required: rows <= 65536, offsets + rows + 1 <= map, columns + entries <= map, map + 2 * rows <= w_length,
  * weights + entries <= f_length, each offset at most entries, each column below rows; w does not overlap f. */
 size_t probe_pairs(uint32_t *w, size_t w_length, const double *f, size_t f_length, size_t rows, size_t entries,
                    size_t offsets, size_t columns, size_t map, size_t weights, uint8_t absolute,

@@ -36,12 +36,15 @@ impl Pairs {
             weights: 0,
             absolute: false,
         };
-        let mut words = vec![0; graph.map + rows];
+        // the sizes of the aggregates stand behind the map
+        let mut words = vec![0; graph.map + 2 * rows];
         put(&mut words, graph.offsets, grid.matrix.row_offsets());
         put(&mut words, graph.columns, grid.matrix.column_indices());
         let count = graph.pairs(&mut words, &grid.weights, forward);
         let (map, aggregates) = parts::pairs(&grid.matrix, forward, Some(&grid.weights));
-        let ours = words[graph.map..].iter().map(|&word| word as usize);
+        let ours = words[graph.map..graph.map + rows]
+            .iter()
+            .map(|&word| word as usize);
         assert!(count == aggregates && ours.eq(map), "the answers differ");
         Self {
             matrix: grid.matrix.clone(),

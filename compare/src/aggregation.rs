@@ -62,7 +62,7 @@ pub fn pairs(
     theirs
 }
 
-/// The map, the count, and whether nothing but the map changed.
+/// The map, the count, and whether nothing but the map and the sizes behind it changed.
 fn ours(
     random: &mut Random,
     matrix: &CsrMatrix,
@@ -77,7 +77,7 @@ fn ours(
         entries,
         offsets,
         columns,
-        map: words.place(random, rows),
+        map: words.place(random, rows + rows),
         weights: floats.place(random, entries),
         absolute: weights.is_none(),
     };
@@ -88,7 +88,7 @@ fn ours(
         graph.weights,
         weights.unwrap_or(matrix.values()).iter().copied(),
     );
-    let written = [(graph.map, rows)];
+    let written = [(graph.map, rows + rows)];
     let ((count, kept), read) = floats.call(&[], |f| {
         words.call(&written, |w| graph.pairs(w, f, forward))
     });

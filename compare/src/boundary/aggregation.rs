@@ -4,8 +4,8 @@ use super::{probe_pairs, require_below, require_region};
 
 pub const MOST_ROWS: usize = 65_536;
 
-/// Where a matrix stands in the stores: offsets and columns, above both the map that is written, and the weights, or,
-/// where `absolute` is set, the matrix's values.
+/// Where a matrix stands in the stores: offsets and columns, above both the map that is written, with as many words
+/// behind it for the sizes of the aggregates, and the weights, or, where `absolute` is set, the matrix's values.
 pub struct Graph {
     pub rows: usize,
     pub entries: usize,
@@ -30,7 +30,7 @@ impl Graph {
         assert!(rows <= MOST_ROWS, "{rows} rows");
         require_region(self.map, self.offsets, rows + 1);
         require_region(self.map, self.columns, entries);
-        require_region(w.len(), self.map, rows);
+        require_region(w.len(), self.map, rows + rows);
         require_region(f.len(), self.weights, entries);
         require_below(&w[self.offsets..][..=rows], entries + 1);
         require_below(&w[self.columns..][..entries], rows);

@@ -1,4 +1,6 @@
+pub mod Sizes
 pub mod Steps
-pub mod Laws
 pub mod Numbers
 pub mod Count
+pub mod Caps
+pub mod Laws

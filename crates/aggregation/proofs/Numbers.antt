@@ -1,4 +1,4 @@
--- The numbers of the aggregates, for every pattern in range, all weights and both directions: each row's is below the count
+-- The numbers of the aggregates, for every pattern in range, all weights, every cap and both directions: each row's is below the count
 -- (`map-below`), and each number below the count is some row's (`all-used`).
 -- Assumes nothing.
 use mathlib.Core.Path.{_≡_, refl, sym, ap, _∙_}
@@ -17,9 +17,10 @@ use Rattle.store.proofs.store.Loop.{for-count}
 use Rattle.store.proofs.store.Region.{le-or-lt}
 use Rattle.store.proofs.store.Vector.{length-tab, getD-tab}
 use Rattle.aggregation.specs.declared.Choice.{Choice}
-use Rattle.aggregation.specs.Pairs.{Weighted, strongestOf, Pairing, pairing, pairsOf}
-use Rattle.aggregation.specs.Contract.{InRange}
+use Rattle.aggregation.specs.Pairs.{Weighted, sizeOf, strongestOf, Pairing, pairing, pairsOf}
 use Rattle.aggregation.specs.Turns.{rowOf, turnOf}
+use Rattle.aggregation.specs.Contract.{InRange}
+use Rattle.aggregation.proofs.Sizes.{size-none}
 use Rattle.aggregation.proofs.Steps.{row-in, Placed, assigned, paired, joined, alone, placed, count-next, Sane, strongest-sane}
 
 -- An element after a store, at its place or at another.
@@ -49,6 +50,11 @@ pub record Good (n : ℕ) (forward : Bool) (k : ℕ) (p : Pairing) : Type 0 wher
   pub range : (i : ℕ) → i < n → (idx (p .map) i ≡ n) ⊎ (idx (p .map) i < p .count)
   pub seen : (i : ℕ) → i < n → rowOf forward n i < k → idx (p .map) i < p .count
   pub used : (c : ℕ) → c < p .count → (i : ℕ) × (i < n) × (idx (p .map) i ≡ c)
+
+-- The next number is no row's.
+pub next-free : {n : ℕ} {forward : Bool} {k : ℕ} {p : Pairing} → Good n forward k p → p .count < n → sizeOf (p .map) (p .count) ≡ 0
+next-free {n} {forward} {k} {p} g h = size-none (p .map) (p .count)
+    (λ i l e. ⊎-elim (λ z. omega arith) (λ z. omega arith) (g .range i (rw (g .size) at l)))
 
 -- A free row i gets the number v, an old one or the next.
 good-set : {n : ℕ} {forward : Bool} {k : ℕ} {p : Pairing} → Good n forward k p → (i v count : ℕ) → i < n → idx (p .map) i ≡ n
@@ -112,7 +118,7 @@ module _ {m : ℕ} (a : Weighted) (forward : Bool) (ok : InRange (a .rows) m (a 
     abbrev found : Choice
     found = strongestOf a (p .map) row
 
-    pub found-sane : Sane n (p .map) row found
+    pub found-sane : Sane n (a .cap) (p .map) row found
     found-sane = strongest-sane a ok (p .map) row (row-in forward n k h)
 
     place : row < length (p .map)

@@ -1,13 +1,15 @@
 // aggregation.rs: `pairs`, connected strength-based aggregation, with the pattern and the map as regions of one store.
 ghost use mathlib.Core.Path.{_≡_};
-ghost use Prim.Native.Nat.{_<_};
+ghost use Prim.Native.Nat.{_<_, _+_, _≤_};
 ghost use lib.ListN.{length};
+ghost use Rattle.store.specs.Vector.{filled};
 ghost use Rattle.aggregation.specs.Pairs.{considerOf, strongestOf, pairing, pairRowOf, pairsOf};
 ghost use Rattle.aggregation.specs.Turns.{strengthOf, rowOf};
-ghost use Rattle.aggregation.specs.Layout.{mapAt, weightedAt, GraphOk, RowOk, Paired};
+ghost use Rattle.aggregation.specs.Layout.{mapAt, weightedAt, GraphOk, ChoiceOk, RowOk, fullAt, JoinOk, Joined, Mapped, Paired};
 
 // Where a matrix stands in the stores: row offsets (rows + 1 words), columns (`entries` words) and the map to be written
-// (`rows` words, above both); the weights (`entries` floats), or, where `absolute` is set, the matrix's values.
+// (`rows` words, above both, and as many behind it for the sizes of the aggregates); the weights (`entries` floats), or, where
+// `absolute` is set, the matrix's values. An aggregate of `cap` rows is full; a cap of 0 is none.
 pub struct Graph {
     pub rows: usize,
     pub entries: usize,
@@ -16,6 +18,7 @@ pub struct Graph {
     pub map: usize,
     pub weights: usize,
     pub absolute: bool,
+    pub cap: u64,
 }
 
 // A row's strongest free neighbour and the aggregate of its strongest assigned one; the number of rows stands for none.
@@ -32,9 +35,33 @@ fn strength(x: f64, absolute: bool) -> f64
     if absolute { float::abs(x) } else { x }
 }
 
-// The entry in `column`, whose row is in the aggregate `cluster`, or in none.
-fn consider(none: u32, row: u32, column: u32, weight: f64, cluster: u32, s: Choice) -> Choice
-    ensures { λ r. ⌜ r ≡ considerOf none row column weight cluster s ⌝ }
+// Whether an aggregate is full; a free row is in none.
+fn is_full(w: &[u32], g: Graph, cluster: u32) -> bool
+    requires { ⌜ g .map + g .rows + g .rows ≤ length (now w) ⌝ }
+    ensures { λ r. ⌜ r ≡ fullAt g (now (w .entry)) cluster ⌝ }
+{
+    if g.cap == 0 {
+        return false;
+    }
+    let c = store::wide(cluster);
+    if g.rows <= c {
+        return false;
+    }
+    let size = store::wide(w[g.map + g.rows + c]);
+    g.cap <= size as u64
+}
+
+// The entry in `column`, whose row is in the aggregate `cluster`, which may be full, or in none.
+fn consider(
+    none: u32,
+    row: u32,
+    column: u32,
+    weight: f64,
+    cluster: u32,
+    full: bool,
+    s: Choice,
+) -> Choice
+    ensures { λ r. ⌜ r ≡ considerOf none row column weight cluster full s ⌝ }
 {
     if column == row {
         return s;
@@ -50,6 +77,9 @@ fn consider(none: u32, row: u32, column: u32, weight: f64, cluster: u32, s: Choi
         }
         return s;
     }
+    if full {
+        return s;
+    }
     if weight > s.adjacentweight {
         return Choice {
             free: s.free,
@@ -63,8 +93,7 @@ fn consider(none: u32, row: u32, column: u32, weight: f64, cluster: u32, s: Choi
 
 // The choice of a row.
 fn strongest(w: &[u32], f: &[f64], g: Graph, row: usize) -> Choice
-    requires { ⌜ GraphOk (now w) (length (now f)) g ⌝ }
-    requires { ⌜ row < g .rows ⌝ }
+    requires { ⌜ ChoiceOk (now w) (length (now f)) g row ⌝ }
     ensures { λ r. ⌜ r ≡ strongestOf (weightedAt g (now (w .entry)) (now (f .entry))) (mapAt g (now (w .entry))) row ⌝ }
 {
     let none = g.rows as u32;
@@ -80,10 +109,23 @@ fn strongest(w: &[u32], f: &[f64], g: Graph, row: usize) -> Choice
     while entry < end {
         let column = store::index_at(w, g.columns, entry, g.rows);
         let weight = strength(f[g.weights + entry], g.absolute);
-        s = consider(none, own, column as u32, weight, w[g.map + column], s);
+        let cluster = w[g.map + column];
+        let full = is_full(w, g, cluster);
+        s = consider(none, own, column as u32, weight, cluster, full, s);
         entry += 1;
     }
     s
+}
+
+// Puts a free row into an aggregate, which has a row more.
+fn join(w: &mut [u32], g: Graph, row: usize, cluster: u32)
+    requires { ⌜ JoinOk (now w) g row cluster ⌝ }
+    ensures { λ _. ⌜ Joined g row cluster (now (w .entry)) (now (w .exit)) ⌝ }
+{
+    let place = g.map + g.rows + store::wide(cluster);
+    let size = w[place];
+    w[g.map + row] = cluster;
+    w[place] = size + 1;
 }
 
 // One row: assigned already, or paired, or joined to an aggregate, or alone. The answer is the count of aggregates.
@@ -92,23 +134,21 @@ fn pair_row(w: &mut [u32], f: &[f64], g: Graph, row: usize, count: usize) -> usi
     ensures { λ r. ⌜ Paired g (pairRowOf (weightedAt g (now (w .entry)) (now (f .entry))) row (pairing (mapAt g (now (w .entry))) count)) (now (w .entry)) (now (w .exit)) r ⌝ }
 {
     let none = g.rows as u32;
-    let map = g.map;
-    if w[map + row] != none {
+    if w[g.map + row] != none {
         return count;
     }
     let s = strongest(w, f, g, row);
     if s.free != none {
-        let free = store::wide(s.free);
-        w[map + row] = count as u32;
-        w[map + free] = count as u32;
+        join(w, g, row, count as u32);
+        join(w, g, store::wide(s.free), count as u32);
         return count + 1;
     }
     if s.adjacent != none {
-        w[map + row] = s.adjacent;
+        join(w, g, row, s.adjacent);
         return count;
     }
-    // no entry above zero: the row stays alone
-    w[map + row] = count as u32;
+    // no entry above zero, or none with room: the row stays alone
+    join(w, g, row, count as u32);
     count + 1
 }
 
@@ -120,13 +160,23 @@ fn row_at(forward: bool, n: usize, index: usize) -> usize
     if forward { index } else { n - 1 - index }
 }
 
+// No row is in an aggregate yet.
+fn free_all(w: &mut [u32], g: Graph)
+    requires { ⌜ g .map + g .rows + g .rows ≤ length (now w) ⌝ }
+    requires { ⌜ g .rows ≤ 65536 ⌝ }
+    ensures { λ _. ⌜ Mapped g (filled (g .rows) (g .rows)) (now (w .entry)) (now (w .exit)) ⌝ }
+{
+    store::fill_words(w, g.map, g.rows, g.rows as u32);
+    store::fill_words(w, g.map + g.rows, g.rows, 0);
+}
+
 // Writes the aggregate of each row to the map, and returns their count.
 pub fn pairs(w: &mut [u32], f: &[f64], g: Graph, forward: bool) -> usize
     requires { ⌜ GraphOk (now w) (length (now f)) g ⌝ }
     ensures { λ r. ⌜ Paired g (pairsOf (weightedAt g (now (w .entry)) (now (f .entry))) forward) (now (w .entry)) (now (w .exit)) r ⌝ }
 {
     let n = g.rows;
-    store::fill_words(w, g.map, n, n as u32);
+    free_all(w, g);
     let mut count = 0;
     let mut index = 0;
     while index < n {

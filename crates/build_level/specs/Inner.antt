@@ -119,4 +119,5 @@ graphIn given t p = record {
   map = p .links;
   weights = cond given (t .weights) (p .values);
   absolute = not given;
+  cap = 0;
 }

@@ -107,7 +107,7 @@ pub record ChooseOk (w : List ℕ) (size : ℕ) (o : MultigridOptions) (t : Work
 -- What it ensures: the rows where the level is the last, else the count of aggregates with their map; only words from the links on
 -- are written.
 pub record Chosen (w z : List ℕ) (F : List Float) (o : MultigridOptions) (given : Bool) (t : Workspace) (s : Frontier) (p : Place) (r : ℕ) : Type 0 where
-  pub count : r ≡ cond (endsAt o (s .more) (patternAt w (levelIn t p))) (p .rows) (paired given (s .stage) (meshAt w F given (levelIn t p)) .count)
+  pub count : r ≡ cond (endsAt o (s .more) (patternAt w (levelIn t p))) (p .rows) (paired o given (s .stage) (meshAt w F given (levelIn t p)) .count)
   pub links : endsAt o (s .more) (patternAt w (levelIn t p)) ≡ false
-      → part (p .links) (p .rows) z ≡ paired given (s .stage) (meshAt w F given (levelIn t p)) .map
+      → part (p .links) (p .rows) z ≡ paired o given (s .stage) (meshAt w F given (levelIn t p)) .map
   pub words : Kept (p .links) w z

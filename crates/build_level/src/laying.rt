@@ -147,6 +147,8 @@ fn graph_in(given: bool, t: Workspace, p: Place) -> Graph
         map: p.links,
         weights: strengths,
         absolute: !given,
+        // no control sets a cap yet
+        cap: 0,
     }
 }
 

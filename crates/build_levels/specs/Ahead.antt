@@ -31,7 +31,7 @@ use Rattle.build_levels.specs.GrowingContract.{growAt}
 abbrev pub pairedLevel : MultigridOptions → Bool → Charge → ℕ → ℕ → ℕ → Charge → Mesh → Coefficients → Outcome (List Level)
 pairedLevel o given stores more level stage used m c =
     cond (endsAt o more (m .pattern)) (lastLevel o level m c)
-    (let g = paired given stage m in
+    (let g = paired o given stage m in
     cond (eqb (g .count) (m .pattern .rows)) (lastLevel o level m c)
     (innerLevel o given (deeperOf o given stores more level) stores level stage used m c g))
 

@@ -78,7 +78,7 @@ module _ (o : MultigridOptions) (given : Bool) (stores : Charge) where
 
   -- A level with aggregates is laid, if those after it are.
   inner-laid : {deeper : ℕ → Charge → Mesh → Outcome (List Level)} {level stage : ℕ} {used : Charge} {m : Mesh} {levels : List Level}
-      → (i : Inner o given deeper stores level stage used m (paired given stage m) levels)
+      → (i : Inner o given deeper stores level stage used m (paired o given stage m) levels)
       → (Small (i .next .pattern) → Laid (o .«coarsest_cells») (i .next .pattern) (i .rest))
       → Small (m .pattern) → Laid (o .«coarsest_cells») (m .pattern) levels
   inner-laid {m = m} i on small =
@@ -118,7 +118,7 @@ module _ (o : MultigridOptions) (given : Bool) (stores : Charge) where
 
   -- They do of a level with aggregates, if they do of those after it.
   inner-paid : {deeper : ℕ → Charge → Mesh → Outcome (List Level)} {level stage : ℕ} {used : Charge} {m : Mesh} {levels : List Level}
-      → (i : Inner o given deeper stores level stage used m (paired given stage m) levels)
+      → (i : Inner o given deeper stores level stage used m (paired o given stage m) levels)
       → Paid (andLevel (i .next .pattern) used) (onward (i .next) (i .state)) (i .rest) → Paid used m levels
   unfolding chargesOf
   inner-paid {used = used} {m = m} i on = subst (Paid used m) (i .is) (record {

@@ -187,7 +187,7 @@ pub merge-spares : (o : MultigridOptions) (given : Bool) (steps level : ℕ) (s 
 unfolding mergeOf
 merge-spares o given zero level s = done
 merge-spares o given (suc steps) level s = then-spares (kernelAsked level (s .mesh)) (kernel-spares level (s .mesh)) (λ _ _.
-    let g = paired given (s .stage) (s .mesh) in
+    let g = paired o given (s .stage) (s .mesh) in
     cond-spares (fewCoupled o (s .mesh .pattern)) done (λ _.
     cond-spares (eqb (g .count) (s .mesh .pattern .rows)) done (λ _.
     then-spares (coarsenedAsked given (s .mesh) (g .map) (g .count)) (coarsened-spares given (s .mesh) (g .map) (g .count))

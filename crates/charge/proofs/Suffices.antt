@@ -14,8 +14,6 @@ use Rattle.refusal.specs.Refusal.{noRows, storeTooSmall, notSymmetric}
 use Rattle.refusal.specs.Outcome.{Outcome, accepted, passed, verdictOf}
 use Rattle.options.specs.declared.options.MultigridOptions.{MultigridOptions}
 use Rattle.options.specs.Options.{controlsAsked}
-use Rattle.aggregation.specs.Pairs.{strengthsOf}
-use Rattle.aggregation.specs.Turns.{weighted}
 use Rattle.aggregation.proofs.Numbers.{count-most}
 use Rattle.pattern.specs.Pattern.{Pattern, entries, Valid, coarse}
 use Rattle.pattern.proofs.pattern.Coarse.{coarse-few, coarse-valid}
@@ -24,7 +22,7 @@ use Rattle.csr.specs.Weights.{weightsAsked}
 use Rattle.faces.specs.Faces.{diagonalsAsked}
 use Rattle.hierarchy.specs.Level.{Level}
 use Rattle.hierarchy.specs.Refresh.{innerNumbers}
-use Rattle.hierarchy.specs.Build.{Charge, andLevel, holds, innerShape, Mesh, Merged, merged, kernelAsked, paired, coarsened, coarsenedAsked, mergeOf, growOf, Lent, Input, patternIn, meshIn, symmetricOf, buildOf}
+use Rattle.hierarchy.specs.Build.{Charge, andLevel, holds, innerShape, Mesh, Merged, merged, kernelAsked, weightedBy, paired, coarsened, coarsenedAsked, mergeOf, growOf, Lent, Input, patternIn, meshIn, symmetricOf, buildOf}
 use Rattle.hierarchy.specs.Steps.{even, endsAt, levelStep}
 use Rattle.hierarchy.proofs.Accepted.{coarsened-is, onward, grow-is, merge-keeps, fixedIn, chargeIn}
 use Rattle.hierarchy.proofs.Proper.{valid-range}
@@ -42,27 +40,25 @@ record Few (rows : ℕ) (p : Pattern) : Type 0 where
   few : p .rows ≤ rows
 
 -- The pairing of a valid pattern has no more aggregates than rows.
-paired-few : (given : Bool) (stage : ℕ) (m : Mesh) → Valid (m .pattern) → paired given stage m .count ≤ m .pattern .rows
-paired-few given stage m valid =
-    let p = m .pattern in
-    count-most (weighted (p .rows) (p .offsets) (p .columns) (strengthsOf (not given) (cond given (m .weights) (m .values)))) (even stage)
-    (valid-range valid)
+paired-few : (o : MultigridOptions) (given : Bool) (stage : ℕ) (m : Mesh) → Valid (m .pattern) → paired o given stage m .count ≤ m .pattern .rows
+paired-few o given stage m valid =
+    count-most (weightedBy o given m) (even stage) (valid-range valid)
 
 -- So a coarse matrix has no more rows than the finer one,
-coarse-rows : (given : Bool) (stage rows : ℕ) (m : Mesh) → Few rows (m .pattern) → let g = paired given stage m in
+coarse-rows : (o : MultigridOptions) (given : Bool) (stage rows : ℕ) (m : Mesh) → Few rows (m .pattern) → let g = paired o given stage m in
     Few rows (coarsened given m (g .map) (g .count) .pattern)
-coarse-rows given stage rows m f =
-    let g = paired given stage m in
+coarse-rows o given stage rows m f =
+    let g = paired o given stage m in
     record {
       valid = coarse-valid (m .pattern) (g .map) (g .count);
-      few = let z = paired-few given stage m (f .valid) in let y = f .few in omega arith;
+      few = let z = paired-few o given stage m (f .valid) in let y = f .few in omega arith;
     }
 
 -- and merged steps keep it so.
 merged-few : (o : MultigridOptions) (given : Bool) (rows steps level : ℕ) (s : Merged) {t : Merged} → mergeOf o given steps level s ≡ accepted t
     → Few rows (s .mesh .pattern) → Few rows (t .mesh .pattern)
 merged-few o given rows = merge-keeps o given (λ (s : Merged). Few rows (s .mesh .pattern)) (λ s f. f)
-    (λ s f. coarse-rows given (s .stage) rows (s .mesh) f)
+    (λ s f. coarse-rows o given (s .stage) rows (s .mesh) f)
 
 -- ---- levels
 
@@ -110,7 +106,7 @@ module _ (o : MultigridOptions) (given : Bool) (stores : Charge) (w v rows most 
       → Spared 9 (levelStep o given deeper stores (suc more) level stage used m)
   step-spares more deeper on level stage used m f short room =
       let p = m .pattern in
-      let g = paired given stage m in
+      let g = paired o given stage m in
       then-spares (diagonalsAsked level p) (diagonals-spare level p) (λ _ _.
       then-spares (kernelAsked level m) (kernel-spares level m) (λ c _.
       cond-spares (endsAt o (suc more) p) (last-spares o level m c) (λ _.
@@ -121,7 +117,7 @@ module _ (o : MultigridOptions) (given : Bool) (stores : Charge) (w v rows most 
       (merge-spares o given (o .«merge_levels» - 1) (level + 1) (merged first (g .map) (stage + 1))) (λ s steps.
       then-spares (coarsenedAsked given m (s .map) (s .mesh .pattern .rows)) (coarsened-spares given m (s .map) (s .mesh .pattern .rows)) (λ next afresh.
       let reached : Few rows (s .mesh .pattern) = merged-few o given rows (o .«merge_levels» - 1) (level + 1) (merged first (g .map) (stage + 1)) steps
-      (subst (λ (c : Mesh). Few rows (c .pattern)) (coarsened-is given m (g .map) (g .count) e .1) (coarse-rows given stage rows m f)) in
+      (subst (λ (c : Mesh). Few rows (c .pattern)) (coarsened-is given m (g .map) (g .count) e .1) (coarse-rows o given stage rows m f)) in
       let map = s .map in
       let count = s .mesh .pattern .rows in
       let is : coarse p map count ≡ next .pattern = ap (λ (c : Mesh). c .pattern) (coarsened-is given m map count afresh .1) in

@@ -49,6 +49,7 @@ graphIn t rows entries given = record {
   map = t .map;
   weights = cond given (t .«merged_weights») (t .«merged_values»);
   absolute = not given;
+  cap = 0;
 }
 
 -- ---- questions 12 and 13
@@ -74,14 +75,14 @@ pub record PairOk (w : List ℕ) (floats : ℕ) (t : Workspace) (count most : �
   pub proper : Proper (patternAt w (mergedIn t count most))
 
 -- the pairing of that matrix
-abbrev pub pairedAt : Bool → List ℕ → List Float → Workspace → ℕ → ℕ → ℕ → Pairing
-pairedAt given w F t count most stage = paired given stage (meshAt w F given (mergedIn t count most))
+abbrev pub pairedAt : MultigridOptions → Bool → List ℕ → List Float → Workspace → ℕ → ℕ → ℕ → Pairing
+pairedAt o given w F t count most stage = paired o given stage (meshAt w F given (mergedIn t count most))
 
 -- how a step goes on after an attempt
 abbrev pub stepBy : MultigridOptions → Bool → (Merged → Outcome Merged) → Merged → Attempt → Outcome Merged
 stepBy o given further s (Attempt.Refused q) = refused q
 stepBy o given further s Attempt.Few = accepted s
-stepBy o given further s (Attempt.Paired c) = joinedStep o given further s (paired given (s .stage) (s .mesh))
+stepBy o given further s (Attempt.Paired c) = joinedStep o given further s (paired o given (s .stage) (s .mesh))
 
 -- The attempt decides how the step goes on; a pairing's count, and its map in the temporaries. Below that nothing changed.
 pub record PairDone (o : MultigridOptions) (given : Bool) (w z : List ℕ) (F : List Float) (t : Workspace) (count most stage level : ℕ)
@@ -89,8 +90,8 @@ pub record PairDone (o : MultigridOptions) (given : Bool) (w z : List ℕ) (F : 
   pub step : (further : Merged → Outcome Merged) (map : List ℕ)
       → mergeStep o given further level (merged (meshAt w F given (mergedIn t count most)) map stage)
       ≡ stepBy o given further (merged (meshAt w F given (mergedIn t count most)) map stage) r
-  pub joined : (c : ℕ) → r ≡ Attempt.Paired c → c ≡ pairedAt given w F t count most stage .count
-  pub map : (c : ℕ) → r ≡ Attempt.Paired c → part (t .map) count z ≡ pairedAt given w F t count most stage .map
+  pub joined : (c : ℕ) → r ≡ Attempt.Paired c → c ≡ pairedAt o given w F t count most stage .count
+  pub map : (c : ℕ) → r ≡ Attempt.Paired c → part (t .map) count z ≡ pairedAt o given w F t count most stage .map
   pub words : Kept (t .map) w z
 
 -- ---- after the pairing

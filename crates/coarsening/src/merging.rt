@@ -82,6 +82,8 @@ fn graph_in(t: Workspace, rows: usize, entries: usize, given: bool) -> Graph
             t.merged_values
         },
         absolute: !given,
+        // no control sets a cap yet
+        cap: 0,
     }
 }
 

@@ -2,19 +2,17 @@
 -- matrix that is summed afresh from the level by the composed map finds nothing to repair.
 -- Assumes nothing.
 use mathlib.Core.Path.{_≡_, refl, sym, ap, _∙_, subst}
-use mathlib.Core.Bool.{Bool, not, cond}
+use mathlib.Core.Bool.{Bool}
 use Prim.Native.Nat.{ℕ, _+_}
 use lib.IntN.{ℤ}
 use Rattle.store.specs.Region.{at, idx}
 use Rattle.options.specs.declared.options.MultigridOptions.{MultigridOptions}
 use Rattle.refusal.specs.Outcome.{accepted}
-use Rattle.aggregation.specs.Pairs.{Weighted, strengthsOf}
-use Rattle.aggregation.specs.Turns.{weighted}
 use Rattle.galerkin.specs.Whole.{Whole}
 use Rattle.galerkin.specs.Product.{galerkinProduct}
 use Rattle.pattern.specs.Pattern.{Pattern, rowOf, columnOf, coarse, Maps}
 use Rattle.galerkin_theorem.specs.Theorem.{WholeValues, fineMatrix, coarseMatrix}
-use Rattle.hierarchy.specs.Build.{Mesh, Merged, merged, paired, coarsened, mergeOf}
+use Rattle.hierarchy.specs.Build.{Mesh, Merged, merged, weightedBy, paired, coarsened, mergeOf}
 use Rattle.hierarchy.specs.Steps.{even}
 use Rattle.hierarchy.specs.Proper.{Proper}
 use Rattle.hierarchy.proofs.Twice.{compose-maps}
@@ -25,18 +23,14 @@ use Rattle.galerkin_levels.proofs.Dense.{dense-at, dense-none}
 use Rattle.galerkin_levels.proofs.Down.{coarse-whole, coarse-dense}
 use Rattle.galerkin_levels.proofs.Finest.{product-twice}
 
--- what `pairs` reads of a matrix
-abbrev strong : Bool → Mesh → Weighted
-strong given m = weighted (m .pattern .rows) (m .pattern .offsets) (m .pattern .columns) (strengthsOf (not given) (cond given (m .weights) (m .values)))
-
-module _ (given : Bool) (stage : ℕ) (m : Mesh) (f : Proper (m .pattern)) where
+module _ (o : MultigridOptions) (given : Bool) (stage : ℕ) (m : Mesh) (f : Proper (m .pattern)) where
   -- The pairing of a matrix is a map of its rows,
-  maps-of : Maps (paired given stage m .map) (m .pattern .rows) (paired given stage m .count)
-  maps-of = paired-maps (strong given m) (even stage) (valid-range (f .valid))
+  maps-of : Maps (paired o given stage m .map) (m .pattern .rows) (paired o given stage m .count)
+  maps-of = paired-maps (weightedBy o given m) (even stage) (valid-range (f .valid))
 
   -- and the coarse pattern is proper.
-  proper-of : Proper (coarse (m .pattern) (paired given stage m .map) (paired given stage m .count))
-  proper-of = coarse-proper f maps-of (paired-onto (strong given m) (even stage) (valid-range (f .valid)))
+  proper-of : Proper (coarse (m .pattern) (paired o given stage m .map) (paired o given stage m .count))
+  proper-of = coarse-proper f maps-of (paired-onto (weightedBy o given m) (even stage) (valid-range (f .valid)))
 
 -- What merged steps keep: a proper pattern, a map of the level's rows, and whole values of exactly the Galerkin product with that map.
 record Stepped (p : Pattern) (z : ℕ → ℤ) (s : Merged) : Type 0 where
@@ -63,20 +57,20 @@ stepped-is {p} z {s} t =
 
 module _ (given : Bool) (m : Mesh) (z : ℕ → ℤ) (f : Proper (m .pattern)) (fine : WholeValues (m .pattern) (m .values) z) where
   -- It is so before any merged step, of the first coarse matrix of a level,
-  stepped-first : (stage : ℕ) → let g = paired given stage m in
+  stepped-first : (o : MultigridOptions) (stage : ℕ) → let g = paired o given stage m in
       Stepped (m .pattern) z (merged (coarsened given m (g .map) (g .count)) (g .map) (stage + 1))
-  stepped-first stage =
-      let maps = maps-of given stage m f in
-      record { proper = proper-of given stage m f; maps = maps; wholes = _; whole = coarse-whole f maps fine; is = coarse-dense f maps fine }
+  stepped-first o stage =
+      let maps = maps-of o given stage m f in
+      record { proper = proper-of o given stage m f; maps = maps; wholes = _; whole = coarse-whole f maps fine; is = coarse-dense f maps fine }
 
   -- and after one merged step more.
-  stepped-on : (s : Merged) → Stepped (m .pattern) z s → let g = paired given (s .stage) (s .mesh) in
+  stepped-on : (o : MultigridOptions) (s : Merged) → Stepped (m .pattern) z s → let g = paired o given (s .stage) (s .mesh) in
       Stepped (m .pattern) z (joinedBy (coarsened given (s .mesh) (g .map) (g .count)) s g)
-  stepped-on s t =
-      let g = paired given (s .stage) (s .mesh) in
-      let maps = maps-of given (s .stage) (s .mesh) (t .proper) in
+  stepped-on o s t =
+      let g = paired o given (s .stage) (s .mesh) in
+      let maps = maps-of o given (s .stage) (s .mesh) (t .proper) in
       rw (t .maps .size) (record {
-        proper = proper-of given (s .stage) (s .mesh) (t .proper);
+        proper = proper-of o given (s .stage) (s .mesh) (t .proper);
         maps = compose-maps (t .maps) maps;
         wholes = _;
         whole = coarse-whole (t .proper) maps (t .whole);
@@ -85,10 +79,10 @@ module _ (given : Bool) (m : Mesh) (z : ℕ → ℤ) (f : Proper (m .pattern)) (
       })
 
   -- Whatever their number, merged steps make exactly the Galerkin product of the level with the map so far.
-  pub merged-galerkin : (o : MultigridOptions) (stage steps level : ℕ) {t : Merged} → let g = paired given stage m in
+  pub merged-galerkin : (o : MultigridOptions) (stage steps level : ℕ) {t : Merged} → let g = paired o given stage m in
       mergeOf o given steps level (merged (coarsened given m (g .map) (g .count)) (g .map) (stage + 1)) ≡ accepted t → MergedIs (m .pattern) z t
   merged-galerkin o stage steps level e =
-      let g = paired given stage m in
+      let g = paired o given stage m in
       stepped-is z (merge-keeps o given (Stepped (m .pattern) z)
-      (λ s t. record { proper = t .proper; maps = t .maps; wholes = t .wholes; whole = t .whole; is = t .is }) stepped-on steps level
-      (merged (coarsened given m (g .map) (g .count)) (g .map) (stage + 1)) e (stepped-first stage))
+      (λ s t. record { proper = t .proper; maps = t .maps; wholes = t .wholes; whole = t .whole; is = t .is }) (stepped-on o) steps level
+      (merged (coarsened given m (g .map) (g .count)) (g .map) (stage + 1)) e (stepped-first o stage))

@@ -123,14 +123,14 @@ module _ (o : MultigridOptions) (given : Bool) (deeper : ℕ → Charge → Mesh
   module _ (more level stage : ℕ) (used : Charge) (m : Mesh) where
     -- whether the pairing of the matrix joins nothing
     abbrev pub stays : Bool
-    stays = eqb (paired given stage m .count) (m .pattern .rows)
+    stays = eqb (paired o given stage m .count) (m .pattern .rows)
 
     -- A level of an accepted build and those after it: it is the last by its pattern, or as its pairing joins nothing, or it has
     -- aggregates.
     pub data Grown (levels : List Level) : Type 0 where
       ends : endsAt o more (m .pattern) ≡ true → Last o level m levels → Grown levels
       alone : endsAt o more (m .pattern) ≡ false → stays ≡ true → Last o level m levels → Grown levels
-      leads : endsAt o more (m .pattern) ≡ false → stays ≡ false → Inner level stage used m (paired given stage m) levels → Grown levels
+      leads : endsAt o more (m .pattern) ≡ false → stays ≡ false → Inner level stage used m (paired o given stage m) levels → Grown levels
 
     -- An accepted level is one of these.
     step-grown : {levels : List Level} → levelStep o given deeper stores more level stage used m ≡ accepted levels → Grown levels
@@ -142,11 +142,11 @@ module _ (o : MultigridOptions) (given : Bool) (deeper : ℕ → Charge → Mesh
         go : (c : Coefficients) → kernelAsked level m ≡ accepted c
             → (x : Bool) → endsAt o more (m .pattern) ≡ x → (y : Bool) → stays ≡ y
             → cond x (lastLevel o level m c)
-            (cond y (lastLevel o level m c) (innerLevel o given deeper stores level stage used m c (paired given stage m))) ≡ accepted levels
+            (cond y (lastLevel o level m c) (innerLevel o given deeper stores level stage used m c (paired o given stage m))) ≡ accepted levels
             → Grown levels
         go c k true p y q r = ends p (last-is o level m levels c k r)
         go c k false p true q r = alone p q (last-is o level m levels c k r)
-        go c k false p false q r = leads p q (inner-is level stage used m (paired given stage m) levels c k r)
+        go c k false p false q r = leads p q (inner-is level stage used m (paired o given stage m) levels c k r)
 
 -- ---- levels
 
@@ -186,13 +186,13 @@ grow-is o given stores zero level stage used m =
 grow-is o given stores (suc more) level stage used m =
     then-same (diagonalsAsked level (m .pattern)) (λ _. then-same (kernelAsked level m) (λ c.
     some-more (lastLevel o level m c) _ (fewCoupled o (m .pattern)) (eqb (facesOf (m .pattern)) 0)
-    (eqb (paired given stage m .count) (m .pattern .rows)) (eqb (suc more) 0) (ne-eqb (suc more) 0 (λ e. omega arith))))
+    (eqb (paired o given stage m .count) (m .pattern .rows)) (eqb (suc more) 0) (ne-eqb (suc more) 0 (λ e. omega arith))))
 
 module _ (o : MultigridOptions) (given : Bool) (stage : ℕ) (m : Mesh) where
   -- Why a level is the last: by its pattern, or as its pairing joins nothing.
   pub data Halts (more : ℕ) : Type 0 where
     by-pattern : endsAt o more (m .pattern) ≡ true → Halts more
-    by-pairs : endsAt o more (m .pattern) ≡ false → eqb (paired given stage m .count) (m .pattern .rows) ≡ true → Halts more
+    by-pairs : endsAt o more (m .pattern) ≡ false → eqb (paired o given stage m .count) (m .pattern .rows) ≡ true → Halts more
 
 module _ (o : MultigridOptions) (given : Bool) (stores : Charge) (P : (more level stage : ℕ) → Charge → Mesh → List Level → Type 0) where
   -- What holds of a last level, and of a level with aggregates if it holds of the levels after it, with the charge so far, holds of an
@@ -200,8 +200,8 @@ module _ (o : MultigridOptions) (given : Bool) (stores : Charge) (P : (more leve
   pub grow-charged : ((more level stage : ℕ) (used : Charge) (m : Mesh) (levels : List Level) → Halts o given stage m more → Last o level m levels
       → P more level stage used m levels)
       → ((more level stage : ℕ) (used : Charge) (m : Mesh) (levels : List Level) → endsAt o (suc more) (m .pattern) ≡ false
-      → eqb (paired given stage m .count) (m .pattern .rows) ≡ false
-      → (i : Inner o given (growOf o given stores more (level + 1)) stores level stage used m (paired given stage m) levels)
+      → eqb (paired o given stage m .count) (m .pattern .rows) ≡ false
+      → (i : Inner o given (growOf o given stores more (level + 1)) stores level stage used m (paired o given stage m) levels)
       → P more (level + 1) (i .state .stage) (andLevel (i .next .pattern) used) (onward (i .next) (i .state)) (i .rest)
       → P (suc more) level stage used m levels)
       → (more level stage : ℕ) (used : Charge) (m : Mesh) {levels : List Level} → growOf o given stores more level stage used m ≡ accepted levels
@@ -231,8 +231,8 @@ module _ (o : MultigridOptions) (given : Bool) (stores : Charge) (P : (more leve
   pub grow-keeps : ((more level stage : ℕ) (m : Mesh) (levels : List Level) → Halts o given stage m more → Last o level m levels
       → P more level stage m levels)
       → ((more level stage : ℕ) (used : Charge) (m : Mesh) (levels : List Level) → endsAt o (suc more) (m .pattern) ≡ false
-      → eqb (paired given stage m .count) (m .pattern .rows) ≡ false
-      → (i : Inner o given (growOf o given stores more (level + 1)) stores level stage used m (paired given stage m) levels)
+      → eqb (paired o given stage m .count) (m .pattern .rows) ≡ false
+      → (i : Inner o given (growOf o given stores more (level + 1)) stores level stage used m (paired o given stage m) levels)
       → P more (level + 1) (i .state .stage) (onward (i .next) (i .state)) (i .rest) → P (suc more) level stage m levels)
       → (more level stage : ℕ) (used : Charge) (m : Mesh) {levels : List Level} → growOf o given stores more level stage used m ≡ accepted levels
       → P more level stage m levels
@@ -248,14 +248,14 @@ joinedBy next s g = merged next (composeOf (length (s .map)) (s .map) (g .map)) 
 module _ (o : MultigridOptions) (given : Bool) (P : Merged → Type 0) where
   -- What a pairing that joins nothing keeps, and the coarser matrix of one that joins, accepted merged steps keep.
   pub merge-keeps : ((s : Merged) → P s → P (merged (s .mesh) (s .map) (s .stage + 1)))
-      → ((s : Merged) → P s → let g = paired given (s .stage) (s .mesh) in
+      → ((s : Merged) → P s → let g = paired o given (s .stage) (s .mesh) in
       P (joinedBy (coarsened given (s .mesh) (g .map) (g .count)) s g))
       → (steps level : ℕ) (s : Merged) {t : Merged} → mergeOf o given steps level s ≡ accepted t → P s → P t
   unfolding mergeOf
   merge-keeps still joins zero level s e h = subst P (accepted-one e) h
   merge-keeps still joins (suc steps) level s {t} e h =
       let k = then-split (kernelAsked level (s .mesh)) _ e in
-      let g = paired given (s .stage) (s .mesh) in
+      let g = paired o given (s .stage) (s .mesh) in
       go (λ s e h. merge-keeps still joins steps level s e h) g (joins s h) (fewCoupled o (s .mesh .pattern))
       (eqb (g .count) (s .mesh .pattern .rows)) (k .2)
     where

@@ -133,7 +133,7 @@ module _ (o : MultigridOptions) (given : Bool) {stores bigger : Charge} (big : L
       → (more level stage : ℕ) (used : Charge) (m : Mesh) → levelStep o given deeper stores more level stage used m ≡ accepted levels
       → levelStep o given deeper' bigger more level stage used m ≡ accepted levels
   step-larger deeper deeper' on more level stage used m =
-      let g = paired given stage m in
+      let g = paired o given stage m in
       then-keeps (diagonalsAsked level (m .pattern)) _ _ (λ _.
       then-keeps (kernelAsked level m) _ _ (λ c.
       cond-keeps (endsAt o more (m .pattern)) (lastLevel o level m c) _ _ (

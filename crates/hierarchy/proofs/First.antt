@@ -18,9 +18,9 @@ use Rattle.pattern.proofs.pattern.Place.{length-those}
 use Rattle.galerkin.specs.Contract.{galerkinOf}
 use Rattle.faces.specs.Faces.{above, facesOf, uppersOf, lowersOf}
 use Rattle.hierarchy.specs.Level.{Shape, Numbers, Level, Hierarchy}
-use Rattle.hierarchy.specs.Refresh.{refreshOf, numbersOf, coarseValues}
+use Rattle.hierarchy.specs.Refresh.{numbersOf, coarseValues, refreshOf}
+use Rattle.hierarchy.specs.Build.{shapingOf, Charge, shapeOf, lastShape, innerShape, Mesh, Merged, merged, kernelAsked, paired, coarsenedAsked, fewCoupled, mergeOf, growOf, Lent, Input, patternIn, meshIn, buildOf}
 use Rattle.hierarchy.specs.Steps.{endsAt, joinedStep}
-use Rattle.hierarchy.specs.Build.{Charge, shapeOf, lastShape, innerShape, Mesh, Merged, merged, kernelAsked, paired, coarsenedAsked, fewCoupled, mergeOf, growOf, Lent, Input, patternIn, meshIn, buildOf}
 use Rattle.hierarchy.specs.Shapes.{Weights, Traced, pairedBy, coarseWeights, traceJoined, traceOf, tracedFrom, shapesOf, patternOf}
 use Rattle.hierarchy.specs.First.{shapesIn, First}
 use Rattle.hierarchy.proofs.Accepted.{then-split, coarsened-is, Last, onward, Inner, ends-zero, Halts, by-pattern, by-pairs, grow-keeps, joinedBy, chargeIn, build-built}
@@ -128,7 +128,7 @@ module _ (o : MultigridOptions) (given : Bool) (stores : Charge) where
       → refreshOf o level (shapesIn levels) (m .values) ≡ accepted levels
   grow-refresh = grow-keeps o given stores (λ _ level _ m levels. refreshOf o level (shapesIn levels) (m .values) ≡ accepted levels)
       (λ more level stage m levels _ l. last-refresh level m l)
-      (λ more level stage used m levels _ _ i on. inner-refresh more level stage used m (paired given stage m) i on)
+      (λ more level stage used m levels _ _ i on. inner-refresh more level stage used m (paired o given stage m) i on)
 
 -- ---- pattern first
 
@@ -141,9 +141,9 @@ abbrev bareState : Merged → Traced
 bareState s = record { mesh = bare (s .mesh); map = s .map; stage = s .stage }
 
 -- Where weights are given the pairing is that by weights.
-paired-by : (stage : ℕ) (m : Mesh) → paired true stage m ≡ pairedBy stage (bare m)
+paired-by : (o : MultigridOptions) (stage : ℕ) (m : Mesh) → paired o true stage m ≡ pairedBy (shapingOf o) stage (bare m)
 unfolding strengthsOf
-paired-by stage m = refl
+paired-by o stage m = refl
 
 -- The coarse matrix has the coarse pattern and weights.
 coarsened-bare : (m : Mesh) (map : List ℕ) (count : ℕ) {c : Mesh} → coarsenedAsked true m map count ≡ accepted c
@@ -153,20 +153,20 @@ coarsened-bare m map count e = ap bare (coarsened-is true m map count e .1)
 module _ (o : MultigridOptions) where
   -- Accepted merged steps make what they make of patterns and weights alone.
   merge-trace : (steps level : ℕ) (s : Merged) {t : Merged} → mergeOf o true steps level s ≡ accepted t
-      → traceOf o steps (bareState s) ≡ bareState t
+      → traceOf (shapingOf o) steps (bareState s) ≡ bareState t
   unfolding mergeOf traceOf
   merge-trace zero level s e = ap bareState (accepted-one e)
   merge-trace (suc steps) level s {t} e =
       let k = then-split (kernelAsked level (s .mesh)) _ e in
-      go (λ s t e. merge-trace steps level s e) (fewCoupled o (s .mesh .pattern)) (paired true (s .stage) (s .mesh))
-      (paired-by (s .stage) (s .mesh)) (k .2)
+      go (λ s t e. merge-trace steps level s e) (fewCoupled o (s .mesh .pattern)) (paired o true (s .stage) (s .mesh))
+      (paired-by o (s .stage) (s .mesh)) (k .2)
     where
-      step : ((s t : Merged) → mergeOf o true steps level s ≡ accepted t → traceOf o steps (bareState s) ≡ bareState t)
+      step : ((s t : Merged) → mergeOf o true steps level s ≡ accepted t → traceOf (shapingOf o) steps (bareState s) ≡ bareState t)
           → (g : Pairing) (y : Bool)
           → cond y (accepted (merged (s .mesh) (s .map) (s .stage + 1)))
           (_>>=_ (coarsenedAsked true (s .mesh) (g .map) (g .count)) (λ next. mergeOf o true steps level (joinedBy next s g))) ≡ accepted t
           → cond y (record { mesh = bare (s .mesh); map = s .map; stage = s .stage + 1 })
-          (traceOf o steps (record {
+          (traceOf (shapingOf o) steps (record {
             mesh = coarseWeights (bare (s .mesh)) (g .map) (g .count);
             map = composeOf (length (s .map)) (s .map) (g .map);
             stage = s .stage + 1;
@@ -176,55 +176,55 @@ module _ (o : MultigridOptions) where
           let a = then-split (coarsenedAsked true (s .mesh) (g .map) (g .count)) _ e in
           rw (coarsened-bare (s .mesh) (g .map) (g .count) (a .1)) (on (joinedBy (a .0) s g) t (a .2))
 
-      go : ((s t : Merged) → mergeOf o true steps level s ≡ accepted t → traceOf o steps (bareState s) ≡ bareState t)
-          → (x : Bool) (g : Pairing) → g ≡ pairedBy (s .stage) (bare (s .mesh))
+      go : ((s t : Merged) → mergeOf o true steps level s ≡ accepted t → traceOf (shapingOf o) steps (bareState s) ≡ bareState t)
+          → (x : Bool) (g : Pairing) → g ≡ pairedBy (shapingOf o) (s .stage) (bare (s .mesh))
           → cond x (accepted s) (joinedStep o true (mergeOf o true steps level) s g) ≡ accepted t
-          → cond x (bareState s) (traceJoined o (traceOf o steps) (bareState s) (pairedBy (s .stage) (bare (s .mesh)))) ≡ bareState t
+          → cond x (bareState s) (traceJoined (shapingOf o) (traceOf (shapingOf o) steps) (bareState s) (pairedBy (shapingOf o) (s .stage) (bare (s .mesh)))) ≡ bareState t
       go on true g p e = ap bareState (accepted-one e)
       go on false g p e = rw (← p) (step on g (eqb (g .count) (s .mesh .pattern .rows)) e)
 
   -- The shape of a last level is made of the pattern alone.
-  halted : (stage : ℕ) (m : Mesh) (more : ℕ) → Halts o true stage m more → shapesOf o more stage (bare m) ≡ lastShape (m .pattern) ∷ []
+  halted : (stage : ℕ) (m : Mesh) (more : ℕ) → Halts o true stage m more → shapesOf (shapingOf o) more stage (bare m) ≡ lastShape (m .pattern) ∷ []
   unfolding shapesOf
   halted stage m zero h = rw (ends-zero o (m .pattern)) refl
   halted stage m (suc more) (by-pattern p) = rw p refl
-  halted stage m (suc more) (by-pairs p q) = rw (p, rw (paired-by stage m) at q) refl
+  halted stage m (suc more) (by-pairs p q) = rw (p, rw (paired-by o stage m) at q) refl
 
   last-shapes : (more level stage : ℕ) (m : Mesh) (levels : List Level) → Halts o true stage m more → Last o level m levels
-      → shapesIn levels ≡ shapesOf o more stage (bare m)
+      → shapesIn levels ≡ shapesOf (shapingOf o) more stage (bare m)
   last-shapes more level stage m levels h l = sym (ap shapesIn (l .is)) ∙ sym (halted stage m more h)
 
   module _ (stores : Charge) (more level stage : ℕ) (used : Charge) (m : Mesh) (levels : List Level)
-      (i : Inner o true (growOf o true stores more (level + 1)) stores level stage used m (paired true stage m) levels) where
+      (i : Inner o true (growOf o true stores more (level + 1)) stores level stage used m (paired o true stage m) levels) where
     -- What the merged steps made, without values.
-    traced : tracedFrom o stage (bare m) (pairedBy stage (bare m)) ≡ bareState (i .state)
+    traced : tracedFrom (shapingOf o) stage (bare m) (pairedBy (shapingOf o) stage (bare m)) ≡ bareState (i .state)
     traced =
-        let g = pairedBy stage (bare m) in
-        let f = paired true stage m in
+        let g = pairedBy (shapingOf o) stage (bare m) in
+        let f = paired o true stage m in
         let steps = o .«merge_levels» - 1 in
         let first : coarseWeights (bare m) (g .map) (g .count) ≡ bare (i .first) =
-        rw (← paired-by stage m) (coarsened-bare m (f .map) (f .count) (i .coarser)) in
-        let rest : traceOf o steps (record { mesh = bare (i .first); map = g .map; stage = stage + 1 }) ≡ bareState (i .state) =
-        rw (← paired-by stage m) (merge-trace steps (level + 1) (merged (i .first) (f .map) (stage + 1)) (i .steps)) in
-        ap (λ (w : Weights). traceOf o steps (record { mesh = w; map = g .map; stage = stage + 1 })) first ∙ rest
+        rw (← paired-by o stage m) (coarsened-bare m (f .map) (f .count) (i .coarser)) in
+        let rest : traceOf (shapingOf o) steps (record { mesh = bare (i .first); map = g .map; stage = stage + 1 }) ≡ bareState (i .state) =
+        rw (← paired-by o stage m) (merge-trace steps (level + 1) (merged (i .first) (f .map) (stage + 1)) (i .steps)) in
+        ap (λ (w : Weights). traceOf (shapingOf o) steps (record { mesh = w; map = g .map; stage = stage + 1 })) first ∙ rest
 
     -- The shapes from a level with aggregates on, if those after it are made of the next pattern and weights alone.
-    inner-shapes : endsAt o (suc more) (m .pattern) ≡ false → eqb (paired true stage m .count) (m .pattern .rows) ≡ false
-        → shapesIn (i .rest) ≡ shapesOf o more (i .state .stage) (bare (onward (i .next) (i .state)))
-        → shapesIn levels ≡ shapesOf o (suc more) stage (bare m)
+    inner-shapes : endsAt o (suc more) (m .pattern) ≡ false → eqb (paired o true stage m .count) (m .pattern .rows) ≡ false
+        → shapesIn (i .rest) ≡ shapesOf (shapingOf o) more (i .state .stage) (bare (onward (i .next) (i .state)))
+        → shapesIn levels ≡ shapesOf (shapingOf o) (suc more) stage (bare m)
     unfolding shapesOf
     inner-shapes p q on =
         let map = i .state .map in
         let count = i .state .mesh .pattern .rows in
         let next = sym (ap (λ (c : Mesh). c .pattern) (coarsened-is true m map count (i .afresh) .1)) in
-        rw (p, rw (paired-by stage m) at q, traced) (sym (ap shapesIn (i .is)) ∙ ap (λ (l : List Shape). innerShape (m .pattern) map count ∷ l)
-        (on ∙ ap (λ (p : Pattern). shapesOf o more (i .state .stage) (record { pattern = p; weights = i .state .mesh .weights })) next))
+        rw (p, rw (paired-by o stage m) at q, traced) (sym (ap shapesIn (i .is)) ∙ ap (λ (l : List Shape). innerShape (m .pattern) map count ∷ l)
+        (on ∙ ap (λ (p : Pattern). shapesOf (shapingOf o) more (i .state .stage) (record { pattern = p; weights = i .state .mesh .weights })) next))
 
   -- Where weights are given, the shapes of an accepted build are made of its pattern and weights alone.
   pub grow-shapes : (stores : Charge) (more level stage : ℕ) (used : Charge) (m : Mesh) {levels : List Level}
       → growOf o true stores more level stage used m ≡ accepted levels
-      → shapesIn levels ≡ shapesOf o more stage (record { pattern = m .pattern; weights = m .weights })
-  grow-shapes stores = grow-keeps o true stores (λ more _ stage m levels. shapesIn levels ≡ shapesOf o more stage (bare m))
+      → shapesIn levels ≡ shapesOf (shapingOf o) more stage (record { pattern = m .pattern; weights = m .weights })
+  grow-shapes stores = grow-keeps o true stores (λ more _ stage m levels. shapesIn levels ≡ shapesOf (shapingOf o) more stage (bare m))
       last-shapes (λ more level stage used m levels p q i on. inner-shapes stores more level stage used m levels i p q on)
 
 -- ---- the build

@@ -5,6 +5,7 @@ use Prim.Native.Nat.{ℕ, zero, suc, _+_, _-_, _*_, _%_}
 use lib.Dec.{eqb, leb}
 use lib.ListN.{length}
 use lib.Ieee.{Float}
+use Rattle.options.specs.declared.options.MultigridCoarseSolver.{MultigridCoarseSolver}
 use Rattle.options.specs.declared.options.MultigridOptions.{MultigridOptions}
 use Rattle.refusal.specs.Refusal.{noRows, storeTooSmall, notSymmetric, tooManyCoupled, badCoarseValue}
 use Rattle.options.specs.Options.{controlsAsked}
@@ -12,7 +13,7 @@ use Rattle.refusal.specs.Outcome.{Outcome, accepted, passed, ask, _>>=_, _>>_}
 use Rattle.vector.specs.Finite.{allFinite}
 use Rattle.coefficients.specs.Update.{Coefficients, kernelUpdateOf}
 use Rattle.coefficients.specs.Mirrors.{mirrorsAgree}
-use Rattle.aggregation.specs.Pairs.{Pairing, strengthsOf, pairsOf}
+use Rattle.aggregation.specs.Pairs.{Weighted, Pairing, strengthsOf, pairsOf}
 use Rattle.pattern.specs.Pattern.{Pattern, entries, coarse, coarsePositions, composeOf}
 use Rattle.galerkin.specs.Values.{sumsOf, symmetrizeOf, zeroDiagonalOf}
 use Rattle.faces.specs.Faces.{facesOf, faceOffsetsOf, neighborsOf, uppersOf, lowersOf, mirroredOf, diagonalsOf, diagonalsAsked, coupledCountOf, coupledRowsOf}
@@ -20,6 +21,26 @@ use Rattle.csr.specs.Questions.{matrixAsked}
 use Rattle.csr.specs.Weights.{weightsAsked}
 use Rattle.hierarchy.specs.Level.{Shape, Level, Hierarchy}
 use Rattle.hierarchy.specs.Refresh.{innerNumbers, lastNumbers, withSums}
+
+-- ---- controls
+
+-- the controls that shape a hierarchy: its patterns and aggregates depend on no others
+pub record Shaping : Type 0 where
+  pub coarsest : ℕ
+  pub levels : ℕ
+  pub merges : ℕ
+  pub solver : MultigridCoarseSolver
+  pub cap : ℕ
+
+-- those of a set of controls, which has no cap yet
+abbrev pub shapingOf : MultigridOptions → Shaping
+shapingOf o = record {
+  coarsest = o .«coarsest_cells»;
+  levels = o .«max_levels»;
+  merges = o .«merge_levels»;
+  solver = o .«coarse_solver»;
+  cap = 0;
+}
 
 -- ---- question 9
 
@@ -91,14 +112,22 @@ merged m map stage = record { mesh = m; map = map; stage = stage }
 abbrev pub kernelAsked : ℕ → Mesh → Outcome Coefficients
 kernelAsked level m = kernelUpdateOf level (m .pattern .rows) (diagonalsOf (m .pattern)) (uppersOf (m .pattern)) (m .values)
 
-module _ (given : Bool) where
-  -- `pairs` of a matrix by its weights, or by its values where none are given; upward at even stages
-  abbrev pub paired : ℕ → Mesh → Pairing
-  paired stage m =
-      let p = m .pattern in
-      pairsOf (record { rows = p .rows; offsets = p .offsets; columns = p .columns; weights = strengthsOf (not given) (cond given (m .weights) (m .values)) })
-      (eqb (stage % 2) 0)
+module _ (o : MultigridOptions) (given : Bool) where
+  -- what `pairs` reads of a matrix: its weights, or its values where none are given, and the cap
+  abbrev pub weightedBy : Mesh → Weighted
+  weightedBy m = record {
+    rows = m .pattern .rows;
+    offsets = m .pattern .offsets;
+    columns = m .pattern .columns;
+    weights = strengthsOf (not given) (cond given (m .weights) (m .values));
+    cap = shapingOf o .cap;
+  }
 
+  -- `pairs` of a matrix, upward at even stages
+  abbrev pub paired : ℕ → Mesh → Pairing
+  paired stage m = pairsOf (weightedBy m) (eqb (stage % 2) 0)
+
+module _ (given : Bool) where
   -- `galerkin` and `restrict_weights`: the matrix of the aggregates
   abbrev pub coarsened : Mesh → List ℕ → ℕ → Mesh
   coarsened m map count =
@@ -138,7 +167,7 @@ module _ (o : MultigridOptions) (given : Bool) where
   mergeOf zero level s = accepted s
   mergeOf (suc steps) level s = do
     _ ← kernelAsked level (s .mesh)
-    let g = paired given (s .stage) (s .mesh)
+    let g = paired o given (s .stage) (s .mesh)
     cond (fewCoupled o (s .mesh .pattern)) (accepted s)
         (cond (eqb (g .count) (s .mesh .pattern .rows)) (accepted (merged (s .mesh) (s .map) (s .stage + 1)))
         (do
@@ -159,7 +188,7 @@ module _ (o : MultigridOptions) (given : Bool) where
   growOf stores (suc more) level stage used m = do
     _ ← diagonalsAsked level (m .pattern)
     c ← kernelAsked level m
-    let g = paired given stage m
+    let g = paired o given stage m
     cond (fewCoupled o (m .pattern) || eqb (facesOf (m .pattern)) 0 || eqb (g .count) (m .pattern .rows)) (lastLevel o level m c)
         (do
           n ← innerNumbers o level (innerShape (m .pattern) (g .map) (g .count)) c

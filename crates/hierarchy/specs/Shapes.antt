@@ -1,19 +1,20 @@
--- The shapes of a build with face weights: what `build` does to patterns and weights alone. No coefficient is read.
+-- The shapes of a build with face weights: what `build` does to patterns and weights alone. No coefficient is read, and no control
+-- but those that shape.
 -- Definitions only.
-use mathlib.Core.Bool.{cond}
+use mathlib.Core.Bool.{Bool, cond, _||_}
 use mathlib.Core.List.{List, [], _∷_}
 use Prim.Native.Nat.{ℕ, zero, suc, _+_, _-_}
-use lib.Dec.{eqb}
+use lib.Dec.{eqb, leb}
 use lib.ListN.{length}
 use lib.Ieee.{Float}
-use Rattle.options.specs.declared.options.MultigridOptions.{MultigridOptions}
 use Rattle.aggregation.specs.Pairs.{Pairing, pairsOf}
 use Rattle.aggregation.specs.Turns.{weighted}
 use Rattle.pattern.specs.Pattern.{Pattern, entries, coarse, coarsePositions, composeOf}
 use Rattle.galerkin.specs.Contract.{restrictWeightsOf}
+use Rattle.faces.specs.Faces.{facesOf, coupledCountOf}
 use Rattle.hierarchy.specs.Level.{Shape}
-use Rattle.hierarchy.specs.Build.{lastShape, innerShape, fewCoupled, Input, patternIn}
-use Rattle.hierarchy.specs.Steps.{even, endsAt}
+use Rattle.hierarchy.specs.Build.{Shaping, shapingOf, lastShape, innerShape, Input, patternIn}
+use Rattle.hierarchy.specs.Steps.{even}
 
 -- a pattern with the weight of each entry
 pub record Weights : Type 0 where
@@ -26,10 +27,6 @@ pub record Traced : Type 0 where
   pub map : List ℕ
   pub stage : ℕ
 
--- `pairs` by weights
-abbrev pub pairedBy : ℕ → Weights → Pairing
-pairedBy stage m = pairsOf (weighted (m .pattern .rows) (m .pattern .offsets) (m .pattern .columns) (m .weights)) (even stage)
-
 -- the coarse pattern and its weights
 abbrev pub coarseWeights : Weights → List ℕ → ℕ → Weights
 coarseWeights m map count =
@@ -40,7 +37,15 @@ coarseWeights m map count =
       weights = restrictWeightsOf (entries q) (entries p) (coarsePositions p map count) (m .weights) count (q .offsets) (q .columns);
     }
 
-module _ (o : MultigridOptions) where
+module _ (h : Shaping) where
+  -- `pairs` by weights
+  abbrev pub pairedBy : ℕ → Weights → Pairing
+  pairedBy stage m = pairsOf (weighted (m .pattern .rows) (m .pattern .offsets) (m .pattern .columns) (m .weights) (h .cap)) (even stage)
+
+  -- whether few enough rows are coupled for the last level
+  abbrev pub fewIn : Pattern → Bool
+  fewIn p = leb (coupledCountOf p) (h .coarsest)
+
   -- a pairing g of the pattern made last
   abbrev pub traceJoined : (Traced → Traced) → Traced → Pairing → Traced
   traceJoined further s g =
@@ -55,12 +60,12 @@ module _ (o : MultigridOptions) where
   unfoldable pub traceOf : ℕ → Traced → Traced
   traceOf zero s = s
   traceOf (suc steps) s =
-      cond (fewCoupled o (s .mesh .pattern)) s (traceJoined (traceOf steps) s (pairedBy (s .stage) (s .mesh)))
+      cond (fewIn (s .mesh .pattern)) s (traceJoined (traceOf steps) s (pairedBy (s .stage) (s .mesh)))
 
   -- the merged steps of a level with the pairing g
   abbrev pub tracedFrom : ℕ → Weights → Pairing → Traced
   tracedFrom stage m g =
-      traceOf (o .«merge_levels» - 1) (record { mesh = coarseWeights m (g .map) (g .count); map = g .map; stage = stage + 1 })
+      traceOf (h .merges - 1) (record { mesh = coarseWeights m (g .map) (g .count); map = g .map; stage = stage + 1 })
 
   -- a level that pairs into s, and the shapes from the next level on
   abbrev pub shapeStep : (ℕ → Weights → List Shape) → Weights → Traced → List Shape
@@ -72,7 +77,7 @@ module _ (o : MultigridOptions) where
   -- a level, and the shapes from the next level on
   abbrev pub shapesStep : (ℕ → Weights → List Shape) → ℕ → ℕ → Weights → List Shape
   shapesStep deeper more stage m =
-      cond (endsAt o more (m .pattern)) (lastShape (m .pattern) ∷ [])
+      cond (fewIn (m .pattern) || eqb (facesOf (m .pattern)) 0 || eqb more 0) (lastShape (m .pattern) ∷ [])
       (let g = pairedBy stage m in
       cond (eqb (g .count) (m .pattern .rows)) (lastShape (m .pattern) ∷ []) (shapeStep deeper m (tracedFrom stage m g)))
 
@@ -84,4 +89,5 @@ module _ (o : MultigridOptions) where
 -- the shapes of a build with weights
 unfoldable pub patternOf : Input → List Shape
 patternOf x =
-    shapesOf (x .options) (x .options .«max_levels» - 1) 0 (record { pattern = patternIn x; weights = x .weights })
+    let h = shapingOf (x .options) in
+    shapesOf h (h .levels - 1) 0 (record { pattern = patternIn x; weights = x .weights })

@@ -43,7 +43,7 @@ module _ (o : MultigridOptions) (given : Bool) where
   abbrev pub mergeStep : (Merged → Outcome Merged) → ℕ → Merged → Outcome Merged
   mergeStep further level s = do
     _ ← kernelAsked level (s .mesh)
-    cond (fewCoupled o (s .mesh .pattern)) (accepted s) (joinedStep further s (paired given (s .stage) (s .mesh)))
+    cond (fewCoupled o (s .mesh .pattern)) (accepted s) (joinedStep further s (paired o given (s .stage) (s .mesh)))
 
   -- a level with aggregates: 16 and 17, 18 of the first coarse matrix, the merged steps, and 18 of the matrix that is summed afresh
   -- from the level by the composed map; then 9 of the next level, and the levels from there
@@ -63,7 +63,7 @@ module _ (o : MultigridOptions) (given : Bool) where
     _ ← diagonalsAsked level (m .pattern)
     c ← kernelAsked level m
     cond (endsAt o more (m .pattern)) (lastLevel o level m c)
-        (let g = paired given stage m in
+        (let g = paired o given stage m in
         cond (eqb (g .count) (m .pattern .rows)) (lastLevel o level m c) (innerLevel deeper stores level stage used m c g))
 
   -- the levels after one, so many of them at most

@@ -39,6 +39,7 @@ pub extern "C" fn probe_pairs(
         map: map,
         weights: weights,
         absolute: absolute != 0,
+        cap: 0,
     };
     aggregation::pairs(w, f, g, forward != 0)
 }

@@ -83,7 +83,7 @@ computed = (
 )
 
 -- The ring is paired by its weights; by its values it would be paired otherwise.
-pub weights-decide : (paired true 0 (meshIn (ring .input)) .map ≡ fine .links) × (paired false 0 (meshIn (ring .input)) .map ≡ 0 ∷ 0 ∷ 1 ∷ 1 ∷ [])
+pub weights-decide : (paired (ring .input .options) true 0 (meshIn (ring .input)) .map ≡ fine .links) × (paired (ring .input .options) false 0 (meshIn (ring .input)) .map ≡ 0 ∷ 0 ∷ 1 ∷ 1 ∷ [])
 unfolding ofInt ofBits lt absOf for iter tab pairs.strengthsOf pairs.considerOf aggregation-turns.entryOf pairs.strongestOf pairs.assignOf pairs.pairRowOf aggregation-turns.turnOf pairs.pairsOf
 weights-decide = (refl, refl)
 

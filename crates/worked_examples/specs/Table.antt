@@ -127,9 +127,9 @@ kernelMade m = do
 
 -- ---- the lines
 
--- the pattern p with these weights
+-- the pattern p with these weights, and no cap
 abbrev pub weigh : Pattern → List Float → Weighted
-weigh p v = record { rows = p .rows; offsets = p .offsets; columns = p .columns; weights = v }
+weigh p v = record { rows = p .rows; offsets = p .offsets; columns = p .columns; weights = v; cap = 0 }
 
 -- all weights of p equal to x
 abbrev pub alike : Pattern → Float → Weighted

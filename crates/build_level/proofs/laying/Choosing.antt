@@ -8,7 +8,7 @@ use native.Mathlib.Omega.{arith}
 use lib.Dec.{eqb, leb}
 use lib.Ieee.{Float}
 use Rattle.store.specs.Region.{part}
-use Rattle.store.proofs.store.Region.{wrote-at, kept-wrote, kept-self}
+use Rattle.store.proofs.store.Region.{kept-self}
 use Rattle.options.specs.declared.options.MultigridOptions.{MultigridOptions}
 use Rattle.aggregation.specs.declared.Graph.{Graph}
 use Rattle.aggregation.specs.Pairs.{strengthsOf, pairsOf}
@@ -122,11 +122,10 @@ module _ {w : List ℕ} {size : ℕ} {o : MultigridOptions} {t : Workspace} {s :
     chosen-pairs {F} {given} {z} {g} {r} told graph done =
         let ends : endsAt o (s .more) q ≡ false = sym ending ∙ told in
         let here : Paired (graphIn given t p) (pairsOf (weightedAt (graphIn given t p) w F) (even (s .stage))) w z r = rw graph at done in
-        let same : Paired (graphIn given t p) (paired given (s .stage) (meshAt w F given (levelIn t p))) w z r =
+        let same : Paired (graphIn given t p) (paired o given (s .stage) (meshAt w F given (levelIn t p))) w z r =
         rw (strengths-are given (t .weights) (p .values) (p .entries) F) at here in
-        let inside = graph-ok given refl .map in
         record {
           count = rw ends (same .count);
-          links = λ e. wrote-at (same .map) inside;
-          words = kept-wrote (same .map) (omega arith);
+          links = λ e. same .words .map;
+          words = same .words .below;
         }

@@ -1,7 +1,7 @@
 -- What the first coarse matrix and the merged steps lead to: how many pairings, how many rows, and a proper pattern.
 -- Assumes nothing.
 use mathlib.Core.Path.{_≡_, refl, ap, subst}
-use mathlib.Core.Bool.{Bool, true, false, not, cond}
+use mathlib.Core.Bool.{Bool, true, false, cond}
 use mathlib.Core.List.{List}
 use Prim.Native.Nat.{ℕ, zero, suc, _+_, _-_, _≤_}
 use native.Mathlib.Omega.{arith}
@@ -9,12 +9,11 @@ use lib.Dec.{eqb}
 use Rattle.options.specs.declared.options.MultigridOptions.{MultigridOptions}
 use Rattle.refusal.specs.Outcome.{accepted, _>>=_}
 use Rattle.refusal.proofs.Outcome.{accepted-one}
-use Rattle.aggregation.specs.Pairs.{Pairing, strengthsOf}
-use Rattle.aggregation.specs.Turns.{weighted}
+use Rattle.aggregation.specs.Pairs.{Pairing}
 use Rattle.aggregation.proofs.Numbers.{count-most}
 use Rattle.pattern.specs.Pattern.{Pattern, Valid, Maps, Onto}
 use Rattle.pattern.proofs.pattern.Coarse.{coarse-valid}
-use Rattle.hierarchy.specs.Build.{Mesh, Merged, merged, kernelAsked, paired, coarsened, coarsenedAsked, fewCoupled, mergeOf}
+use Rattle.hierarchy.specs.Build.{Mesh, Merged, merged, kernelAsked, weightedBy, paired, coarsened, coarsenedAsked, fewCoupled, mergeOf}
 use Rattle.hierarchy.specs.Steps.{even}
 use Rattle.hierarchy.specs.Proper.{Proper, Joined}
 use Rattle.hierarchy.proofs.Accepted.{then-split, coarsened-is, joinedBy, merge-keeps}
@@ -28,7 +27,7 @@ module _ (o : MultigridOptions) (given : Bool) where
   merge-stage zero level s {t} e = let h : s .stage ≡ t .stage = ap (λ (m : Merged). m .stage) (accepted-one e) in omega arith
   merge-stage (suc steps) level s {t} e =
       let k = then-split (kernelAsked level (s .mesh)) _ e in
-      let g = paired given (s .stage) (s .mesh) in
+      let g = paired o given (s .stage) (s .mesh) in
       go (λ s e. merge-stage steps level s e) g (fewCoupled o (s .mesh .pattern)) (eqb (g .count) (s .mesh .pattern .rows)) (k .2)
     where
       go : ((s : Merged) → mergeOf o given steps level s ≡ accepted t → t .stage ≤ s .stage + steps) → (g : Pairing) → (x y : Bool)
@@ -49,10 +48,9 @@ module _ (o : MultigridOptions) (given : Bool) where
       merge-keeps o given (λ (s : Merged). Valid (s .mesh .pattern) × (s .mesh .pattern .rows ≤ n)) (λ s z. z)
       (λ s z.
       let p = s .mesh .pattern in
-      let g = paired given (s .stage) (s .mesh) in
+      let g = paired o given (s .stage) (s .mesh) in
       let most : g .count ≤ p .rows =
-      count-most (weighted (p .rows) (p .offsets) (p .columns) (strengthsOf (not given) (cond given (s .mesh .weights) (s .mesh .values))))
-      (even (s .stage)) (valid-range (z .0)) in
+      count-most (weightedBy o given (s .mesh)) (even (s .stage)) (valid-range (z .0)) in
       let few = z .1 in
       (coarse-valid p (g .map) (g .count), omega arith))
       steps level s e (valid, h) .1

@@ -385,7 +385,7 @@ module _ {w z : List ℕ} {F : List Float} {o : MultigridOptions} {given : Bool}
   m = meshAt w F given (levelIn t p)
 
   abbrev g : Pairing
-  g = paired given (s .stage) m
+  g = paired o given (s .stage) m
 
   abbrev stores : Charge
   stores = charge (length w) (length F)
@@ -459,7 +459,7 @@ module _ {w z : List ℕ} {F : List Float} {o : MultigridOptions} {given : Bool}
     -- The way down may be taken.
     pub descend-ok : DescendOk z (length F) o t s p count
     descend-ok =
-        let j = first-joined given (s .stage) m (standing .proper) in
+        let j = first-joined o given (s .stage) m (standing .proper) in
         let few : g .count ≤ p .rows = count-most _ _ (valid-range (standing .proper .valid)) in
         let same = picked .2 in
         let more = some-more in

@@ -15,7 +15,7 @@ use Rattle.refusal.specs.declared.Verdict.{Verdict}
 use Rattle.refusal.specs.Outcome.{accepted, refused}
 use Rattle.store.specs.Region.{idx, part, Kept}
 use Rattle.store.specs.Vector.{tab}
-use Rattle.store.proofs.store.Region.{length-part, getD-part, wrote-at, kept-wrote, kept-on, kept-less, kept-part}
+use Rattle.store.proofs.store.Region.{length-part, getD-part, kept-wrote, kept-on, kept-less, kept-part}
 use Rattle.coefficients.specs.Update.{entryOf, Coefficients, kernelUpdateOf}
 use Rattle.coefficients.specs.Contract.{after}
 use Rattle.aggregation.specs.declared.Graph.{Graph}
@@ -203,14 +203,14 @@ module _ {w z : List ℕ} {floats : ℕ} {t : Workspace} {count most : ℕ} {s :
       module _ {y : List ℕ} {g : Graph} {joined : ℕ} (i : g ≡ graphIn t count most given)
           (p : Paired g (pairsOf (weightedAt g z F) (even stage)) z y joined) where
         weights-same : (given : Bool) → pairsOf (weightedAt (graphIn t count most given) w F) (even stage)
-            ≡ paired given stage (meshAt w F given (mergedIn t count most))
+            ≡ paired o given stage (meshAt w F given (mergedIn t count most))
         weights-same true = refl
         weights-same false = refl
 
-        pairing-same : pairsOf (weightedAt (graphIn t count most given) z F) (even stage) ≡ pairedAt given w F t count most stage
+        pairing-same : pairsOf (weightedAt (graphIn t count most given) z F) (even stage) ≡ pairedAt o given w F t count most stage
         pairing-same = rw (offsets-are, columns-are) (weights-same given)
 
-        done : Paired (graphIn t count most given) (pairedAt given w F t count most stage) z y joined
+        done : Paired (graphIn t count most given) (pairedAt o given w F t count most stage) z y joined
         done = rw pairing-same at (rw i at p)
 
         pub pair-paired : o .«coarsest_cells» < coupled → PairDone o given w y F t count most stage level (Attempt.Paired joined)
@@ -221,6 +221,6 @@ module _ {w z : List ℕ} {floats : ℕ} {t : Workspace} {count most : ℕ} {s :
             record {
               step = λ further map. rw (told, many);
               joined = λ c b. let x : c ≡ joined = cc in x ∙ done .count;
-              map = λ c b. wrote-at (done .map) (omega arith);
-              words = kept-on map-kept (kept-wrote (done .map) (omega arith));
+              map = λ c b. done .words .map;
+              words = kept-on map-kept (done .words .below);
             }

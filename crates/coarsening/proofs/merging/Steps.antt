@@ -1,7 +1,7 @@
 -- Merged steps: what each call requires, and the ways out.
 -- Assumes nothing.
 use mathlib.Core.Path.{_≡_, refl, sym, ap, _∙_}
-use mathlib.Core.Bool.{Bool, true, false, not, cond}
+use mathlib.Core.Bool.{Bool, true, false, not}
 use mathlib.Core.List.{List}
 use Prim.Native.Nat.{ℕ, zero, suc, _+_, _-_, _≤_}
 use native.Mathlib.Omega.{arith}
@@ -16,13 +16,12 @@ use Rattle.refusal.specs.Outcome.{Outcome, accepted, refused}
 use Rattle.store.specs.Region.{part, Kept}
 use Rattle.store.proofs.store.Region.{kept-on, kept-less, kept-self, kept-part}
 use Rattle.vector.specs.Finite.{allFinite}
-use Rattle.aggregation.specs.Pairs.{Weighted, strengthsOf, Pairing}
+use Rattle.aggregation.specs.Pairs.{Weighted, Pairing}
 use Rattle.aggregation.specs.Contract.{InRange}
-use Rattle.aggregation.specs.Turns.{weighted}
 use Rattle.aggregation.proofs.Numbers.{count-most}
 use Rattle.pattern.specs.Pattern.{entries, coarse, Maps, Onto, composeOf}
 use Rattle.pattern.proofs.pattern.Coarse.{coarse-few}
-use Rattle.hierarchy.specs.Build.{Mesh, Merged, merged, coarsened, mergeOf}
+use Rattle.hierarchy.specs.Build.{Mesh, Merged, merged, coarsened, mergeOf, weightedBy}
 use Rattle.hierarchy.specs.Steps.{even, joinedStep, mergeStep}
 use Rattle.hierarchy.proofs.Proper.{coarse-proper, valid-range, paired-maps, paired-onto}
 use Rattle.hierarchy.proofs.Twice.{compose-maps, compose-onto}
@@ -115,12 +114,11 @@ module _ {w : List ℕ} (F : List Float) {t : Workspace} {rows map count most st
 
       module _ {joined : ℕ} (e : found ≡ Attempt.Paired joined) where
         abbrev pairing : Pairing
-        pairing = pairedAt given w F t count most stage
+        pairing = pairedAt o given w F t count most stage
 
         abbrev graph : Weighted
         graph =
-            weighted count (here .pattern .offsets) (here .pattern .columns)
-            (strengthsOf (not given) (cond given (here .weights) (here .values)))
+            weightedBy o given here
 
         counted : joined ≡ pairing .count
         counted = p .joined joined e
