@@ -77,7 +77,7 @@ static struct multigrid_options maximum(void) {
 
 /* The greatest controls that question 6 takes. */
 static struct multigrid_options greatest(void) {
-    struct multigrid_options o = {2, 1, 64, 64, 64, UINT64_MAX, 64, 256, 128, 4, 16, 1, 1e308, 1e308, UINT64_MAX, 1};
+    struct multigrid_options o = {2, 1, 64, 64, 64, UINT64_MAX, 64, 256, 128, 4, 16, 1, 1e308, 1e308, UINT64_MAX, 1, 65535};
     return o;
 }
 

@@ -70,6 +70,7 @@ struct multigrid_options {
     double coarse_relative_tolerance; /* finite, not below 0; 0.01; Cholesky does not use it */
     uint64_t coarse_max_iterations;   /* at least 1; 500; Cholesky does not use it */
     uint64_t scale_correction;        /* 0 no, 1 yes: scale each coarse correction by its energy; 1 */
+    uint64_t max_aggregate_cells;     /* 0, or 2 to 65,535: rows of an aggregate, at most, in each pairing; 0 is no cap; 0 */
 };
 
 /* ---- answers */

@@ -37,6 +37,7 @@ class Controls(ctypes.Structure):
         ("coarse_relative_tolerance", _float),
         ("coarse_max_iterations", _word),
         ("scale_correction", _word),
+        ("max_aggregate_cells", _word),
     ]
 
 

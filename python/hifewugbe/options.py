@@ -62,6 +62,7 @@ class Options:
     coarse_relative_tolerance: float = 0.01
     coarse_max_iterations: int = 500
     scale_correction: bool = True
+    max_aggregate_cells: int = 0
 
     def __post_init__(self):
         for field in fields(self):

@@ -70,6 +70,16 @@ class Builds(unittest.TestCase):
         grown = Multigrid(offsets, columns, values, weights, Options(coarsest_cells=1, merge_levels=1, max_levels=128))
         self.assertEqual([level.rows for level in grown.levels], list(range(60, 0, -1)))
 
+    def test_a_cap_keeps_aggregates_small(self):
+        offsets, columns = [0, 6, 8, 10, 12, 14, 16], [0, 1, 2, 3, 4, 5, 0, 1, 0, 2, 0, 3, 0, 4, 0, 5]
+        values = [6.0] + 5 * [-1.0] + 5 * [-1.0, 2.0]
+        for cap, rows in [(0, [6, 1]), (3, [6, 4, 2, 1]), (65_535, [6, 1])]:
+            star = Multigrid(offsets, columns, values, None, Options(coarsest_cells=1, merge_levels=1, max_aggregate_cells=cap))
+            self.assertEqual([level.rows for level in star.levels], rows)
+        for cap in (1, 65_536):
+            with self.assertRaises(refusals.InvalidControls):
+                Multigrid(*PRESS, None, Options(max_aggregate_cells=cap))
+
     def test_refusals_have_names_sentences_and_places(self):
         for number, refused in refusals.REFUSALS.items():
             self.assertEqual((refused.number, issubclass(refused, Refusal)), (number, True))
@@ -216,7 +226,7 @@ class Calls(unittest.TestCase):
             self.assertEqual(LIBRARY.multigrid_statistics(handle, *stores).answer.question, 19)
 
     def test_structs_have_the_sizes_of_the_header(self):
-        self.assertEqual([ctypes.sizeof(kind) for kind in (Controls, Handle, Record)], [128, 152, 40])
+        self.assertEqual([ctypes.sizeof(kind) for kind in (Controls, Handle, Record)], [136, 160, 40])
 
 
 @unittest.skipIf(numpy is None, "NumPy is not installed")

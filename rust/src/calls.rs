@@ -23,6 +23,7 @@ pub struct Options {
     pub coarse_relative_tolerance: f64,
     pub coarse_max_iterations: u64,
     pub scale_correction: u64,
+    pub max_aggregate_cells: u64,
 }
 
 /// `struct multigrid_answer`

@@ -93,6 +93,8 @@ pub struct MultigridOptions {
     pub coarse_max_iterations: u64,
     /// Whether each coarse correction is scaled by its energy; yes.
     pub scale_correction: bool,
+    /// The most rows of an aggregate in each pairing, 2 to 65,535; zero, no cap, is the default.
+    pub max_aggregate_cells: u64,
 }
 
 /// The source's, but for the coarse solver: its own default, `PcgDic`, is refused.
@@ -117,6 +119,7 @@ impl Default for MultigridOptions {
             coarse_relative_tolerance: due.coarse_relative_tolerance,
             coarse_max_iterations: due.coarse_max_iterations,
             scale_correction: true,
+            max_aggregate_cells: due.max_aggregate_cells,
         }
     }
 }
@@ -151,6 +154,7 @@ impl MultigridOptions {
             coarse_relative_tolerance: self.coarse_relative_tolerance,
             coarse_max_iterations: self.coarse_max_iterations,
             scale_correction: u64::from(self.scale_correction),
+            max_aggregate_cells: self.max_aggregate_cells,
         }
     }
 }
@@ -177,11 +181,11 @@ mod tests {
 
     #[test]
     fn structs_have_the_sizes_of_the_header() {
-        assert_eq!(size_of::<calls::Options>(), 128);
-        assert_eq!(size_of::<calls::Hierarchy>(), 152);
+        assert_eq!(size_of::<calls::Options>(), 136);
+        assert_eq!(size_of::<calls::Hierarchy>(), 160);
         assert_eq!(
             (size_of::<calls::Built>(), size_of::<calls::Report>()),
-            (176, 64)
+            (184, 64)
         );
     }
 }

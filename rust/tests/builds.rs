@@ -47,6 +47,37 @@ fn weights_join_rows_or_leave_them_apart() {
 }
 
 #[test]
+fn a_cap_keeps_aggregates_small() {
+    // a star: row 0 and five others, each coupled with it alone
+    let columns = [0, 1, 2, 3, 4, 5, 0, 1, 0, 2, 0, 3, 0, 4, 0, 5];
+    let mut values = [-1.0; 16];
+    values[0] = 6.0;
+    for row in 0..5 {
+        values[7 + 2 * row] = 2.0;
+    }
+    let star = CsrMatrix {
+        rows: 6,
+        row_offsets: &[0, 6, 8, 10, 12, 14, 16],
+        column_indices: &columns,
+        values: &values,
+    };
+    let build = |cap| {
+        let options = MultigridOptions {
+            coarsest_cells: 1,
+            merge_levels: 1,
+            max_aggregate_cells: cap,
+            ..MultigridOptions::default()
+        };
+        AlgebraicMultigrid::new(star, &options).map(|built| rows(&built))
+    };
+    assert_eq!(build(0), Ok(vec![6, 1]));
+    assert_eq!(build(3), Ok(vec![6, 4, 2, 1]));
+    assert_eq!(build(65_535), Ok(vec![6, 1]));
+    assert_eq!(build(1), Err(Refusal::InvalidControls));
+    assert_eq!(build(65_536), Err(Refusal::InvalidControls));
+}
+
+#[test]
 fn a_refusal_names_its_place() {
     let values = [4.0, -2.0, -2.0, -1.0];
     let refused = AlgebraicMultigrid::new(two_rows(&values), &MultigridOptions::default()).err();

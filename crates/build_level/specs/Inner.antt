@@ -109,9 +109,9 @@ pub record ValuesLaid (w : List ℕ) (F G : List Float) (p : Place) (from level 
 
 -- ---- aggregates
 
--- the matrix of the level at p as `pairs` takes it: by its weights, or by its values where none are given
-abbrev pub graphIn : Bool → Workspace → Place → Graph
-graphIn given t p = record {
+-- the matrix of the level at p as `pairs` takes it: by its weights, or by its values where none are given, and the cap
+abbrev pub graphIn : Bool → Workspace → Place → ℕ → Graph
+graphIn given t p cap = record {
   rows = p .rows;
   entries = p .entries;
   offsets = p .offsets;
@@ -119,5 +119,5 @@ graphIn given t p = record {
   map = p .links;
   weights = cond given (t .weights) (p .values);
   absolute = not given;
-  cap = 0;
+  cap = cap;
 }

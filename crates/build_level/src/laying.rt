@@ -134,9 +134,9 @@ fn strengths_at(given: bool, weights: usize, values: usize) -> usize
     if given { weights } else { values }
 }
 
-// The matrix of the level as `pairs` takes it.
-fn graph_in(given: bool, t: Workspace, p: Place) -> Graph
-    ensures { λ r. ⌜ r ≡ graphIn given t p ⌝ }
+// The matrix of the level as `pairs` takes it, with the cap.
+fn graph_in(given: bool, t: Workspace, p: Place, cap: u64) -> Graph
+    ensures { λ r. ⌜ r ≡ graphIn given t p cap ⌝ }
 {
     let strengths = strengths_at(given, t.weights, p.values);
     Graph {
@@ -147,8 +147,7 @@ fn graph_in(given: bool, t: Workspace, p: Place) -> Graph
         map: p.links,
         weights: strengths,
         absolute: !given,
-        // no control sets a cap yet
-        cap: 0,
+        cap: cap,
     }
 }
 
@@ -170,6 +169,6 @@ pub fn choose(
     if ends_at(coupled, o.coarsest_cells, p.faces, s.more) {
         return p.rows;
     }
-    let g = graph_in(given, t, p);
+    let g = graph_in(given, t, p, o.max_aggregate_cells);
     aggregation::pairs(w, f, g, s.stage % 2 == 0)
 }

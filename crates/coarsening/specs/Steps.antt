@@ -39,9 +39,9 @@ facesIn t rows entries = record {
   lowers = t .lowers;
 }
 
--- as `pairs` takes it: with its weights, or with its values where no weights are given
-abbrev pub graphIn : Workspace → ℕ → ℕ → Bool → Graph
-graphIn t rows entries given = record {
+-- as `pairs` takes it: with its weights, or with its values where no weights are given, and the cap
+abbrev pub graphIn : Workspace → ℕ → ℕ → Bool → ℕ → Graph
+graphIn t rows entries given cap = record {
   rows = rows;
   entries = entries;
   offsets = t .«merged_offsets»;
@@ -49,7 +49,7 @@ graphIn t rows entries given = record {
   map = t .map;
   weights = cond given (t .«merged_weights») (t .«merged_values»);
   absolute = not given;
-  cap = 0;
+  cap = cap;
 }
 
 -- ---- questions 12 and 13

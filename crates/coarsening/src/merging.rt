@@ -66,9 +66,9 @@ fn faces_in(t: Workspace, rows: usize, entries: usize) -> Faces
     }
 }
 
-// The same for `pairs`: its weights, or its values where no weights are given.
-fn graph_in(t: Workspace, rows: usize, entries: usize, given: bool) -> Graph
-    ensures { λ r. ⌜ r ≡ graphIn t rows entries given ⌝ }
+// The same for `pairs`: its weights, or its values where no weights are given, and the cap.
+fn graph_in(t: Workspace, rows: usize, entries: usize, given: bool, cap: u64) -> Graph
+    ensures { λ r. ⌜ r ≡ graphIn t rows entries given cap ⌝ }
 {
     Graph {
         rows: rows,
@@ -82,8 +82,7 @@ fn graph_in(t: Workspace, rows: usize, entries: usize, given: bool) -> Graph
             t.merged_values
         },
         absolute: !given,
-        // no control sets a cap yet
-        cap: 0,
+        cap: cap,
     }
 }
 
@@ -163,7 +162,7 @@ fn pair(
             if coupled as u64 <= o.coarsest_cells {
                 return Attempt::Few;
             }
-            let g = graph_in(t, count, entries, given);
+            let g = graph_in(t, count, entries, given, o.max_aggregate_cells);
             let joined = aggregation::pairs(w, f, g, stage % 2 == 0);
             Attempt::Paired(joined)
         }

@@ -14,7 +14,7 @@ use Rattle.options.specs.declared.options.MultigridOptions.{MultigridOptions}
 use Rattle.options.specs.declared.options.MultigridSmoother.{MultigridSmoother}
 use Rattle.options.specs.declared.options.MultigridResidualNorm.{MultigridResidualNorm}
 use Rattle.options.specs.declared.options.MultigridCoarseSolver.{MultigridCoarseSolver}
-use Rattle.options.specs.Options.{defaultOptions, within, tolerable, validOf, controlsAsked}
+use Rattle.options.specs.Options.{defaultOptions, within, tolerable, capAllowed, validOf, controlsAsked}
 use Rattle.solver.specs.declared.answers.Built.{Built}
 use Rattle.export.specs.Flat.{isSet, smootherOf, residualNormOf, coarseSolverOf}
 use Rattle.export.specs.Structs.{inRange, controlsOf, handleOf, smootherNumber, residualNormNumber, coarseSolverNumber, structOf, withCholesky, defaultStruct, builtStruct}
@@ -22,10 +22,10 @@ use Rattle.export.specs.declared.structs.OptionsForC.{OptionsForC}
 
 -- ---- out of range
 
--- One test of seven that fails is enough.
-fails : (a b c d e f : Bool) → (a && false && b && c && d && e && f) ≡ false
-fails true b c d e f = refl
-fails false b c d e f = refl
+-- One test of eight that fails is enough.
+fails : (a b c d e f g : Bool) → (a && false && b && c && d && e && f && g) ≡ false
+fails true b c d e f g = refl
+fails false b c d e f g = refl
 
 -- The controls of a struct out of range are not valid,
 pub out-of-range-invalid : (o : OptionsForC) → inRange o ≡ false → validOf (controlsOf o) ≡ false
@@ -34,7 +34,7 @@ out-of-range-invalid o e = rw e (fails (
     within 1 (o .«max_sweeps») 64 && leb (o .«pre_sweeps») (o .«max_sweeps») && leb (o .«post_sweeps») (o .«max_sweeps»)
     && within 1 (o .«finest_sweeps») 64 && within 1 (o .«coarsest_cells») 256)
     (within 1 (o .«merge_levels») 4) (leb (o .«krylov_dimension») 16) (tolerable (o .«coarse_absolute_tolerance»))
-    (tolerable (o .«coarse_relative_tolerance»)) (leb 1 (o .«coarse_max_iterations»)))
+    (tolerable (o .«coarse_relative_tolerance»)) (leb 1 (o .«coarse_max_iterations»)) (capAllowed (o .«max_aggregate_cells»)))
 
 -- so that question 6 refuses them: an enum's number or a yes or no out of range is refused by 6.
 pub out-of-range : (o : OptionsForC) → inRange o ≡ false → controlsAsked (controlsOf o) ≡ refused invalidControls

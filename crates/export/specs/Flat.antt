@@ -27,9 +27,9 @@ residualNormOf n = cond (eqb n 0) AbsoluteL2 NormalizedL1
 abbrev pub coarseSolverOf : ℕ → MultigridCoarseSolver
 coarseSolverOf n = cond (eqb n 0) PcgDic Cholesky
 
--- the controls of their numbers, in the order of the source
-abbrev pub optionsOf : ℕ → ℕ → ℕ → ℕ → ℕ → ℕ → ℕ → ℕ → ℕ → ℕ → ℕ → ℕ → Float → Float → ℕ → ℕ → MultigridOptions
-optionsOf smoother norm pre post finest multiplier most coarsest levels merge krylov solver absolute relative iterations scale = record {
+-- the controls of their numbers, in the order of the source, and the cap
+abbrev pub optionsOf : ℕ → ℕ → ℕ → ℕ → ℕ → ℕ → ℕ → ℕ → ℕ → ℕ → ℕ → ℕ → Float → Float → ℕ → ℕ → ℕ → MultigridOptions
+optionsOf smoother norm pre post finest multiplier most coarsest levels merge krylov solver absolute relative iterations scale cap = record {
   smoother = smootherOf smoother;
   «residual_norm» = residualNormOf norm;
   «pre_sweeps» = pre;
@@ -46,4 +46,5 @@ optionsOf smoother norm pre post finest multiplier most coarsest levels merge kr
   «coarse_relative_tolerance» = relative;
   «coarse_max_iterations» = iterations;
   «scale_correction» = isSet scale;
+  «max_aggregate_cells» = cap;
 }

@@ -41,6 +41,7 @@ controlsOf o =
     optionsOf (o .smoother) (o .«residual_norm») (o .«pre_sweeps») (o .«post_sweeps») (o .«finest_sweeps») (o .«sweep_level_multiplier»)
     (o .«max_sweeps») (o .«coarsest_cells») (levelsAllowed o) (o .«merge_levels») (o .«krylov_dimension») (o .«coarse_solver»)
     (o .«coarse_absolute_tolerance») (o .«coarse_relative_tolerance») (o .«coarse_max_iterations») (o .«scale_correction»)
+    (o .«max_aggregate_cells»)
 
 -- the handle that a struct stands for
 unfoldable pub handleOf : HierarchyForC → Handle
@@ -83,6 +84,7 @@ structOf o = record {
   «coarse_relative_tolerance» = o .«coarse_relative_tolerance»;
   «coarse_max_iterations» = o .«coarse_max_iterations»;
   «scale_correction» = cond (o .«scale_correction») 1 0;
+  «max_aggregate_cells» = o .«max_aggregate_cells»;
 }
 
 -- controls with Cholesky for the coarse solver
@@ -104,6 +106,7 @@ withCholesky o = record {
   «coarse_relative_tolerance» = o .«coarse_relative_tolerance»;
   «coarse_max_iterations» = o .«coarse_max_iterations»;
   «scale_correction» = o .«scale_correction»;
+  «max_aggregate_cells» = o .«max_aggregate_cells»;
 }
 
 -- the controls that C starts from: the defaults of options.rs, with the coarse solver that question 7 asks for

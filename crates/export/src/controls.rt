@@ -38,7 +38,7 @@ pub fn coarse_solver_of(number: u64) -> MultigridCoarseSolver
     }
 }
 
-// The controls, in the order of the source.
+// The controls, in the order of the source, and the cap.
 pub fn options_of(
     smoother: u8,
     residual_norm: u8,
@@ -56,11 +56,13 @@ pub fn options_of(
     coarse_relative_tolerance: f64,
     coarse_max_iterations: u64,
     scale_correction: u8,
+    max_aggregate_cells: u64,
 ) -> MultigridOptions
     ensures { λ r.
         ⌜ r ≡ optionsOf smoother «residual_norm» «pre_sweeps» «post_sweeps» «finest_sweeps» «sweep_level_multiplier» «max_sweeps»
         «coarsest_cells» «max_levels» «merge_levels» «krylov_dimension» «coarse_solver» «coarse_absolute_tolerance»
-        «coarse_relative_tolerance» «coarse_max_iterations» «scale_correction» ⌝ }
+        «coarse_relative_tolerance» «coarse_max_iterations» «scale_correction»
+        «max_aggregate_cells» ⌝ }
 {
     MultigridOptions {
         smoother: smoother_of(smoother as u64),
@@ -79,5 +81,6 @@ pub fn options_of(
         coarse_relative_tolerance: coarse_relative_tolerance,
         coarse_max_iterations: coarse_max_iterations,
         scale_correction: scale_correction != 0,
+        max_aggregate_cells: max_aggregate_cells,
     }
 }

@@ -45,6 +45,7 @@ pub fn read_options(o: OptionsForC) -> MultigridOptions
         coarse_relative_tolerance: o.coarse_relative_tolerance,
         coarse_max_iterations: o.coarse_max_iterations,
         scale_correction: o.scale_correction != 0,
+        max_aggregate_cells: o.max_aggregate_cells,
     }
 }
 

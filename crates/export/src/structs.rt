@@ -20,6 +20,7 @@ pub struct OptionsForC {
     pub coarse_relative_tolerance: f64,
     pub coarse_max_iterations: u64,
     pub scale_correction: u64,
+    pub max_aggregate_cells: u64,
 }
 
 // The handle, with the controls as they were given to the build.

@@ -52,6 +52,7 @@ pub fn default_options() -> OptionsForC
         coarse_relative_tolerance: 0.01,
         coarse_max_iterations: 500,
         scale_correction: 1,
+        max_aggregate_cells: 0,
     }
 }
 

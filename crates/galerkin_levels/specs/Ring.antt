@@ -31,6 +31,7 @@ controls steps = record {
   «coarse_relative_tolerance» = zero64;
   «coarse_max_iterations» = 1;
   «scale_correction» = true;
+  «max_aggregate_cells» = 0;
 }
 
 -- the whole values, row by row: 4 on the diagonal, and on the faces of the ring −2 and −1 in turns

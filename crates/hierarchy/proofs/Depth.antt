@@ -12,7 +12,7 @@ use Rattle.store.proofs.store.Each.{both-l, both-r}
 use Rattle.options.specs.declared.options.MultigridOptions.{MultigridOptions}
 use Rattle.refusal.specs.declared.Refusal.{Refusal}
 use Rattle.refusal.specs.Refusal.{noRows, storeTooSmall, notSymmetric}
-use Rattle.options.specs.Options.{within, validOf, controlsAsked, tolerable}
+use Rattle.options.specs.Options.{within, capAllowed, validOf, controlsAsked, tolerable}
 use Rattle.refusal.specs.Outcome.{Outcome, accepted, passed, ask, _>>=_}
 use Rattle.pattern.specs.Pattern.{entries}
 use Rattle.faces.specs.Faces.{diagonalsAsked}
@@ -65,10 +65,10 @@ module _ (o : MultigridOptions) (given : Bool) (stores : Charge) where
         ending = w .ending;
       }
 
-among : (a b c d e f g : Bool) → (a && b && c && d && e && f && g) ≡ true → b ≡ true
-among a b c d e f g t =
+among : (a b c d e f g h : Bool) → (a && b && c && d && e && f && g && h) ≡ true → b ≡ true
+among a b c d e f g h t =
     both-r a b (both-l (a && b) c (both-l (a && b && c) d (both-l (a && b && c && d) e
-    (both-l (a && b && c && d && e) f (both-l (a && b && c && d && e && f) g t)))))
+    (both-l (a && b && c && d && e) f (both-l (a && b && c && d && e && f) g (both-l (a && b && c && d && e && f && g) h t))))))
 
 -- Valid controls allow at least one level.
 pub valid-levels : (o : MultigridOptions) → validOf o ≡ true → 1 ≤ o .«max_levels»
@@ -78,7 +78,7 @@ valid-levels o e = leb-true 1 (o .«max_levels») (both-l (leb 1 (o .«max_level
     within 1 (o .«max_sweeps») 64 && leb (o .«pre_sweeps») (o .«max_sweeps») && leb (o .«post_sweeps») (o .«max_sweeps»)
     && within 1 (o .«finest_sweeps») 64 && within 1 (o .«coarsest_cells») 256)
     (within 1 (o .«max_levels») 128) (within 1 (o .«merge_levels») 4) (leb (o .«krylov_dimension») 16) (tolerable (o .«coarse_absolute_tolerance»))
-    (tolerable (o .«coarse_relative_tolerance»)) (leb 1 (o .«coarse_max_iterations»)) e))
+    (tolerable (o .«coarse_relative_tolerance»)) (leb 1 (o .«coarse_max_iterations»)) (capAllowed (o .«max_aggregate_cells»)) e))
 
 -- Row sums change no level.
 pub levels-kept : (o : MultigridOptions) (levels : List Level) → withSums o levels .levels ≡ levels

@@ -76,6 +76,7 @@ controls cells levels steps = record {
   «coarse_relative_tolerance» = zero64;
   «coarse_max_iterations» = 1;
   «scale_correction» = true;
+  «max_aggregate_cells» = 0;
 }
 
 -- a matrix in compressed rows, without weights

@@ -32,14 +32,14 @@ pub record Shaping : Type 0 where
   pub solver : MultigridCoarseSolver
   pub cap : ℕ
 
--- those of a set of controls, which has no cap yet
+-- those of a set of controls
 abbrev pub shapingOf : MultigridOptions → Shaping
 shapingOf o = record {
   coarsest = o .«coarsest_cells»;
   levels = o .«max_levels»;
   merges = o .«merge_levels»;
   solver = o .«coarse_solver»;
-  cap = 0;
+  cap = o .«max_aggregate_cells»;
 }
 
 -- ---- question 9

@@ -24,8 +24,8 @@ fn byte(x: u64) -> u8 {
     (x % 256) as u8
 }
 
-// The controls in the order of options.rs.
-fn controls(c: &[u64; 16]) -> MultigridOptions {
+// The controls in the order of options.rs, and the cap.
+fn controls(c: &[u64; 17]) -> MultigridOptions {
     export::options_of(
         byte(c[0]),
         byte(c[1]),
@@ -43,6 +43,7 @@ fn controls(c: &[u64; 16]) -> MultigridOptions {
         float::of_bits(c[13]),
         c[14],
         byte(c[15]),
+        c[16],
     )
 }
 
@@ -77,8 +78,8 @@ fn read_sizes(text: &[u8]) -> Sizes {
 
 // The problem with these sizes, whose controls start at `at`, with the stores' sizes after them.
 fn sized(text: &[u8], at: usize, s: Sizes) -> Problem {
-    let mut c = [0u64; 16];
-    let at = reading::numbers(text, at, 16, &mut c);
+    let mut c = [0u64; 17];
+    let at = reading::numbers(text, at, 17, &mut c);
     let words = reading::number(text, at);
     let floats = reading::number(text, words.next);
     let statistics = reading::number(text, floats.next);

@@ -6,9 +6,9 @@ use Rattle.pattern.specs.declared.pattern.Coarsening.{Coarsening}
 use Rattle.faces.specs.declared.faces.Faces.{Faces}
 pub use Rattle.meshprobe.specs.Telling.{flag, flagOf, writtenOf, answerOf, Told}
 
--- the places of a matrix and its map, as numbers, without a cap
-abbrev pub graphOf : ℕ → ℕ → ℕ → ℕ → ℕ → ℕ → ℕ → Graph
-graphOf rows entries offsets columns map weights absolute =
+-- the places of a matrix and its map, as numbers, and the cap
+abbrev pub graphOf : ℕ → ℕ → ℕ → ℕ → ℕ → ℕ → ℕ → ℕ → Graph
+graphOf rows entries offsets columns map weights absolute cap =
     record {
       rows = rows;
       entries = entries;
@@ -17,7 +17,7 @@ graphOf rows entries offsets columns map weights absolute =
       map = map;
       weights = weights;
       absolute = isSet absolute;
-      cap = 0;
+      cap = cap;
     }
 
 -- the places of a fine pattern, its map and its coarse pattern, as numbers

@@ -25,10 +25,11 @@ pub extern "C" fn probe_pairs(
     weights: usize,
     absolute: u8,
     forward: u8,
+    cap: u64,
 ) -> usize
-    requires { ⌜ GraphOk (now w) (length (now f)) (graphOf rows entries offsets columns map weights absolute) ⌝ }
-    ensures { λ r. ⌜ Paired (graphOf rows entries offsets columns map weights absolute)
-        (pairsOf (weightedAt (graphOf rows entries offsets columns map weights absolute) (now (w .entry)) (now (f .entry))) (isSet forward))
+    requires { ⌜ GraphOk (now w) (length (now f)) (graphOf rows entries offsets columns map weights absolute cap) ⌝ }
+    ensures { λ r. ⌜ Paired (graphOf rows entries offsets columns map weights absolute cap)
+        (pairsOf (weightedAt (graphOf rows entries offsets columns map weights absolute cap) (now (w .entry)) (now (f .entry))) (isSet forward))
         (now (w .entry)) (now (w .exit)) r ⌝ }
 {
     let g = Graph {
@@ -39,7 +40,7 @@ pub extern "C" fn probe_pairs(
         map: map,
         weights: weights,
         absolute: absolute != 0,
-        cap: 0,
+        cap: cap,
     };
     aggregation::pairs(w, f, g, forward != 0)
 }

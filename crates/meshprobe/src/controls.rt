@@ -23,11 +23,13 @@ pub extern "C" fn probe_validate(
     coarse_relative_tolerance: f64,
     coarse_max_iterations: u64,
     scale_correction: u8,
+    max_aggregate_cells: u64,
 ) -> u8
     ensures { λ r.
         ⌜ r ≡ flag (validOf (optionsOf smoother «residual_norm» «pre_sweeps» «post_sweeps» «finest_sweeps» «sweep_level_multiplier» «max_sweeps»
         «coarsest_cells» «max_levels» «merge_levels» «krylov_dimension» «coarse_solver» «coarse_absolute_tolerance»
-        «coarse_relative_tolerance» «coarse_max_iterations» «scale_correction»)) ⌝ }
+        «coarse_relative_tolerance» «coarse_max_iterations» «scale_correction»
+        «max_aggregate_cells»)) ⌝ }
 {
     let options = export::options_of(
         smoother,
@@ -46,6 +48,7 @@ pub extern "C" fn probe_validate(
         coarse_relative_tolerance,
         coarse_max_iterations,
         scale_correction,
+        max_aggregate_cells,
     );
     number(options.validate())
 }

@@ -1,7 +1,7 @@
 -- The controls' defaults and ranges, and the two questions on them (options.rs). Definitions only.
-use mathlib.Core.Bool.{Bool, true, false, not, _&&_}
+use mathlib.Core.Bool.{Bool, true, false, not, _&&_, _||_}
 use Prim.Native.Nat.{ℕ, _^_}
-use lib.Dec.{leb}
+use lib.Dec.{eqb, leb}
 use lib.Ieee.{Float, binary64, ofBits, lt}
 use Rattle.float.specs.Float.{ratio, isFinite}
 use Rattle.options.specs.declared.options.MultigridSmoother.{MultigridSmoother}
@@ -11,7 +11,7 @@ use Rattle.options.specs.declared.options.MultigridOptions.{MultigridOpt
 use Rattle.refusal.specs.Refusal.{invalidControls, notCholesky}
 use Rattle.refusal.specs.Outcome.{Outcome, passed, ask, _>>_}
 
--- `Default` of options.rs
+-- `Default` of options.rs, and no cap
 unfoldable pub defaultOptions : MultigridOptions
 defaultOptions = record {
   smoother = MultigridSmoother.DicGaussSeidel;
@@ -30,6 +30,7 @@ defaultOptions = record {
   «coarse_relative_tolerance» = ratio 1 100;
   «coarse_max_iterations» = 500;
   «scale_correction» = true;
+  «max_aggregate_cells» = 0;
 }
 
 -- low ≤ n ≤ high
@@ -40,7 +41,11 @@ within low n high = leb low n && leb n high
 abbrev pub tolerable : Float → Bool
 tolerable t = isFinite t && not (lt t (ofBits binary64 0))
 
--- `validate` of options.rs
+-- no cap on the rows of an aggregate, or one of 2 to 65,535
+abbrev pub capAllowed : ℕ → Bool
+capAllowed cap = eqb cap 0 || within 2 cap 65535
+
+-- `validate` of options.rs, and the cap
 unfoldable pub validOf : MultigridOptions → Bool
 validOf o =
     within 1 (o .«max_sweeps») 64 && leb (o .«pre_sweeps») (o .«max_sweeps») && leb (o .«post_sweeps») (o .«max_sweeps»)
@@ -48,6 +53,7 @@ validOf o =
     && within 1 (o .«coarsest_cells») 256 && within 1 (o .«max_levels») 128 && within 1 (o .«merge_levels») 4
     && leb (o .«krylov_dimension») 16
     && tolerable (o .«coarse_absolute_tolerance») && tolerable (o .«coarse_relative_tolerance») && leb 1 (o .«coarse_max_iterations»)
+    && capAllowed (o .«max_aggregate_cells»)
 
 -- the coarse solver that question 7 asks for
 abbrev pub isCholesky : MultigridCoarseSolver → Bool

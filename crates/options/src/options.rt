@@ -45,6 +45,8 @@ pub struct MultigridOptions {
     pub coarse_relative_tolerance: f64,
     pub coarse_max_iterations: u64,
     pub scale_correction: bool,
+    // Most rows of an aggregate, in the matrix that is paired; zero is no cap. The Rust has none.
+    pub max_aggregate_cells: u64,
 }
 
 // A build's answer: its controls, the levels stored, and the finest matrix's rows and entries.
@@ -76,6 +78,7 @@ impl MultigridOptions {
             coarse_relative_tolerance: 0.01,
             coarse_max_iterations: 500,
             scale_correction: true,
+            max_aggregate_cells: 0,
         }
     }
 
@@ -94,6 +97,8 @@ impl MultigridOptions {
             & is_tolerable(self.coarse_absolute_tolerance)
             & is_tolerable(self.coarse_relative_tolerance)
             & (1 <= self.coarse_max_iterations)
+            & ((self.max_aggregate_cells == 0)
+                | ((2 <= self.max_aggregate_cells) & (self.max_aggregate_cells <= 65535)))
     }
 }
 

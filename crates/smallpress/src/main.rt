@@ -34,6 +34,7 @@ fn controls() -> MultigridOptions {
         coarse_relative_tolerance: 0.01,
         coarse_max_iterations: 500,
         scale_correction: true,
+        max_aggregate_cells: 0,
     }
 }
 

@@ -74,6 +74,7 @@ controls norm directions = record {
   «coarse_relative_tolerance» = zero64;
   «coarse_max_iterations» = 500;
   «scale_correction» = true;
+  «max_aggregate_cells» = 0;
 }
 
 -- P on one level

@@ -37,6 +37,7 @@ controls = record {
   «coarse_relative_tolerance» = zero64;
   «coarse_max_iterations» = 1;
   «scale_correction» = true;
+  «max_aggregate_cells» = 0;
 }
 
 -- one cell whose coefficient is 1, with a face weight

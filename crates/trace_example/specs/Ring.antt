@@ -33,6 +33,7 @@ controls = record {
   «coarse_relative_tolerance» = zero64;
   «coarse_max_iterations» = 1;
   «scale_correction» = true;
+  «max_aggregate_cells» = 0;
 }
 
 -- the entries of the ring: d on the diagonal, a at the faces 0-1 and 2-3, b at 1-2 and 3-0

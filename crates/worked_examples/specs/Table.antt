@@ -48,6 +48,7 @@ sweeps pre post multiplier maximum = record {
   «coarse_relative_tolerance» = zero64;
   «coarse_max_iterations» = 500;
   «scale_correction» = true;
+  «max_aggregate_cells» = 0;
 }
 
 -- whether two lists are the same
@@ -148,6 +149,12 @@ aggregates =
     ∷ same (pairsOf (alike tree4 one64) true .map) (0 ∷ 0 ∷ 1 ∷ 1 ∷ [])
     ∷ eqb (pairsOf (alike path3 zero64) true .count) 3
     ∷ []
+
+-- path of 3 with a cap of 2, up and down: the last row finds its neighbour's aggregate full (Q-3)
+abbrev pub cappedPath : List Bool
+cappedPath =
+    let capped : Weighted = record { rows = 3; offsets = path3 .offsets; columns = path3 .columns; weights = filled (entries path3) one64; cap = 2 } in
+    same (pairsOf capped true .map) (0 ∷ 0 ∷ 1 ∷ []) ∷ same (pairsOf capped false .map) (1 ∷ 0 ∷ 0 ∷ []) ∷ []
 
 -- path of 4, diagonal 2, pairs 0 0 1 1: coarse 2, −1; −1, 2, as a build without weights makes it
 abbrev pub coarsePath : List Bool

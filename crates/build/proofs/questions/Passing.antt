@@ -12,7 +12,7 @@ use Rattle.store.proofs.store.Each.{both-l, both-r}
 use Rattle.options.specs.declared.options.MultigridOptions.{MultigridOptions}
 use Rattle.refusal.specs.Refusal.{invalidControls, notCholesky, noRows, storeTooSmall}
 use Rattle.refusal.specs.declared.Verdict.{Verdict}
-use Rattle.options.specs.Options.{within, tolerable, validOf, isCholesky, controlsAsked}
+use Rattle.options.specs.Options.{within, tolerable, capAllowed, validOf, isCholesky, controlsAsked}
 use Rattle.refusal.specs.Outcome.{passed, ask, verdictOf}
 use Rattle.csr.specs.Questions.{matrixAsked}
 use Rattle.csr.specs.Weights.{weightsAsked}
@@ -22,10 +22,11 @@ use Rattle.hierarchy.specs.Build.{charge, fixedCharge, holds, Input}
 use Rattle.build.specs.AskingContract.{weighedAsked, arraysAsked, roomAsked, askedOf, lending, ArraysAsked, Asked, ControlsFit, ChargeOk, ArraysFit, Fitting}
 use Rattle.build.proofs.questions.Chains.{then-passed}
 
-amid : (a b c d e f g h i j k : Bool) → (a && b && c && d && e && f && g && h && i && j && k) ≡ true
+amid : (a b c d e f g h i j k l : Bool) → (a && b && c && d && e && f && g && h && i && j && k && l) ≡ true
     → (e ≡ true) × (f ≡ true) × (g ≡ true) × (h ≡ true)
-amid a b c d e f g h i j k t =
-    let t10 = both-l (a && b && c && d && e && f && g && h && i && j) k t in
+amid a b c d e f g h i j k l t =
+    let t11 = both-l (a && b && c && d && e && f && g && h && i && j && k) l t in
+    let t10 = both-l (a && b && c && d && e && f && g && h && i && j) k t11 in
     let t9 = both-l (a && b && c && d && e && f && g && h && i) j t10 in
     let t8 = both-l (a && b && c && d && e && f && g && h) i t9 in
     let t7 = both-l (a && b && c && d && e && f && g) h t8 in
@@ -44,7 +45,7 @@ controls-fit o e =
     let t = amid (within 1 (o .«max_sweeps») 64) (leb (o .«pre_sweeps») (o .«max_sweeps»)) (leb (o .«post_sweeps») (o .«max_sweeps»))
     (within 1 (o .«finest_sweeps») 64) (within 1 (o .«coarsest_cells») 256) (within 1 (o .«max_levels») 128) (within 1 (o .«merge_levels») 4)
     (leb (o .«krylov_dimension») 16) (tolerable (o .«coarse_absolute_tolerance»)) (tolerable (o .«coarse_relative_tolerance»))
-    (leb 1 (o .«coarse_max_iterations»)) e in
+    (leb 1 (o .«coarse_max_iterations»)) (capAllowed (o .«max_aggregate_cells»)) e in
     record {
       coarsest = leb-true (o .«coarsest_cells») 256 (both-r (leb 1 (o .«coarsest_cells»)) (leb (o .«coarsest_cells») 256) (t .0));
       merges = leb-true (o .«merge_levels») 4 (both-r (leb 1 (o .«merge_levels»)) (leb (o .«merge_levels») 4) (t .2));

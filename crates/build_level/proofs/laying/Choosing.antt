@@ -77,8 +77,8 @@ module _ {w : List ℕ} {size : ℕ} {o : MultigridOptions} {t : Workspace} {s :
       })
 
   -- Its aggregates may be chosen.
-  pub graph-ok : {g : Graph} (given : Bool) → g ≡ graphIn given t p → GraphOk w size g
-  graph-ok {g} given is =
+  pub graph-ok : {g : Graph} {cap : ℕ} (given : Bool) → g ≡ graphIn given t p cap → GraphOk w size g
+  graph-ok given is =
       let room = ok .room in
       let below = words-below room in
       let under = floats-below room in
@@ -117,12 +117,13 @@ module _ {w : List ℕ} {size : ℕ} {o : MultigridOptions} {t : Workspace} {s :
         }
 
     -- Any other has the aggregates of `pairs`.
-    pub chosen-pairs : {F : List Float} {given : Bool} {z : List ℕ} {g : Graph} {r : ℕ} → last ≡ false → g ≡ graphIn given t p
-        → Paired g (pairsOf (weightedAt g w F) (even (s .stage))) w z r → Chosen w z F o given t s p r
-    chosen-pairs {F} {given} {z} {g} {r} told graph done =
+    pub chosen-pairs : {F : List Float} {given : Bool} {z : List ℕ} {g : Graph} {r : ℕ} → last ≡ false
+        → g ≡ graphIn given t p (o .«max_aggregate_cells») → Paired g (pairsOf (weightedAt g w F) (even (s .stage))) w z r → Chosen w z F o given t s p r
+    chosen-pairs {F} {given} {z} {g} {r} told at-p done =
+        let graph = graphIn given t p (o .«max_aggregate_cells») in
         let ends : endsAt o (s .more) q ≡ false = sym ending ∙ told in
-        let here : Paired (graphIn given t p) (pairsOf (weightedAt (graphIn given t p) w F) (even (s .stage))) w z r = rw graph at done in
-        let same : Paired (graphIn given t p) (paired o given (s .stage) (meshAt w F given (levelIn t p))) w z r =
+        let here : Paired graph (pairsOf (weightedAt graph w F) (even (s .stage))) w z r = rw at-p at done in
+        let same : Paired graph (paired o given (s .stage) (meshAt w F given (levelIn t p))) w z r =
         rw (strengths-are given (t .weights) (p .values) (p .entries) F) at here in
         record {
           count = rw ends (same .count);

@@ -131,8 +131,8 @@ module _ {w z : List ℕ} {floats : ℕ} {t : Workspace} {count most : ℕ} {s :
   })
 
   -- What `pairs` requires.
-  pub graph-requires : {g : Graph} (given : Bool) → g ≡ graphIn t count most given → GraphOk z floats g
-  graph-requires {g} given e =
+  pub graph-requires : {g : Graph} {cap : ℕ} (given : Bool) → g ≡ graphIn t count most given cap → GraphOk z floats g
+  graph-requires given e =
       let k = r .ok .work in
       let l = r .kept .size in
       let range : InRange count most (own .offsets) (own .columns) = rw (size (r .ok)) at (valid-range (r .ok .proper .valid)) in
@@ -200,17 +200,21 @@ module _ {w z : List ℕ} {floats : ℕ} {t : Workspace} {count most : ℕ} {s :
           }
 
       -- The rows are paired.
-      module _ {y : List ℕ} {g : Graph} {joined : ℕ} (i : g ≡ graphIn t count most given)
+      module _ {y : List ℕ} {g : Graph} {joined : ℕ} (i : g ≡ graphIn t count most given (o .«max_aggregate_cells»))
           (p : Paired g (pairsOf (weightedAt g z F) (even stage)) z y joined) where
-        weights-same : (given : Bool) → pairsOf (weightedAt (graphIn t count most given) w F) (even stage)
+        -- the matrix as `pairs` takes it
+        abbrev graph : Bool → Graph
+        graph given = graphIn t count most given (o .«max_aggregate_cells»)
+
+        weights-same : (given : Bool) → pairsOf (weightedAt (graph given) w F) (even stage)
             ≡ paired o given stage (meshAt w F given (mergedIn t count most))
         weights-same true = refl
         weights-same false = refl
 
-        pairing-same : pairsOf (weightedAt (graphIn t count most given) z F) (even stage) ≡ pairedAt o given w F t count most stage
+        pairing-same : pairsOf (weightedAt (graph given) z F) (even stage) ≡ pairedAt o given w F t count most stage
         pairing-same = rw (offsets-are, columns-are) (weights-same given)
 
-        done : Paired (graphIn t count most given) (pairedAt o given w F t count most stage) z y joined
+        done : Paired (graph given) (pairedAt o given w F t count most stage) z y joined
         done = rw pairing-same at (rw i at p)
 
         pub pair-paired : o .«coarsest_cells» < coupled → PairDone o given w y F t count most stage level (Attempt.Paired joined)

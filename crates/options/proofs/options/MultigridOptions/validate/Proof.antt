@@ -7,7 +7,7 @@ use Rattle.options.proofs.options.MultigridOptions.validate.Tie as tie
 
 returns : tie.Need-returns
 unfolding validOf
-returns c = rw (c .before .is-tolerable2 .ensures, c .before .before .is-tolerable .ensures)
+returns c = rw (c .before .before .before .before .is-tolerable2 .ensures, c .before .before .before .before .before .is-tolerable .ensures)
 
 pub validate-spec : {M : Type 1} → statement M
 validate-spec = tie.close (tie.spec (λ c κs. search needs) (λ c κs. search needs) returns)
