@@ -24,7 +24,7 @@ SIDE, DEEP = (32, 10) if QUICK else (160, 32)
 
 
 def meshes():
-    """Name, matrix and right-hand side of each."""
+    """Name, matrix and right-hand side of each, and last of a long narrow plane of as many cells as the others have, for the cap alone."""
     draw = random.Random(1)
     plane, box = (SIDE, SIDE), (DEEP, DEEP, DEEP)
     rough = [10 ** draw.uniform(-DECADES / 2, DECADES / 2) for _ in range(SIDE * SIDE)]
@@ -35,6 +35,7 @@ def meshes():
         ("plane, rough", laplacian(plane, rough)),
         ("box", laplacian(box)),
         ("box, layers", laplacian(box, layers)),
+        ("long and narrow", laplacian((16, SIDE * SIDE // 16))),
     ]:
         # As the calls take them, so that no time goes into copies.
         kept = [lend(part, kind, "matrix").kept for part, kind in zip(matrix, (WORDS, WORDS, FLOATS))]
@@ -90,12 +91,13 @@ def joined(grids):
 
 
 def main():
-    grids = list(meshes())
+    *grids, narrow = meshes()
     print(f"planes of {SIDE} by {SIDE} cells, boxes of {DEEP} by {DEEP} by {DEEP}: iterations; build + solve; operator complexity")
     table("smoother", [(smoother.name.lower(), {"smoother": smoother}) for smoother in Smoother], grids)
     table("krylov_dimension", [(str(k), {"krylov_dimension": k}) for k in (0, 1, 2, 4, 8, 16)], grids)
     table("merge_levels", [(str(k), {"merge_levels": k}) for k in (1, 2, 3, 4)], grids)
     table("scale_correction", [("yes", {}), ("no", {"scale_correction": False})], grids)
+    table("max_aggregate_cells", [(str(k), {"max_aggregate_cells": k}) for k in (0, 8, 4, 3, 2)], [*grids, narrow])
     sweeps = [(0, 1), (0, 2), (1, 1), (2, 2), (0, 4)]
     table("pre_sweeps, post_sweeps", [(f"{pre}, {post}", {"pre_sweeps": pre, "post_sweeps": post}) for pre, post in sweeps], grids)
     table("finest_sweeps", [(str(k), {"finest_sweeps": k}) for k in (1, 2, 4)], grids)

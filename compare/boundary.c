@@ -14,9 +14,9 @@ static void expect(int holds, const char *name) {
     }
 }
 
-static int valid(uint64_t pre_sweeps, uint64_t coarse_max_iterations) {
+static int valid(uint64_t pre_sweeps, uint64_t coarse_max_iterations, uint64_t max_aggregate_cells) {
     return probe_validate(2, 1, pre_sweeps, 2, 1, 1, 4, 10, 64, 2, 4, 1, 1e-12, 0.01, coarse_max_iterations,
-                          1);
+                          1, max_aggregate_cells);
 }
 
 static int equal(const uint32_t *found, const uint32_t *due, size_t n) {
@@ -46,7 +46,7 @@ static void path(void) {
     const uint32_t positions[10] = {0, 0, 0, 0, 1, 2, 3, 3, 3, 3}, one[4] = {0, 0, 0, 0};
     double given[10];
 
-    expect(probe_pairs(w, 55, f, 28, 4, 10, 0, 5, 15, 10, 0, 1) == 2 && equal(w + 15, map, 4), "probe_pairs");
+    expect(probe_pairs(w, 55, f, 28, 4, 10, 0, 5, 15, 10, 0, 1, 0) == 2 && equal(w + 15, map, 4), "probe_pairs");
     expect(probe_coarse_pattern(w, 55, 4, 10, 2, 0, 5, 15, 19, 29, 32, 42) == 4 &&
                equal(w + 19, positions, 10) && equal(w + 29, starts, 3) && equal(w + 32, columns, 4),
            "probe_coarse_pattern");
@@ -221,7 +221,8 @@ int main(void) {
     expect(probe_of_bits(UINT64_C(0x4000000000000000)) == 2.0, "probe_of_bits");
     expect(probe_saturating_add(UINT64_MAX, 1) == UINT64_MAX, "probe_saturating_add");
     expect(probe_saturating_mul(6, 7) == 42, "probe_saturating_mul");
-    expect(valid(0, 500) == 1 && valid(5, 500) == 0 && valid(0, 0) == 0, "probe_validate");
+    expect(valid(0, 500, 0) == 1 && valid(5, 500, 0) == 0 && valid(0, 0, 0) == 0 && valid(0, 500, 1) == 0,
+           "probe_validate");
     expect(probe_dot(store, 6, 1, 4, 2, out, 1) == 1 && out[0] == 11.0, "probe_dot");
     expect(probe_norm_l2(store, 6, 1, 2, out, 1) == 1 && out[0] == 5.0, "probe_norm_l2");
     expect(probe_all_finite(store, 6, 4, 2) == 1, "probe_all_finite");

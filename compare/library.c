@@ -45,7 +45,7 @@ static void sizes(void) {
                options.max_levels == 64 && options.merge_levels == 2 && options.krylov_dimension == 4 &&
                options.coarse_solver == MULTIGRID_CHOLESKY && options.coarse_absolute_tolerance == 1e-12 &&
                options.coarse_relative_tolerance == 0.01 && options.coarse_max_iterations == 500 &&
-               options.scale_correction == 1,
+               options.scale_correction == 1 && options.max_aggregate_cells == 0,
            "multigrid_default_options");
     struct multigrid_charge charge = multigrid_charge(2, 4, options, 2);
     expect(charge.words == 16 * 2 + 12 * 4 + 64 + 2 * (5 * 2 + 4 * 4 + 8) &&
@@ -83,6 +83,12 @@ static void builds(void) {
     options = controls();
     options.scale_correction = 2;
     expect(with_values(options).answer.question == MULTIGRID_INVALID_CONTROLS, "multigrid_new");
+    /* A cap of 1 is none; one of 2 is. */
+    options = controls();
+    options.max_aggregate_cells = 1;
+    expect(with_values(options).answer.question == MULTIGRID_INVALID_CONTROLS, "multigrid_new");
+    options.max_aggregate_cells = 2;
+    expect(with_values(options).answer.question == MULTIGRID_DONE, "multigrid_new");
 }
 
 /* The small press: built, solved, refreshed with four times the values, and solved again. */

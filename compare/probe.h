@@ -23,7 +23,7 @@ uint8_t probe_validate(uint8_t smoother, uint8_t residual_norm, uint64_t pre_swe
                        uint64_t coarsest_cells, uint64_t max_levels, uint64_t merge_levels,
                        uint64_t krylov_dimension, uint8_t coarse_solver, double coarse_absolute_tolerance,
                        double coarse_relative_tolerance, uint64_t coarse_max_iterations,
-                       uint8_t scale_correction);
+                       uint8_t scale_correction, uint64_t max_aggregate_cells);
 
 /* Whether the answer is finite, and then the answer in out[0].
  * Required: a + n <= f_length, b + n <= f_length, 1 <= out_length; out does not overlap f. */
@@ -42,12 +42,12 @@ uint64_t probe_check_weights(const double *weights, size_t weights_length, size_
 
 /* The aggregate of each row is written to the map, and the sizes of the aggregates behind it; the answer is their
  * count. The strengths are the weights, or, where absolute is not 0, the absolute values of what stands there. Rows
- * upward where forward is not 0.
+ * upward where forward is not 0. An aggregate of cap rows is full, where cap is not 0.
  * Required: rows <= 65536, offsets + rows + 1 <= map, columns + entries <= map, map + 2 * rows <= w_length,
  * weights + entries <= f_length, each offset at most entries, each column below rows; w does not overlap f. */
 size_t probe_pairs(uint32_t *w, size_t w_length, const double *f, size_t f_length, size_t rows, size_t entries,
                    size_t offsets, size_t columns, size_t map, size_t weights, uint8_t absolute,
-                   uint8_t forward);
+                   uint8_t forward, uint64_t cap);
 
 /* The coarse pattern and the position of each fine entry in it; the answer is the number of coarse entries. Words
  * from positions on are free to change.

@@ -1,4 +1,5 @@
-//! `new` and `new_with_face_weights` of mod.rs: default controls but Cholesky, so two pairings to a level.
+//! `new` and `new_with_face_weights` of mod.rs: default controls but Cholesky, so two pairings to a level. With a cap on
+//! aggregates ours stands beside ours without one, since the Rust has none.
 
 use crate::grid::{Grid, noise};
 use crate::measure::Kernel;
@@ -25,6 +26,35 @@ pub fn by_values(grid: &Grid) -> Box<dyn Kernel> {
 
 pub fn by_weights(grid: &Grid) -> Box<dyn Kernel> {
     Box::new(Build::new(grid, Some(grid.weights.clone())))
+}
+
+/// Two builds of ours: without a cap, in the place of the Rust's, and with a cap of 8.
+struct Capped {
+    none: Build,
+    eight: Build,
+}
+
+pub fn capped(grid: &Grid) -> Box<dyn Kernel> {
+    let none = Build::new(grid, None);
+    let mut eight = Build::new(grid, None);
+    eight.options.max_aggregate_cells = 8;
+    assert!(eight.build(), "the stores hold it with a cap too");
+    Box::new(Capped { none, eight })
+}
+
+impl Kernel for Capped {
+    fn clear(&mut self) {
+        self.none.clear();
+        self.eight.clear();
+    }
+
+    fn rust(&mut self) {
+        self.none.ours();
+    }
+
+    fn ours(&mut self) {
+        self.eight.ours();
+    }
 }
 
 impl Build {
@@ -69,6 +99,15 @@ impl Build {
         }
     }
 
+    /// Whether ours is accepted.
+    fn build(&mut self) -> bool {
+        let mut stores = std::mem::take(&mut self.stores);
+        let weights = self.weights.as_deref();
+        let answer = lent::build(self.lent(), weights, &self.options, &mut stores);
+        self.stores = stores;
+        answer.is_ok()
+    }
+
     /// As many levels of as many rows; compare/ has the rest of them, bit for bit.
     fn test(&mut self) {
         self.clear();
@@ -103,10 +142,6 @@ impl Kernel for Build {
     }
 
     fn ours(&mut self) {
-        let mut stores = std::mem::take(&mut self.stores);
-        let weights = self.weights.as_deref();
-        let answer = lent::build(self.lent(), weights, &self.options, &mut stores);
-        self.stores = stores;
-        black_box(answer.is_ok());
+        black_box(self.build());
     }
 }

@@ -1,4 +1,4 @@
-//! A load on a square of cells, and what lays it into the stores.
+//! A load on a rectangle of cells, and what lays it into the stores.
 
 use compare::random::Random;
 use multigrid::load;
@@ -11,8 +11,8 @@ pub struct Grid {
 
 impl Grid {
     /// The load of a seed; the weights are its conductances, and on the diagonal zero.
-    pub fn new(seed: u64, side: usize) -> Self {
-        let load = load(seed, [side as u64, side as u64, 1]).expect("a load");
+    pub fn new(seed: u64, [wide, high]: [usize; 2]) -> Self {
+        let load = load(seed, [wide as u64, high as u64, 1]).expect("a load");
         let weights = load.values.iter().map(|&value| f64::max(0.0, -value));
         let weights = weights.collect();
         let wide = |numbers: Vec<u32>| numbers.into_iter().map(|number| number as usize).collect();

@@ -194,6 +194,25 @@ const ROWS: &[Row] = &[
     },
 ];
 
+/// A long narrow grid, of as many cells as the greatest square has, and its rows. No ratio is wanted of them.
+const NARROW: [usize; 2] = [16, 4_096];
+const NARROW_ROWS: &[Row] = &[
+    Row {
+        name: "build",
+        most: None,
+        wanted_from: 256,
+        sides: &[256],
+        kernel: build::by_values,
+    },
+    Row {
+        name: "build, cap 8 beside no cap",
+        most: None,
+        wanted_from: 256,
+        sides: &[256],
+        kernel: build::capped,
+    },
+];
+
 /// What the words of the command ask for: the rounds, the rows whose names start so, and the sides of the grids; or the stack.
 struct Asked {
     rounds: usize,
@@ -241,7 +260,8 @@ fn asked() -> Result<Asked, String> {
             asked.rounds
         ));
     }
-    if !ROWS.iter().any(|row| row.name.starts_with(&asked.only)) {
+    let mut rows = ROWS.iter().chain(NARROW_ROWS);
+    if !rows.any(|row| row.name.starts_with(&asked.only)) {
         return Err(format!("no row starts with {:?}", asked.only));
     }
     if !asked.sides.iter().all(|side| SIDES.contains(side)) {
@@ -264,13 +284,16 @@ fn run(asked: &Asked) -> ExitCode {
         "{:<28} {:>9} {:>11} {:>11} {:>10} {:>7}",
         "kernel", "grid", "Rust", "ours", "ours/Rust", "wanted"
     );
+    let squares = asked.sides.iter().map(|&side| (ROWS, side, [side, side]));
+    let narrow = asked.sides.iter().filter(|&&side| side == 256);
+    let narrow = narrow.map(|&side| (NARROW_ROWS, side, NARROW));
     let mut missed = false;
-    for &side in &asked.sides {
-        let grid = Grid::new(SEED, side);
-        let rows = ROWS.iter().filter(|row| row.sides.contains(&side));
+    for (rows, side, extents) in squares.chain(narrow) {
+        let grid = Grid::new(SEED, extents);
+        let rows = rows.iter().filter(|row| row.sides.contains(&side));
         for row in rows.filter(|row| row.name.starts_with(&asked.only)) {
             let medians = measure((row.kernel)(&grid).as_mut(), asked.rounds);
-            print(row, side, &medians);
+            print(row, side, extents, &medians);
             missed |= row.wanted(side).is_some_and(|most| medians.ratio() > most);
         }
     }
@@ -285,14 +308,14 @@ fn status(good: bool) -> ExitCode {
     }
 }
 
-fn print(row: &Row, side: usize, medians: &Medians) {
+fn print(row: &Row, side: usize, [wide, high]: [usize; 2], medians: &Medians) {
     let wanted = row
         .wanted(side)
         .map_or(String::new(), |most| format!("{most:.3}"));
     println!(
         "{:<28} {:>9} {:>11.2} {:>11.2} {:>10.3} {wanted:>7}",
         row.name,
-        format!("{side}x{side}"),
+        format!("{wide}x{high}"),
         medians.rust,
         medians.ours,
         medians.ratio()

@@ -35,6 +35,7 @@ impl Pairs {
             map: rows + 1 + entries,
             weights: 0,
             absolute: false,
+            cap: 0,
         };
         // the sizes of the aggregates stand behind the map
         let mut words = vec![0; graph.map + 2 * rows];

@@ -185,7 +185,7 @@ pub fn run() -> bool {
         "{:<20} {:>7} {:>7} {:>7} {:>7} {:>11}",
         "mesh", "levels", "build", "update", "solve", "statistics"
     );
-    let grid = Mesh::of(&Grid::new(crate::SEED, 256));
+    let grid = Mesh::of(&Grid::new(crate::SEED, [256, 256]));
     let within = calls("grid of 256x256", &grid, &controls(), 3);
     let deepest = MultigridOptions {
         merge_levels: 1,

@@ -46,7 +46,7 @@ pub fn pairs(
 ) -> (Vec<usize>, usize) {
     let theirs = parts::pairs(matrix, forward, weights);
     for _ in 0..2 {
-        let (map, count, kept) = ours(random, matrix, weights, forward);
+        let (map, count, kept) = ours(random, matrix, weights, forward, 0);
         let kind = report.kind(name);
         let agrees = count == theirs.1 && same_numbers(&map, &theirs.0);
         report.case(kind, agrees, || {
@@ -63,11 +63,12 @@ pub fn pairs(
 }
 
 /// The map, the count, and whether nothing but the map and the sizes behind it changed.
-fn ours(
+pub fn ours(
     random: &mut Random,
     matrix: &CsrMatrix,
     weights: Option<&[f64]>,
     forward: bool,
+    cap: u64,
 ) -> (Vec<u32>, usize, bool) {
     let (rows, entries) = (matrix.nrows(), matrix.nnz());
     let (mut words, mut floats) = (Layout::default(), Layout::default());
@@ -80,6 +81,7 @@ fn ours(
         map: words.place(random, rows + rows),
         weights: floats.place(random, entries),
         absolute: weights.is_none(),
+        cap,
     };
     let (mut words, mut floats) = (words.store(random), floats.store(random));
     words.put(graph.offsets, narrow(matrix.row_offsets()));

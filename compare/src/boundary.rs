@@ -43,6 +43,7 @@ unsafe extern "C" {
         coarse_relative_tolerance: f64,
         coarse_max_iterations: u64,
         scale_correction: u8,
+        max_aggregate_cells: u64,
     ) -> u8;
     fn probe_dot(
         f: *const f64,
@@ -85,6 +86,7 @@ unsafe extern "C" {
         weights: usize,
         absolute: u8,
         forward: u8,
+        cap: u64,
     ) -> usize;
     fn probe_coarse_pattern(
         w: *mut u32,
@@ -594,8 +596,8 @@ fn smoother_number(smoother: MultigridSmoother) -> u8 {
     }
 }
 
-/// Whether the controls pass `validate`. Enums cross as their number in source order.
-pub fn validate(options: &MultigridOptions) -> bool {
+/// Whether the controls with the cap pass `validate`. Enums cross as their number in source order.
+pub fn validate(options: &MultigridOptions, cap: u64) -> bool {
     yes(probe_validate(
         smoother_number(options.smoother),
         match options.residual_norm {
@@ -619,6 +621,7 @@ pub fn validate(options: &MultigridOptions) -> bool {
         options.coarse_relative_tolerance,
         options.coarse_max_iterations as u64,
         u8::from(options.scale_correction),
+        cap,
     ))
 }
 

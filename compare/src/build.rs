@@ -73,7 +73,7 @@ fn one_problem(
     });
 }
 
-fn told(due: &Result<Hierarchy, Refused>) -> Said {
+pub fn told(due: &Result<Hierarchy, Refused>) -> Said {
     match due {
         Ok(made) => Ok(made.levels.len() as u64),
         &Err(refused) => Err(refused),
@@ -81,7 +81,7 @@ fn told(due: &Result<Hierarchy, Refused>) -> Said {
 }
 
 /// The kind of an answer.
-fn class(told: Said) -> String {
+pub fn class(told: Said) -> String {
     match told {
         Ok(levels) => format!("accepted/levels-{levels:02}"),
         Err((number, level, _)) if level > 0 => format!("refused-{number:02}/below-finest"),
@@ -90,7 +90,7 @@ fn class(told: Said) -> String {
 }
 
 /// What differs first between our answer with the stores it left and the one that is due.
-fn difference(
+pub fn difference(
     ours: &Result<u64, Refused>,
     due: &Result<Hierarchy, Refused>,
     stores: &Stores,
@@ -194,15 +194,16 @@ fn levels_differ(built: &parts::Hierarchy, due: &Hierarchy) -> Option<String> {
 }
 
 /// The whole problem where it is small; else its size, and the seed repeats it.
-fn shown(problem: &Problem) -> String {
+pub fn shown(problem: &Problem) -> String {
     let (arrays, lent, options) = (&problem.arrays, problem.lent, &problem.options);
+    let cap = problem.cap;
     let (rows, entries) = (arrays.rows, arrays.columns.len());
     if rows > SHOWN {
-        return format!("{rows} rows, {entries} entries, lent {lent:?}, {options:?}");
+        return format!("{rows} rows, {entries} entries, lent {lent:?}, cap {cap}, {options:?}");
     }
     let (offsets, columns) = (&arrays.offsets, &arrays.columns);
     let (values, weights) = (&arrays.values, &problem.weights);
     format!(
-        "{rows} rows, offsets {offsets:?} columns {columns:?} values {values:?} weights {weights:?}, lent {lent:?}, {options:?}"
+        "{rows} rows, offsets {offsets:?} columns {columns:?} values {values:?} weights {weights:?}, lent {lent:?}, cap {cap}, {options:?}"
     )
 }

@@ -26,6 +26,14 @@ const KINDS: &Names = &[
         path-of-4 path-of-4-word-short path-of-4-float-short path-of-4-record-short nothing-lent \
         oracle-says-what-was-said oracle-steps-and-whole",
     ),
+    (
+        "capped",
+        "pairs/star/with-weights pairs/star/without-weights pairs/narrow-grid/with-weights pairs/narrow-grid/without-weights \
+        pairs/any-shape/with-weights pairs/any-shape/without-weights pairs/hand-both-full pairs/hand-both-open pairs/hand-equal \
+        pairs/hand-equal-first-full pairs/hand-strongest-full pairs/hand-strongest-open pairs/hand-star-up pairs/hand-star-down \
+        pairs/no-more-rows-than-the-cap pairs/model-without-cap pairs/model-says-what-was-said build/with-weights \
+        build/without-weights build/refused-by-6 refreshed-beside-fresh",
+    ),
     ("coarse", "cholesky solve solve_factor outside-unchanged"),
     ("csr", "check_matrix check_weights"),
     (
@@ -58,7 +66,7 @@ const KINDS: &Names = &[
         "measure",
         "measure normalization threshold relative store-unchanged",
     ),
-    ("options", "validate"),
+    ("options", "validate validate/cap"),
     ("oracle", "worked-examples"),
     (
         "sequence",
@@ -96,6 +104,16 @@ const DRAWN: &Names = &[
         refused-11 refused-12 refused-12/below-finest refused-13 refused-14 refused-15 refused-15/below-finest refused-16 \
         refused-16/below-finest refused-17 refused-18",
     ),
+    (
+        "capped/pairs",
+        "free-beside-full alone weaker-taken second-of-equals-taken strongest-is-open now-full cap-2-up/free-beside-full \
+        cap-2-up/alone cap-2-up/now-full cap-2-down/free-beside-full cap-2-down/alone cap-2-down/now-full",
+    ),
+    (
+        "capped/build",
+        "accepted/levels-01 accepted/levels-02 accepted/levels-03 accepted/levels-04 refused-09 refused-14 other-than-without",
+    ),
+    ("capped/refreshed", "solved"),
     ("coarse/cholesky", "passed refused-15"),
     ("coarse/solve", "passed refused-24 no-terminal"),
     ("csr/check_matrix", "passes refused-1 refused-2 refused-3"),
@@ -194,6 +212,7 @@ const DRAWN: &Names = &[
 const BY_HAND: &Names = &[
     ("build/accepted", "levels-08"),
     ("build", "refused-13/below-finest refused-17/below-finest"),
+    ("capped/pairs", "alone weaker-taken second-of-equals-taken"),
     ("sequence/solve", "refused-27"),
     (
         "sequence/sweeps",

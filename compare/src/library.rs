@@ -1,4 +1,4 @@
-//! The controls of the source as those of the library, whose counts are u64.
+//! The controls of the source as those of the library, whose counts are u64, without the cap that the source has not.
 
 use oracle as source;
 
@@ -38,5 +38,6 @@ pub fn options(options: &source::MultigridOptions) -> multigrid::MultigridOption
         coarse_relative_tolerance: options.coarse_relative_tolerance,
         coarse_max_iterations: options.coarse_max_iterations as u64,
         scale_correction: options.scale_correction,
+        max_aggregate_cells: 0,
     }
 }

@@ -4,6 +4,7 @@ mod acceleration;
 mod aggregation;
 mod agreement;
 mod build;
+mod capped;
 mod classes;
 mod coarse;
 mod csr;
@@ -71,6 +72,7 @@ const COMPARISONS: &[(&str, Comparison)] = &[
     ("sequence", sequence::compare),
     ("damage", sequence::damage::compare),
     ("unscaled", sequence::compare_unscaled),
+    ("capped", capped::compare),
 ];
 
 struct Arguments {

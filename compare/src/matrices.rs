@@ -70,6 +70,11 @@ impl Case {
     pub fn draw(random: &mut Random, turn: u64) -> Self {
         let (shape, drawn) = Shape::ALL[turn as usize % Shape::ALL.len()];
         let pattern = drawn.draw(random);
+        Self::on(shape, &pattern, random)
+    }
+
+    /// Values, and weights or none, on a pattern.
+    pub fn on(shape: &'static str, pattern: &Pattern, random: &mut Random) -> Self {
         let entries = pattern.entries();
         let (values, draw) = random.pick(&VALUES);
         let symmetric = values == WHOLE || random.below(2) == 0;
@@ -83,7 +88,7 @@ impl Case {
             shape,
             values,
             strengths: given.map_or(ABSENT, |given| given.0),
-            matrix: container(&pattern, numbers),
+            matrix: container(pattern, numbers),
             weights,
         }
     }

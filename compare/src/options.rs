@@ -34,6 +34,18 @@ const BREAKS: [Break; 18] = [
     |controls, _| controls.coarse_max_iterations = 0,
 ];
 
+/// Document 02's range: no cap, or 2 to 65,535.
+const CAPS: [(u64, bool); 8] = [
+    (0, true),
+    (1, false),
+    (2, true),
+    (3, true),
+    (65_535, true),
+    (65_536, false),
+    (65_537, false),
+    (u64::MAX, false),
+];
+
 const NOT_FINITE: [f64; 2] = [f64::NAN, f64::INFINITY];
 const BELOW_ZERO: [f64; 4] = [-1.0, -f64::MIN_POSITIVE, -5e-324, f64::MIN];
 const TOLERANCES: [f64; 6] = [0.0, -0.0, 5e-324, 1e-12, 0.01, f64::MAX];
@@ -43,10 +55,15 @@ pub fn compare(report: &mut Report, random: &mut Random, effort: Effort) {
     let one_kind = report.kind("options/validate/one-condition-broken");
     let two_kind = report.kind("options/validate/two-conditions-broken");
     let any_kind = report.kind("options/validate/random");
+    let cap_kind = report.kind("options/validate/cap");
     for _ in 0..effort.times(1_000, 20_000) {
         let valid = valid(random);
         one_case(report, valid_kind, &valid, Some(true));
         one_case(report, any_kind, &any(random), None);
+        for (cap, allowed) in CAPS {
+            let agrees = boundary::validate(&valid, cap) == allowed;
+            report.case(cap_kind, agrees, || format!("{cap} with {valid:?}"));
+        }
         for first in BREAKS {
             let mut broken = valid;
             first(&mut broken, random);
@@ -62,7 +79,7 @@ pub fn compare(report: &mut Report, random: &mut Random, effort: Effort) {
 
 /// Where the case was made to pass or to fail, `said` is that: it shows that the case is what its kind says.
 fn one_case(report: &mut Report, kind: KindId, controls: &MultigridOptions, said: Option<bool>) {
-    let (ours, theirs) = (boundary::validate(controls), controls.validate().is_ok());
+    let (ours, theirs) = (boundary::validate(controls, 0), controls.validate().is_ok());
     let answer = if theirs { "passes" } else { "refuses" };
     report.answer(&format!("options/validate/{answer}"));
     let agrees = ours == theirs && said.is_none_or(|said| theirs == said);

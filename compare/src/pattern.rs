@@ -104,12 +104,17 @@ fn grid_faces(wide: usize, high: usize) -> (usize, Vec<(usize, usize)>) {
 impl Pattern {
     /// The five-point grid of `side` cells squared.
     pub fn grid(side: usize) -> Self {
-        let (rows, faces) = grid_faces(side, side);
+        Self::rectangle(side, side)
+    }
+
+    /// The five-point grid of so many cells along each axis.
+    pub fn rectangle(wide: usize, high: usize) -> Self {
+        let (rows, faces) = grid_faces(wide, high);
         Self::of_faces(&vec![true; rows], &faces)
     }
 
     /// Both entries of each face, which may be named more than once, and the diagonal entries of some rows.
-    fn of_faces(diagonal: &[bool], faces: &[(usize, usize)]) -> Self {
+    pub fn of_faces(diagonal: &[bool], faces: &[(usize, usize)]) -> Self {
         let mirrored = faces
             .iter()
             .flat_map(|&(row, column)| [(row, column), (column, row)]);

@@ -159,7 +159,7 @@ fn any_problem(random: &mut Random) -> Problem {
 }
 
 /// A problem that builds, of those drawn so.
-fn accepted(random: &mut Random, draw: fn(&mut Random) -> Problem) -> Problem {
+pub fn accepted(random: &mut Random, draw: fn(&mut Random) -> Problem) -> Problem {
     loop {
         let problem = draw(random);
         if crate::build::expected::build(&problem).answer.is_ok() {
@@ -178,7 +178,7 @@ pub enum Call {
     },
 }
 
-fn draw_calls(random: &mut Random, problem: &Problem) -> Vec<Call> {
+pub fn draw_calls(random: &mut Random, problem: &Problem) -> Vec<Call> {
     let updates = random.below(2) == 0;
     let count = 1 + random.index(if updates { 12 } else { 4 });
     (0..count)

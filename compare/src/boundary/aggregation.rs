@@ -5,7 +5,8 @@ use super::{probe_pairs, require_below, require_region};
 pub const MOST_ROWS: usize = 65_536;
 
 /// Where a matrix stands in the stores: offsets and columns, above both the map that is written, with as many words
-/// behind it for the sizes of the aggregates, and the weights, or, where `absolute` is set, the matrix's values.
+/// behind it for the sizes of the aggregates, and the weights, or, where `absolute` is set, the matrix's values; and the
+/// cap on the rows of an aggregate, 0 for none.
 pub struct Graph {
     pub rows: usize,
     pub entries: usize,
@@ -14,6 +15,7 @@ pub struct Graph {
     pub map: usize,
     pub weights: usize,
     pub absolute: bool,
+    pub cap: u64,
 }
 
 impl Graph {
@@ -55,6 +57,7 @@ impl Graph {
                 self.weights,
                 u8::from(self.absolute),
                 u8::from(forward),
+                self.cap,
             )
         }
     }

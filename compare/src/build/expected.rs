@@ -1,10 +1,11 @@
 //! The answer that a build must give: the Rust's own steps, called one by one in the loop of hierarchy.rs, and document
 //! 01's questions where they stand in that order. Questions 1 to 3 and 10 are the container's, 6 the Rust's `validate`;
-//! 7, 8, 9 and 14 are asked here.
+//! 7, 8, 9 and 14 are asked here, and so is 6 of the cap, with which the pairings are those of `capped.rs`.
 
 use super::hierarchy::{Hierarchy, Level};
 use super::problem::{Lent, Problem};
 use crate::boundary::kernels::Refused;
+use crate::capped;
 use crate::coarse::{compact, packed, refused_row};
 use crate::csr;
 use crate::pattern;
@@ -73,7 +74,10 @@ fn attempt(problem: &Problem, charges: &mut Vec<Charge>) -> Asked<Hierarchy> {
             number => return Err(unplaced(number)),
         }
     }
-    ask(options.validate().is_ok(), 6)?;
+    ask(
+        options.validate().is_ok() && capped::is_allowed(problem.cap),
+        6,
+    )?;
     ask(options.coarse_solver == MultigridCoarseSolver::Cholesky, 7)?;
     ask(rows > 0, 8)?;
     let fixed = Charge::fixed(options, rows, entries);
@@ -109,7 +113,7 @@ fn grow(
     matrix: CsrMatrix,
     charges: &mut Vec<Charge>,
 ) -> Asked<(Vec<Level>, Kernel)> {
-    let options = problem.options;
+    let (options, cap) = (problem.options, problem.cap);
     let mut levels: Vec<Level> = Vec::new();
     let mut finest = None;
     let mut current = matrix;
@@ -121,7 +125,7 @@ fn grow(
         let terminal = few_coupled(&kernel, &options)
             || kernel.neighbors().is_empty()
             || levels.len() + 1 >= options.max_levels;
-        let paired = (!terminal).then(|| pair(&current, &mut stage, weights.as_deref()));
+        let paired = (!terminal).then(|| pair(&current, &mut stage, weights.as_deref(), cap));
         let joined = paired.filter(|&(_, count)| count < current.nrows());
         let Some((mut map, mut count)) = joined else {
             levels.push(last_level(&current, &kernel, &options, index)?);
@@ -134,7 +138,7 @@ fn grow(
             if few_coupled(&kernel_of(&coarse, index + 1)?, &options) {
                 break;
             }
-            let (next_map, next_count) = pair(&coarse, &mut stage, next_weights.as_deref());
+            let (next_map, next_count) = pair(&coarse, &mut stage, next_weights.as_deref(), cap);
             if next_count == count {
                 break;
             }
@@ -199,10 +203,19 @@ fn few_coupled(kernel: &Kernel, options: &MultigridOptions) -> bool {
     kernel.coupled_rows() <= options.coarsest_cells
 }
 
-fn pair(matrix: &CsrMatrix, stage: &mut usize, weights: Option<&[f64]>) -> (Vec<usize>, usize) {
+/// By the Rust; where there is a cap, by the model of it.
+fn pair(
+    matrix: &CsrMatrix,
+    stage: &mut usize,
+    weights: Option<&[f64]>,
+    cap: u64,
+) -> (Vec<usize>, usize) {
     let forward = stage.is_multiple_of(2);
     *stage += 1;
-    parts::pairs(matrix, forward, weights)
+    match cap {
+        0 => parts::pairs(matrix, forward, weights),
+        _ => capped::pairs(matrix, forward, weights, cap, &mut |_| ()),
+    }
 }
 
 fn restricted(

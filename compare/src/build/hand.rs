@@ -32,6 +32,7 @@ fn problem(arrays: Arrays, options: MultigridOptions) -> Problem {
         arrays,
         weights: None,
         options,
+        cap: 0,
         lent: Lent::PLENTY,
     })
 }
@@ -41,6 +42,7 @@ fn weighed((arrays, weights): (Arrays, Vec<f64>), options: MultigridOptions) -> 
         arrays,
         weights: Some(weights),
         options,
+        cap: 0,
         lent: Lent::PLENTY,
     })
 }

@@ -2,7 +2,7 @@
 
 use super::problem::{Problem, Stores};
 use crate::boundary::kernels::Refused;
-use multigrid::lent;
+use multigrid::{MultigridOptions, lent};
 
 /// The number of levels, or the refusal.
 pub fn build(problem: &Problem, stores: &mut Stores) -> Result<u64, Refused> {
@@ -18,7 +18,10 @@ pub fn handle(problem: &Problem, stores: &mut Stores) -> Result<lent::Handle, Re
         column_indices: &arrays.columns,
         values: &arrays.values,
     };
-    let options = compare::library::options(&problem.options);
+    let options = MultigridOptions {
+        max_aggregate_cells: problem.cap,
+        ..compare::library::options(&problem.options)
+    };
     let weights = problem.weights.as_deref();
     let built = lent::build(matrix, weights, &options, stores);
     built.map_err(|refusal| (refusal.number(), refusal.level(), refusal.row()))

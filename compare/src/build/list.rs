@@ -7,7 +7,7 @@
 //! - rows, and how many offsets, columns and values there are; 1 if weights are given, else 0, and how many;
 //! - the offsets, the columns, the bits of the values, the bits of the weights;
 //! - the 16 controls in the order of options.rs without `profile`: enums by their place there from 0, yes as 1, tolerances as
-//!   bits;
+//!   bits; then the cap on aggregates;
 //! - how many words, floats and words of statistics, five to a record, are lent;
 //! - the answer: 0 or the question's number, its level, its row, the levels built;
 //! - the rows of each of these levels;
@@ -40,12 +40,18 @@ pub fn write(random: &mut Random, each: usize) -> String {
     let shaken: Vec<Problem> = (0..DRAWN / 10)
         .map(|_| Problem::with_shaken_mirrors(random))
         .collect();
+    let capped: Vec<Problem> = (0..DRAWN / 10).map(|_| Problem::capped(random)).collect();
     let others = by_hand.chain(drawn).map(|problem| ("", problem));
     let shaken = shaken
         .into_iter()
         .map(|problem| ("shaken mirrors: ", problem));
+    let capped = capped.into_iter().map(|problem| ("with a cap: ", problem));
     let mut found: BTreeMap<String, Vec<String>> = BTreeMap::new();
-    for (kind, problem) in others.chain(shaken).filter(|(_, problem)| fits(problem)) {
+    for (kind, problem) in others
+        .chain(shaken)
+        .chain(capped)
+        .filter(|(_, problem)| fits(problem))
+    {
         let due = expected::build(&problem).answer;
         let kind = found
             .entry(format!("{kind}{}", class(told(&due))))
@@ -121,7 +127,8 @@ pub fn arguments(problem: &Problem) -> String {
     );
     line(&mut text, arrays.values.iter().map(|value| value.to_bits()));
     line(&mut text, weights.iter().map(|weight| weight.to_bits()));
-    line(&mut text, controls(&problem.options));
+    let controls = controls(&problem.options).into_iter();
+    line(&mut text, controls.chain([problem.cap]));
     let lengths = [lent.words, lent.floats, 5 * lent.statistics];
     line(&mut text, lengths.map(|length| length as u64));
     text

@@ -1,6 +1,7 @@
 //! Problems of a build: a matrix in compressed rows, weights, controls and the sizes of what is lent.
 
 use super::expected::{self, Charge};
+use crate::capped;
 use crate::csr::{Arrays, DAMAGES, WEIGHTS, any};
 use crate::numbers;
 use crate::options;
@@ -24,6 +25,8 @@ pub struct Problem {
     pub arrays: Arrays,
     pub weights: Option<Vec<f64>>,
     pub options: MultigridOptions,
+    /// The cap on aggregates, which the Rust has not: 0 for none.
+    pub cap: u64,
     pub lent: Lent,
 }
 
@@ -277,6 +280,25 @@ impl Problem {
         problem
     }
 
+    /// A sound problem with a cap on its aggregates: a star, a long narrow grid or any shape.
+    pub fn capped(random: &mut Random) -> Self {
+        let (_, mut problem) = match random.below(3) {
+            0 => {
+                let rows = random.within(3, 64) as usize;
+                let star = Shape::Star.full(random, rows);
+                Self::on(&star, random)
+            }
+            1 => {
+                let (wide, long) = (random.within(1, 4), random.within(8, 40));
+                Self::on(&Pattern::rectangle(wide as usize, long as usize), random)
+            }
+            _ => Self::sound(random),
+        };
+        problem.cap = random.pick(&capped::CAPS);
+        problem.lend(random);
+        problem
+    }
+
     /// A sound problem whose corrections are added as they are.
     pub fn unscaled(random: &mut Random) -> Self {
         let (_, mut problem) = Self::sound(random);
@@ -302,6 +324,7 @@ impl Problem {
             arrays: arrays_of(&pattern, values),
             weights,
             options: controls(random),
+            cap: 0,
             lent: Lent::PLENTY,
         };
         problem.options.max_levels = 64;
@@ -320,10 +343,15 @@ impl Problem {
         if random.below(2) == 0 {
             pattern = pattern.reordered(random);
         }
+        Self::on(&pattern, random)
+    }
+
+    /// The same on a pattern.
+    fn on(pattern: &Pattern, random: &mut Random) -> (&'static str, Self) {
         let (name, draw) = random.pick(&COUPLINGS);
         let mut values = pattern.numbers(true, || draw(random));
         let share = random.pick(&SHARES);
-        set_diagonals(&pattern, &mut values, share);
+        set_diagonals(pattern, &mut values, share);
         let given = random.below(2) == 0;
         let weights = given.then(|| {
             let strength = random.pick(&STRENGTHS);
@@ -331,9 +359,10 @@ impl Problem {
             pattern.numbers(symmetric, || strength(random))
         });
         let problem = Self {
-            arrays: arrays_of(&pattern, values),
+            arrays: arrays_of(pattern, values),
             weights,
             options: controls(random),
+            cap: 0,
             lent: Lent::PLENTY,
         };
         (name, problem)

@@ -66,7 +66,8 @@ const DAMAGES: [(&str, Damage); 12] = [
         handle.entries = random.pick(&[near[0], near[1], 0, 1, handle.rows, 1_048_577, u64::MAX]);
     }),
     ("one-control", |random, _, handle| {
-        let other = compare::library::options(&options::any(random));
+        let mut other = compare::library::options(&options::any(random));
+        other.max_aggregate_cells = random.pick(&[1, 2, 65_535, 65_536, u64::MAX]);
         random.pick(&CONTROLS)(&mut handle.options, &other);
     }),
     ("valid-controls", |random, _, handle| {
@@ -116,7 +117,7 @@ fn shorten<T>(random: &mut Random, lent: &mut Vec<T>, few: usize) {
 type Put = fn(&mut MultigridOptions, &MultigridOptions);
 
 /// Each puts one control of another set in its place.
-const CONTROLS: [Put; 16] = [
+const CONTROLS: [Put; 17] = [
     |to, other| to.smoother = other.smoother,
     |to, other| to.residual_norm = other.residual_norm,
     |to, other| to.pre_sweeps = other.pre_sweeps,
@@ -133,6 +134,7 @@ const CONTROLS: [Put; 16] = [
     |to, other| to.coarse_relative_tolerance = other.coarse_relative_tolerance,
     |to, other| to.coarse_max_iterations = other.coarse_max_iterations,
     |to, other| to.scale_correction = other.scale_correction,
+    |to, other| to.max_aggregate_cells = other.max_aggregate_cells,
 ];
 
 /// What is wrong first, if anything is.

@@ -65,6 +65,7 @@ fn infinite_quotient() -> Sequence {
             krylov_dimension: 0,
             ..cholesky()
         },
+        cap: 0,
         lent: Lent::PLENTY,
     });
     let tiny = f64::powi(2.0, -530);
@@ -128,6 +129,7 @@ fn refreshed(
         arrays,
         weights,
         options,
+        cap: 0,
         lent: Lent::PLENTY,
     });
     (name, problem, calls)
@@ -152,6 +154,7 @@ fn one_level() -> Sequence {
         arrays: sides(-2.0 - 1e-13),
         weights: Some(vec![0.0, 1.0, 1.0, 0.0]),
         options: cholesky(),
+        cap: 0,
         lent: Lent::PLENTY,
     });
     ("hand-one-level", problem, calls)
@@ -197,6 +200,7 @@ fn deep() -> Vec<Sequence> {
             arrays: arrays.clone(),
             weights: None,
             options,
+            cap: 0,
             lent: Lent::PLENTY,
         });
         (name, problem, calls.to_vec())
