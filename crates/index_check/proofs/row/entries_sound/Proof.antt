@@ -5,7 +5,6 @@ use mathlib.Core.Path.{refl}
 use Rattle.index_check.proofs.row.Laws.{entries-past, entries-no, entries-last, entries-on}
 use Rattle.index_check.proofs.tables.Laws.{below-ok}
 use native.Mathlib.Omega.{arith}
-use borrow.Author.Needs.{needs}
 use Rattle.index_check.proofs.row.entries_sound.Statement.{statement}
 use Rattle.index_check.proofs.row.entries_sound.Tie as tie
 
@@ -43,8 +42,8 @@ entries-sound-spec =
     tie.close
     (tie.spec
     returns
-    (λ c. search needs)
-    (λ c. search needs)
+    (λ c. omega arith)
+    (λ c. omega arith)
     below-requires
     returns-2
     returns-3

@@ -4,7 +4,6 @@ use mathlib.Core.Path.{refl}
 use Rattle.index_check.proofs.row.Laws.{faces-past, faces-told}
 use Rattle.index_check.proofs.tables.Laws.{below-ok}
 use native.Mathlib.Omega.{arith}
-use borrow.Author.Needs.{needs}
 use Rattle.index_check.proofs.row.faces_sound.Statement.{statement}
 use Rattle.index_check.proofs.row.faces_sound.Tie as tie
 
@@ -33,11 +32,11 @@ faces-sound-spec =
     tie.close
     (tie.spec
     returns
-    (λ c. search needs)
-    (λ c. search needs)
+    (λ c. omega arith)
+    (λ c. omega arith)
     below-requires
-    (λ c. search needs)
+    (λ c. omega arith)
     below-requires-2
-    (λ c. search needs)
+    (λ c. omega arith)
     below-requires-3
     returns-2)

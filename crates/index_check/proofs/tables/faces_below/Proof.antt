@@ -19,7 +19,7 @@ loop-holds : tie.Need-loop-holds Inv-loop μ-loop
 loop-holds c = tested-start _ _
 
 loop-again : tie.Need-loop-again Inv-loop μ-loop
-loop-again c = search (tested-on, needs)
+loop-again c = tested-on (c .before .before .before .before .before .before .before .loop .inv) (omega arith) refl
 
 returns : tie.Need-returns Inv-loop μ-loop
 returns c = faces-tested _ _ (c .before .before .before .before .pre) refl refl (c .before .loop .inv) (c .loop-test .left)
