@@ -96,8 +96,16 @@ static void empty_slices(void) {
     }
     expect(multigrid_new(0, &u, 1, &u, 0, &f, 0, maximum(), none.words, 0, none.floats, 0, none.statistics, 0).answer.question == MULTIGRID_INVALID_CONTROLS,
            "all-maximum controls");
-    expect(multigrid_new(0, &u, 1, &u, 0, &f, 0, o, none.words, 0, none.floats, 0, none.statistics, 0).answer.question == MULTIGRID_NO_ROWS, "no rows");
-    struct multigrid_charge c = multigrid_charge(UINT64_MAX, UINT64_MAX, maximum(), UINT64_MAX);
+    expect(multigrid_new(0, &u, 1, &u, 0, &f, 0, o, none.words, 0, none.floats, 0, none.statistics, 0).answer.question == MULTIGRID_STORE_TOO_SMALL, "no rows and no stores");
+    struct multigrid_charge c = multigrid_charge(0, 0, o, 0);
+    struct stores s = stores_of(c.words, c.floats, c.statistics);
+    struct multigrid_built b = multigrid_new(0, &u, 1, &u, 0, &f, 0, o, s.words, c.words, s.floats, c.floats, s.statistics, c.statistics);
+    expect(b.answer.question == 0 && b.hierarchy.levels == 0 && b.hierarchy.rows == 0 && b.hierarchy.entries == 0, "no rows");
+    expect(multigrid_solve(b.hierarchy, s.words, c.words, s.floats, c.floats, s.statistics, c.statistics, &f, 0, &f, 0, 0, 0, 1).converged == 1,
+           "a solve of no rows");
+    later(b.hierarchy, s, 0, 0);
+    drop(s);
+    c = multigrid_charge(UINT64_MAX, UINT64_MAX, maximum(), UINT64_MAX);
     expect(c.words == UINT64_MAX && c.floats == UINT64_MAX, "a charge that does not fit");
     drop(none);
 }

@@ -1,5 +1,5 @@
-/* The pressure on a load of 32 by 32 cells, seed 1: built once, refreshed for ten steps with stronger coupling each time, and solved
- * for what is pushed in at the middle. cc -o target/press examples/press.c target/staticlib/libmultigrid_c.a */
+/* A drum with nothing in it, which is solved at once; then the pressure on a load of 32 by 32 cells, seed 1: built once, refreshed for
+ * ten steps with stronger coupling each time, and solved for what is pushed in at the middle. cc -o target/press examples/press.c target/staticlib/libmultigrid_c.a */
 #include "../include/multigrid.h"
 #include <inttypes.h>
 #include <stdio.h>
@@ -26,8 +26,13 @@ int main(void) {
     double *floats = calloc(c.floats, sizeof *floats);
     struct multigrid_level_statistics *statistics = calloc(c.statistics, sizeof *statistics);
     if (!words || !floats || !statistics) return 2;
-    struct multigrid_built b = multigrid_new(CELLS, offsets, CELLS + 1, columns, entries, load, entries, options, words, c.words,
-                                             floats, c.floats, statistics, c.statistics);
+    struct multigrid_built b = multigrid_new(0, offsets, 1, columns, 0, load, 0, options, words, c.words, floats, c.floats, statistics, c.statistics);
+    struct multigrid_report r = multigrid_solve(b.hierarchy, words, c.words, floats, c.floats, statistics, c.statistics, rhs, 0, x, 0,
+                                                1e-10, 1e-8, 1000);
+    if (refused("the empty drum", b.answer) || refused("its solve", r.answer)) return 1;
+    printf("empty: %" PRIu64 " iterations on %" PRIu64 " levels, residual %g\n", r.iterations, b.hierarchy.levels, r.final_residual);
+    b = multigrid_new(CELLS, offsets, CELLS + 1, columns, entries, load, entries, options, words, c.words, floats, c.floats, statistics,
+                      c.statistics);
     int bad = refused("the build", b.answer);
     for (int step = 1; step <= STEPS && !bad; step++) {
         for (size_t k = 0; k < entries; k++) values[k] = (1 + 0.5 * step) * load[k];
@@ -35,8 +40,7 @@ int main(void) {
                                                              c.words, floats, c.floats, statistics, c.statistics));
     }
     rhs[MIDDLE] = 1000;
-    struct multigrid_report r = multigrid_solve(b.hierarchy, words, c.words, floats, c.floats, statistics, c.statistics, rhs, CELLS, x,
-                                                CELLS, 1e-10, 1e-8, 1000);
+    r = multigrid_solve(b.hierarchy, words, c.words, floats, c.floats, statistics, c.statistics, rhs, CELLS, x, CELLS, 1e-10, 1e-8, 1000);
     if (!bad && !(bad = refused("the solve", r.answer)))
         printf("%s after %" PRIu64 " iterations on %" PRIu64 " levels, pressure in the middle %.6f\n",
                r.converged ? "converged" : "iterations used up", r.iterations, b.hierarchy.levels, x[MIDDLE]);

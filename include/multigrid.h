@@ -92,7 +92,8 @@ struct multigrid_hierarchy {
     uint64_t entries;                 /* of the finest matrix */
 };
 
-/* What a build answers. Refused, levels, rows and entries of the handle are 0. */
+/* What a build answers. Refused, levels, rows and entries of the handle are 0: look at the answer, since a matrix of no rows has the
+ * same ones. */
 struct multigrid_built {
     struct multigrid_answer answer;
     struct multigrid_hierarchy hierarchy;
@@ -147,12 +148,13 @@ struct multigrid_options multigrid_default_options(void);
  *   floats      (12 + 2 krylov_dimension) rows + 8 entries + coarsest_cells^2 + levels (20 rows + 4 entries)
  *   statistics  max_levels records
  * A sum that does not fit is 2^64 - 1. No level is larger than the finest, so stores for max_levels levels are never refused by
- * question 9; most meshes need what 2 levels ask for. Options that are refused by question 6 have no charge that helps. */
+ * question 9; most meshes need what 2 levels ask for, and no rows what 0 ask for. Options that are refused by question 6 have no charge that helps. */
 struct multigrid_charge multigrid_charge(uint64_t rows, uint64_t entries, struct multigrid_options options, uint64_t levels);
 
 /* Builds a hierarchy of a symmetric matrix in compressed rows: rows + 1 offsets, then for each entry its column, rising in a row and
  * counted from 0, and its value. Whatever the stores held plays no part. Rows are joined by the absolute values of the entries.
- * Refused, every element of words, floats and statistics is zero. Asks questions 1 to 18. */
+ * A matrix of no rows, with the one offset 0, has no levels, and a solve of it has converged before the first iteration.
+ * Refused, every element of words, floats and statistics is zero. Asks questions 1 to 18, but for 8, which refuses nothing. */
 struct multigrid_built multigrid_new(size_t rows, const uint32_t *offsets, size_t offsets_length, const uint32_t *columns,
                                      size_t columns_length, const double *values, size_t values_length,
                                      struct multigrid_options options, uint32_t *words, size_t words_length,

@@ -117,7 +117,8 @@ pub fn difference(
 }
 
 /// The same problem through the Rust's own `new`, `new_with_face_weights` and `build`: where 7, 9 and 14, which are not
-/// in the Rust, pass, it accepts or refuses by the same question, and all that it holds is what the steps gave.
+/// in the Rust, pass, it accepts or refuses by the same question, and all that it holds is what the steps gave. A matrix of
+/// no rows it refuses.
 fn whole_difference(problem: &Problem, due: &Result<Hierarchy, Refused>) -> Option<String> {
     let matrix = problem.arrays.container();
     let public = match &matrix {
@@ -128,6 +129,8 @@ fn whole_difference(problem: &Problem, due: &Result<Hierarchy, Refused>) -> Opti
         Err((7 | 9 | 14, ..)) => None,
         &Err((number, ..)) => (public.as_ref().err() != Some(&number))
             .then(|| format!("refused by {number}, the Rust answers {public:?}")),
+        Ok(due) if due.levels.is_empty() => (public.as_ref().err() != Some(&8))
+            .then(|| format!("no rows, the Rust answers {public:?}")),
         Ok(due) => {
             let cells: Vec<usize> = due.levels.iter().map(hierarchy::Level::rows).collect();
             if public.as_ref() != Ok(&cells) {

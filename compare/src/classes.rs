@@ -20,7 +20,8 @@ const KINDS: &Names = &[
         spoiled-arrays spoiled-one-weight spoiled-weight-count spoiled-controls spoiled-not-cholesky spoiled-no-rows \
         shaken-mirrors spoiled-one-diagonal spoiled-one-value spoiled-one-face spoiled-entry-missing spoiled-small-pivot \
         65536-rows 65537-rows rows-that-wrap 1048576-entries 1048577-entries 256-coarsest-cells 257-coarsest-cells \
-        257-coupled-rows no-rows no-diagonals row-of-15 small-pivot small-pivot-no-dic 16-before-17 12-on-level-1 \
+        257-coupled-rows no-rows no-rows-weighed no-rows-one-weight no-rows-one-entry no-rows-one-value no-rows-no-offset \
+        no-rows-word-short no-rows-float-short no-rows-record-short no-diagonals row-of-15 small-pivot small-pivot-no-dic 16-before-17 12-on-level-1 \
         12-on-level-3 12-on-merged mirrors-apart-by-1e-12 mirrors-apart-by-more one-unit-at-8191 one-unit-at-8192 \
         mirrors-whose-difference-overflows tie-on-one-side 13-on-level-1 16-on-level-1 17-on-level-1 18 \
         path-of-4 path-of-4-word-short path-of-4-float-short path-of-4-record-short nothing-lent \
@@ -41,6 +42,7 @@ const KINDS: &Names = &[
         "restrict prolong add_prolonged subtract correction_factor add_scaled add_plain outside-unchanged",
     ),
     ("damage", "stores"),
+    ("empty", "build calls handle"),
     (
         "faces",
         "face_offsets fill_faces mirrors diagonals first-refusal search coupled_count coupled_rows outside-unchanged",
@@ -96,11 +98,11 @@ const DRAWN: &Names = &[
     ),
     (
         "build/accepted",
-        "levels-01 levels-02 levels-03 levels-04 levels-05 levels-06",
+        "levels-00 levels-01 levels-02 levels-03 levels-04 levels-05 levels-06",
     ),
     (
         "build",
-        "refused-01 refused-02 refused-03 refused-04 refused-05 refused-06 refused-07 refused-08 refused-09 refused-10 \
+        "refused-01 refused-02 refused-03 refused-04 refused-05 refused-06 refused-07 refused-09 refused-10 \
         refused-11 refused-12 refused-12/below-finest refused-13 refused-14 refused-15 refused-15/below-finest refused-16 \
         refused-16/below-finest refused-17 refused-18",
     ),
@@ -136,6 +138,15 @@ const DRAWN: &Names = &[
         "damage/update",
         "accepted refused-10 refused-11 refused-12 refused-13 refused-15 refused-16 refused-19 refused-31",
     ),
+    (
+        "empty/handle",
+        "sound refused-19/levels refused-19/rows refused-19/entries refused-19/controls",
+    ),
+    (
+        "empty/solve",
+        "AbsoluteL2/converged NormalizedL1/converged refused-20 refused-21",
+    ),
+    ("empty/update", "accepted refused-31"),
     ("faces/coupled_rows", "none some all"),
     ("faces/diagonals", "passed refused-11"),
     ("faces/mirrors", "passed refused-10"),

@@ -73,6 +73,7 @@ const COMPARISONS: &[(&str, Comparison)] = &[
     ("damage", sequence::damage::compare),
     ("unscaled", sequence::compare_unscaled),
     ("capped", capped::compare),
+    ("empty", sequence::empty::compare),
 ];
 
 struct Arguments {

@@ -3,6 +3,7 @@
 //! held against a hierarchy that is built afresh from the latest accepted values.
 
 pub mod damage;
+pub mod empty;
 mod expected;
 mod hand;
 pub mod list;
@@ -158,11 +159,12 @@ fn any_problem(random: &mut Random) -> Problem {
     Problem::draw(random).1
 }
 
-/// A problem that builds, of those drawn so.
+/// A problem with rows that builds, of those drawn so.
 pub fn accepted(random: &mut Random, draw: fn(&mut Random) -> Problem) -> Problem {
     loop {
         let problem = draw(random);
-        if crate::build::expected::build(&problem).answer.is_ok() {
+        let rows = problem.arrays.rows;
+        if rows > 0 && crate::build::expected::build(&problem).answer.is_ok() {
             return problem;
         }
     }

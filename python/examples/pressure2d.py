@@ -1,4 +1,4 @@
-"""The pressure in a plate of 96 by 96 cells, the load of seed 1: water is pushed in at one cell and drawn out at another."""
+"""A drum with nothing in it, and then the pressure in a plate of 96 by 96 cells, the load of seed 1: water is pushed in at one cell and drawn out at another."""
 
 from hifewugbe import Multigrid, load
 
@@ -6,6 +6,7 @@ SIDE = 96
 
 
 def main():
+    print(f"empty: {Multigrid([0], [], []).solve([])}")
     grid = Multigrid(*load(1, SIDE, SIDE))
     print(grid)
     flow = [0.0] * grid.rows

@@ -39,12 +39,12 @@ class Levels(tuple):
     @property
     def grid_complexity(self):
         """The rows of all levels by those of the finest."""
-        return sum(level.rows for level in self) / self[0].rows
+        return sum(level.rows for level in self) / (self[0].rows if self else 1)
 
     @property
     def operator_complexity(self):
         """The entries of all levels by those of the finest: what one cycle costs, in products with the finest matrix."""
-        return sum(level.entries for level in self) / self[0].entries
+        return sum(level.entries for level in self) / (self[0].entries if self else 1)
 
     def __str__(self):
         lines = ["level   rows  entries  per row  of finest"]

@@ -63,6 +63,11 @@ class Multigrid:
         0      2        4      2.0     100.0%
     grid complexity 1.000, operator complexity 1.000
 
+    A matrix of no rows has no levels, and a solve of it has converged before the first iteration:
+
+    >>> print(Multigrid([0], [], []).solve([]))
+    converged after 0 iterations, relative residual 0.0e+00
+
     What does not fit is refused, by an exception that says which question failed and where:
 
     >>> Multigrid([0, 2, 4], [0, 1, 0, 1], [4.0, -2.0, -2.0, -1.0])

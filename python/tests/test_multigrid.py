@@ -88,7 +88,6 @@ class Builds(unittest.TestCase):
         self.assertEqual((caught.exception.level, caught.exception.row), (0, 1))
         cases = [
             (refusals.BadOffsets, ([], [], [])),
-            (refusals.NoRows, ([0], [], [])),
             (refusals.BadOffsets, ([0, 3, 4], [0, 1, 0, 1], [1.0])),
             (refusals.BadColumns, ([0, 2, 4], [1, 0, 0, 1], [4.0, -2.0, -2.0, 2.0])),
             (refusals.TooLarge, ([0] * 65_538, [], [])),
@@ -101,6 +100,21 @@ class Builds(unittest.TestCase):
         for refused, given in cases:
             with self.assertRaises(refused):
                 Multigrid(*given)
+
+    def test_a_drum_with_nothing_in_it(self):
+        for weights in (None, []):
+            empty = Multigrid([0], [], [], weights)
+            self.assertEqual((empty.rows, empty.entries, len(empty.levels), empty.statistics()), (0, 0, 0, []))
+            self.assertIn("grid complexity 0.000", repr(empty))
+            empty.update([])
+            with self.assertRaises(refusals.OtherPattern):
+                empty.update([1.0])
+            report = empty.solve([])
+            self.assertEqual((report.converged, report.iterations, list(report.x)), (True, 0, []))
+            residuals = (report.initial_residual, report.final_residual, report.relative_residual)
+            self.assertEqual([struct.pack("d", residual) for residual in residuals], 3 * [struct.pack("d", 0.0)])
+            with self.assertRaises(refusals.WrongLength):
+                empty.solve([1.0])
 
     def test_what_cannot_cross_is_said(self):
         for given, error in [

@@ -1,4 +1,4 @@
-//! The pressure on a load of 32 by 32 cells, seed 1: built once, refreshed for ten steps with stronger coupling each time, and solved for what is
+//! A drum with nothing in it, which is solved at once; then the pressure on a load of 32 by 32 cells, seed 1: built once, refreshed for ten steps with stronger coupling each time, and solved for what is
 //! pushed in at the middle.
 
 use multigrid::{
@@ -11,6 +11,21 @@ const MIDDLE: usize = CELLS / 2 + SIDE / 2;
 const STEPS: u32 = 10;
 
 fn main() -> Result<(), Refusal> {
+    let nothing = CsrMatrix {
+        rows: 0,
+        row_offsets: &[0],
+        column_indices: &[],
+        values: &[],
+    };
+    let mut empty = AlgebraicMultigrid::new(nothing, &MultigridOptions::default())?;
+    empty.update_values(nothing)?;
+    let report = empty.solve(&[], &mut [], LinearSolverOptions::default())?;
+    println!(
+        "empty: {:?} after {} iterations on {} levels",
+        report.status,
+        report.iterations,
+        empty.hierarchy().levels.len()
+    );
     let load = load(1, [SIDE as u64, SIDE as u64, 1])?;
     let mut solver = AlgebraicMultigrid::new(load.matrix(), &MultigridOptions::default())?;
     println!("{}", solver.hierarchy());

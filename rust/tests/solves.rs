@@ -113,3 +113,46 @@ fn a_refused_solve_leaves_everything() {
     let said = "question 20: the right-hand side or the solution has not as many elements as there are rows";
     assert_eq!(Refusal::WrongLength.to_string(), said);
 }
+
+#[test]
+fn a_drum_with_nothing_in_it_is_solved_at_once() {
+    let nothing = CsrMatrix {
+        rows: 0,
+        row_offsets: &[0],
+        column_indices: &[],
+        values: &[],
+    };
+    for residual_norm in [
+        MultigridResidualNorm::AbsoluteL2,
+        MultigridResidualNorm::NormalizedL1,
+    ] {
+        let options = MultigridOptions {
+            residual_norm,
+            ..MultigridOptions::default()
+        };
+        let mut empty = AlgebraicMultigrid::new(nothing, &options).expect("it builds");
+        assert_eq!((empty.handle().levels, empty.statistics().len()), (0, 0));
+        assert_eq!(empty.update_values(nothing), Ok(()));
+        let one = CsrMatrix {
+            values: &[1.0],
+            ..nothing
+        };
+        assert_eq!(empty.update_values(one), Err(Refusal::OtherPattern));
+        let report = empty.solve(&[], &mut [], half()).expect("it solves");
+        assert_eq!(
+            (report.status, report.iterations),
+            (LinearSolverStatus::Converged, 0)
+        );
+        for residual in [
+            report.initial_residual,
+            report.final_residual,
+            report.relative_residual,
+        ] {
+            assert_eq!(residual.to_bits(), 0);
+        }
+        assert_eq!(
+            empty.solve(&[1.0], &mut [], half()),
+            Err(Refusal::WrongLength)
+        );
+    }
+}

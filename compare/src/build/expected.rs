@@ -1,6 +1,7 @@
 //! The answer that a build must give: the Rust's own steps, called one by one in the loop of hierarchy.rs, and document
 //! 01's questions where they stand in that order. Questions 1 to 3 and 10 are the container's, 6 the Rust's `validate`;
-//! 7, 8, 9 and 14 are asked here, and so is 6 of the cap, with which the pairings are those of `capped.rs`.
+//! 7, 9 and 14 are asked here, and so is 6 of the cap, with which the pairings are those of `capped.rs`. A matrix of no rows, which the Rust
+//! refuses, has the answer of document 02's words.
 
 use super::hierarchy::{Hierarchy, Level};
 use super::problem::{Lent, Problem};
@@ -79,10 +80,13 @@ fn attempt(problem: &Problem, charges: &mut Vec<Charge>) -> Asked<Hierarchy> {
         6,
     )?;
     ask(options.coarse_solver == MultigridCoarseSolver::Cholesky, 7)?;
-    ask(rows > 0, 8)?;
     let fixed = Charge::fixed(options, rows, entries);
     charge(charges, fixed, &problem.lent)?;
     ask(options.max_levels <= problem.lent.statistics, 9)?;
+    // Document 02, Q-7: no rows are a hierarchy of no levels, and no level is charged.
+    if rows == 0 {
+        return Ok(Hierarchy::default());
+    }
     charge(charges, fixed.and_level(rows, entries), &problem.lent)?;
     ask(matrix.is_symmetric(TOLERANCE), 10)?;
     let (levels, kernel) = grow(problem, matrix, charges)?;

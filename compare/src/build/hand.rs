@@ -99,6 +99,7 @@ pub fn problems() -> Vec<(&'static str, Problem, Said)> {
     problems.extend(places());
     problems.extend(mirrors());
     problems.extend(stores());
+    problems.extend(empty());
     problems
 }
 
@@ -164,11 +165,6 @@ fn limits() -> Vec<(&'static str, Problem, Said)> {
             "257-coarsest-cells",
             problem(path(257), coarsest(257)),
             Err((6, 0, 0)),
-        ),
-        (
-            "no-rows",
-            problem(without_entries(0), controls()),
-            Err((8, 0, 0)),
         ),
         (
             "no-diagonals",
@@ -360,6 +356,62 @@ fn stores() -> Vec<(&'static str, Problem, Said)> {
                     statistics: 0,
                 };
             }),
+            Err((9, 0, 0)),
+        ),
+    ]
+}
+
+/// No rows: what questions 2 and 4 ask of the arrays, and the fixed charge, of which each may be one short.
+fn empty() -> Vec<(&'static str, Problem, Said)> {
+    let full = problem(without_entries(0), controls());
+    let changed = |change: fn(&mut Problem)| {
+        let mut changed = full.clone();
+        change(&mut changed);
+        changed
+    };
+    vec![
+        ("no-rows", full.clone(), Ok(0)),
+        (
+            "no-rows-weighed",
+            changed(|problem| problem.weights = Some(vec![])),
+            Ok(0),
+        ),
+        (
+            "no-rows-one-weight",
+            changed(|problem| problem.weights = Some(vec![1.0])),
+            Err((4, 0, 0)),
+        ),
+        (
+            "no-rows-one-entry",
+            changed(|problem| {
+                problem.arrays.columns.push(0);
+                problem.arrays.values.push(1.0);
+            }),
+            Err((2, 0, 0)),
+        ),
+        (
+            "no-rows-one-value",
+            changed(|problem| problem.arrays.values.push(1.0)),
+            Err((2, 0, 0)),
+        ),
+        (
+            "no-rows-no-offset",
+            changed(|problem| problem.arrays.offsets.clear()),
+            Err((2, 0, 0)),
+        ),
+        (
+            "no-rows-word-short",
+            changed(|problem| problem.lent.words = 63),
+            Err((9, 0, 0)),
+        ),
+        (
+            "no-rows-float-short",
+            changed(|problem| problem.lent.floats = problem.options.coarsest_cells.pow(2) - 1),
+            Err((9, 0, 0)),
+        ),
+        (
+            "no-rows-record-short",
+            changed(|problem| problem.lent.statistics -= 1),
             Err((9, 0, 0)),
         ),
     ]

@@ -30,7 +30,7 @@ use Rattle.hierarchy.proofs.Depth.{head-is}
 use Rattle.layout.specs.declared.Place.{Place}
 use Rattle.layout.specs.Layout.{rowsAt, entriesAt, facesAt, lastAt, coupledAt, locate, levelAt, levelsAt, wordsEnd, floatsEnd, imageEnd, wordsFit, viewOf}
 use Rattle.layout.specs.Parts.{kernelIn}
-use Rattle.layout.proofs.Views.{floats-to, levels-kept, fit-to}
+use Rattle.layout.proofs.Views.{floats-to, levels-kept, fit-to, finest-rows}
 use Rattle.build.specs.Finest.{SumsOk, Summed}
 
 -- There is a first level, whose pattern and faces are those of p.
@@ -201,4 +201,6 @@ module _ (z : List ℕ) (H : List Float) {p : Pattern} {ls : List Level} (valid 
       let read : part (imageEnd (length ls) z 0 0) (rowsAt z 0) G
       ≡ cond (needsSums (o .«residual_norm»)) (rowSumsOf (kernelAt (kernelIn own) z H)) (filled rows zero64) =
       ap (λ (n : ℕ). part n (rowsAt z 0) G) (sym is) ∙ ap (λ (n : ℕ). part end n G) (tall ∙ r) ∙ wrote-at (s .wrote) room in
-      with-sums o (kept .0 ∙ view ∙ leading .is) (read ∙ sums-is o r) ∙ ap (withSums o) (sym (leading .is))
+      let some : 1 ≤ length ls = rw (leading .is) (omega arith) in
+      let counted = ap (λ (n : ℕ). part (imageEnd (length ls) z 0 0) n G) (finest-rows (length ls) z some) in
+      with-sums o (kept .0 ∙ view ∙ leading .is) (counted ∙ read ∙ sums-is o r) ∙ ap (withSums o) (sym (leading .is))

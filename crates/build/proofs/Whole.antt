@@ -6,6 +6,7 @@ use mathlib.Core.List.{List, []}
 use Prim.Native.Nat.{ℕ, _+_, _-_, _*_, _≤_}
 use native.Mathlib.Omega.{arith}
 use lib.ListN.{length}
+use borrow.Author.Tests.{eq-eqb, ne-eqb}
 use lib.Ieee.{Float}
 use Rattle.float.specs.Float.{zero64}
 use Rattle.store.specs.Region.{part, Kept}
@@ -24,12 +25,13 @@ use Rattle.coefficients.specs.Mirrors.{mirrorsAgree}
 use Rattle.pattern.specs.Pattern.{Pattern, entries, Valid, Rising, Mirrored}
 use Rattle.faces.specs.Faces.{facesOf, uppersOf, lowersOf, mirroredOf}
 use Rattle.faces.proofs.faces.Laws.{mirrored-is}
-use Rattle.hierarchy.specs.Level.{Level, Hierarchy}
+use Rattle.hierarchy.specs.Level.{Level, Hierarchy, emptyHierarchy}
 use Rattle.hierarchy.specs.Refresh.{withSums}
 use Rattle.hierarchy.specs.Build.{charge, Charge, fixedCharge, andLevel, Mesh, Input, patternIn, meshIn, symmetricOf, growOf, buildOf}
 use Rattle.hierarchy.proofs.Depth as depth
 use Rattle.layout.specs.Layout.{imageEnd, wordsFit, viewOf}
 use Rattle.layout.specs.Headers.{headsAt, headsOf}
+use Rattle.layout.proofs.Views.{view-empty}
 use Rattle.coarsening.specs.declared.coarsen.Workspace.{Workspace}
 use Rattle.coarsening.specs.CoarsenContract.{WorkOk}
 use Rattle.build_level.specs.declared.laying.Frontier.{Frontier}
@@ -42,7 +44,7 @@ use Rattle.build.specs.Built.{lentOf, builtOf, BuildDone}
 use Rattle.build.specs.AskingContract.{lending, askedOf, Asked, Fitting, Spaced}
 use Rattle.build.proofs.questions.Chains.{passed-then, refused-then}
 use Rattle.build.specs.Finest.{LoadOk, Loaded, finestAt, SymmetricOk, SymmetricDone, finestOf, SumsOk, Summed}
-use Rattle.build.specs.Steps.{restOf, LevelsOk, levelsMade, LevelsDone, Tried, Begun, Attempted, Cleared}
+use Rattle.build.specs.Steps.{restOf, afterRoom, emptyMade, LevelsOk, levelsMade, LevelsDone, Tried, Begun, Attempted, Cleared}
 use Rattle.build.proofs.Chain.{build-asked}
 use Rattle.build.proofs.First.{Leading, grow-leading, sums-ok, viewed}
 
@@ -339,18 +341,44 @@ module _ {words floats : ℕ} {x : Input} {t : Workspace} (fit : Fitting words f
 
 -- ---- the whole
 
+-- An attempt that makes no levels.
+emptied : {w : List ℕ} {F : List Float} {x : Input} {out : Outcome Hierarchy} {r : Built} → r ≡ emptyMade (x .options) (x .rows) (length (x .columns))
+    → out ≡ accepted emptyHierarchy → Tried w w F F out x r
+unfolding wordsFit headsAt headsOf
+emptied {w} {F} {x} e is = record {
+  answer = e ∙ sym (ap (builtOf x) is);
+  view = λ h a. subst (λ (k : Hierarchy). viewOf (length (k .levels)) w F 0 ≡ k) (accepted-one (sym is ∙ a)) (view-empty w F);
+  fits = λ h a. subst (λ (k : Hierarchy). wordsFit (length (k .levels)) w 0 ≡ true) (accepted-one (sym is ∙ a)) refl;
+  heads = λ h a. subst (λ (k : Hierarchy). headsAt (length (k .levels)) w 0 ≡ headsOf (k .levels)) (accepted-one (sym is ∙ a)) refl;
+  wordsize = refl;
+  floatsize = refl;
+}
+
 module _ (w : List ℕ) (F : List Float) {x : Input} {records : ℕ} {v : Verdict} (asked : Asked (lending (length w) (length F) records) x v) where
-  pub attempt-on : {z : List ℕ} {G : List Float} {r : Built} → v ≡ Verdict.Passed → Begun w z F G x r → Attempted w z F G x records r
-  attempt-on {z} {G} {r} p begun =
+  -- What follows the questions.
+  after-is : v ≡ Verdict.Passed → buildOf (lentOf w F records) x ≡ afterRoom (charge (length w) (length F)) x
+  after-is p =
       let l = lentOf w F records in
-      subst (λ (out : Outcome Hierarchy). Tried w z F G out x r)
-      (sym (build-asked l x ∙ passed-then (askedOf l x) (restOf (charge (length w) (length F)) x) (sym (asked .answer) ∙ p))) begun
+      build-asked l x ∙ passed-then (askedOf l x) (afterRoom (charge (length w) (length F)) x) (sym (asked .answer) ∙ p)
+
+  pub attempt-on : {z : List ℕ} {G : List Float} {r : Built} → v ≡ Verdict.Passed → (x .rows ≡ 0 → ⊥) → Begun w z F G x r → Attempted w z F G x records r
+  attempt-on {z} {G} {r} p some begun =
+      let out = restOf (charge (length w) (length F)) x in
+      let rest : afterRoom (charge (length w) (length F)) x ≡ out = rw (ne-eqb (x .rows) 0 some) in
+      subst (λ (out : Outcome Hierarchy). Tried w z F G out x r) (sym (after-is p ∙ rest)) begun
+
+  -- Of no rows: the stores stay as they were, and hold no levels.
+  pub attempt-empty : {r : Built} → v ≡ Verdict.Passed → x .rows ≡ 0 → r ≡ emptyMade (x .options) (x .rows) (length (x .columns))
+      → Attempted w w F F x records r
+  attempt-empty {r} p none e =
+      let rest : afterRoom (charge (length w) (length F)) x ≡ accepted emptyHierarchy = rw (eq-eqb (x .rows) 0 none) in
+      emptied e (after-is p ∙ rest)
 
   pub attempt-no : {q : Refusal} → v ≡ Verdict.Refused q → Attempted w w F F x records (Built.Refused q)
   attempt-no {q} p =
       let l = lentOf w F records in
       refusing (buildOf l x)
-      (build-asked l x ∙ refused-then (askedOf l x) (restOf (charge (length w) (length F)) x) q (sym (asked .answer) ∙ p)) refl refl
+      (build-asked l x ∙ refused-then (askedOf l x) (afterRoom (charge (length w) (length F)) x) q (sym (asked .answer) ∙ p)) refl refl
 
 not-both : {h : Handle} {q : Refusal} → Built.Made h ≡ Built.Refused q → ⊥
 not-both e = let none : _≡_ {A = ℕ} 0 1 = cc in omega arith

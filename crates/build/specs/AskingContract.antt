@@ -1,13 +1,13 @@
 -- Questions 1 to 9 of a build and the temporaries: what the functions require and ensure. Definitions only.
 use mathlib.Core.Path.{_≡_}
-use mathlib.Core.Bool.{Bool, true, cond, _&&_}
+use mathlib.Core.Bool.{Bool, true, cond, _&&_, _||_}
 use mathlib.Core.List.{List}
 use Prim.Native.Nat.{ℕ, _+_, _*_, _≤_}
-use lib.Dec.{leb}
+use lib.Dec.{eqb, leb}
 use lib.ListN.{length}
 use lib.Ieee.{Float}
 use Rattle.options.specs.declared.options.MultigridOptions.{MultigridOptions}
-use Rattle.refusal.specs.Refusal.{noRows, storeTooSmall}
+use Rattle.refusal.specs.Refusal.{storeTooSmall}
 use Rattle.refusal.specs.declared.Verdict.{Verdict}
 use Rattle.options.specs.Options.{controlsAsked}
 use Rattle.refusal.specs.Outcome.{Outcome, passed, ask, verdictOf, _>>=_, _>>_}
@@ -31,13 +31,12 @@ arraysAsked x = do
   _ ← matrixAsked (x .rows) (x .offsets) (x .columns) (x .values)
   weighedAsked (length (x .columns)) (x .given) (x .weights) (x .options)
 
--- questions 8 and 9, of a matrix of so many rows and entries
+-- question 9, of a matrix of so many rows and entries: where there is no row there is no level, and none is charged
 unfoldable pub roomAsked : MultigridOptions → Lent → ℕ → ℕ → Outcome Unit
 roomAsked o l rows entries = do
   let fixed = fixedCharge o rows entries
-  ask (leb 1 rows) noRows
   ask (holds (l .stores) fixed && leb (o .«max_levels») (l .records)) storeTooSmall
-  ask (holds (l .stores) (charge (fixed .words + (5 * rows + 4 * entries + 8)) (fixed .floats + (20 * rows + 4 * entries)))) storeTooSmall
+  ask (eqb rows 0 || holds (l .stores) (charge (fixed .words + (5 * rows + 4 * entries + 8)) (fixed .floats + (20 * rows + 4 * entries)))) storeTooSmall
   passed
 
 -- questions 1 to 9
@@ -73,7 +72,7 @@ pub record ChargeOk (rows entries : ℕ) (o : MultigridOptions) : Type 0 where
   pub less : entries ≤ 1048576
   pub controls : ControlsFit o
 
--- the answer of questions 8 and 9
+-- the answer of question 9
 pub record RoomAsked (rows entries : ℕ) (o : MultigridOptions) (l : Lent) (r : Verdict) : Type 0 where
   pub answer : r ≡ verdictOf (roomAsked o l rows entries)
 
@@ -89,7 +88,7 @@ pub record ArraysFit (x : Input) : Type 0 where
   pub weighed : x .given ≡ true → length (x .weights) ≡ length (x .columns)
   pub controls : ControlsFit (x .options)
 
--- And where 8 and 9 passed the stores hold the charge with the finest level's.
+-- And where 9 passed and there is a row the stores hold the charge with the finest level's.
 pub record Fitting (words floats : ℕ) (x : Input) : Type 0 where
   pub arrays : ArraysFit x
   pub heldwords : fixedCharge (x .options) (x .rows) (length (x .columns)) .words + (5 * x .rows + 4 * length (x .columns) + 8) ≤ words

@@ -1,8 +1,9 @@
 -- The steps of the whole build: what the functions require and ensure. Definitions only.
 use mathlib.Core.Path.{_≡_}
-use mathlib.Core.Bool.{Bool, true}
+use mathlib.Core.Bool.{Bool, true, cond}
 use mathlib.Core.List.{List}
 use Prim.Native.Nat.{ℕ, _-_}
+use lib.Dec.{eqb}
 use lib.ListN.{length}
 use lib.Ieee.{Float}
 use Rattle.float.specs.Float.{zero64}
@@ -11,7 +12,7 @@ use Rattle.options.specs.declared.options.MultigridOptions.{MultigridOptions}
 use Rattle.refusal.specs.declared.Refusal.{Refusal}
 use Rattle.refusal.specs.Refusal.{notSymmetric}
 use Rattle.refusal.specs.Outcome.{Outcome, accepted, refused, ask, _>>=_, _>>_}
-use Rattle.hierarchy.specs.Level.{Level, Hierarchy}
+use Rattle.hierarchy.specs.Level.{Level, Hierarchy, emptyHierarchy}
 use Rattle.hierarchy.specs.Refresh.{withSums}
 use Rattle.hierarchy.specs.Build.{charge, Charge, fixedCharge, andLevel, Input, patternIn, meshIn, symmetricOf, growOf, buildOf}
 use Rattle.layout.specs.Layout.{viewOf, wordsFit}
@@ -32,6 +33,14 @@ restOf stores x = do
   ask (symmetricOf (patternIn x) (x .values)) notSymmetric
   levels ← growOf (x .options) (x .given) stores (x .options .«max_levels» - 1) 0 0 (andLevel (patternIn x) fixed) (meshIn x)
   accepted (withSums (x .options) levels)
+
+-- what follows question 9: where there is no row there is no level
+abbrev pub afterRoom : Charge → Input → Outcome Hierarchy
+afterRoom stores x = cond (eqb (x .rows) 0) (accepted emptyHierarchy) (restOf stores x)
+
+-- the answer to a build of no levels
+abbrev pub emptyMade : MultigridOptions → ℕ → ℕ → Built
+emptyMade o rows entries = Built.Made (record { options = o; levels = 0; rows = rows; entries = entries })
 
 -- What the levels of a loaded matrix require.
 pub record LevelsOk (w : List ℕ) (size : ℕ) (o : MultigridOptions) (t : Workspace) : Type 0 where

@@ -1,9 +1,10 @@
 // `build` of hierarchy.rs, in lent stores: the questions on the input, and the levels from the finest on.
+ghost use mathlib.Core.Path.{_≡_};
 ghost use lib.ListN.{length};
 ghost use Rattle.build.specs.Built.{BuildDone};
 ghost use Rattle.build.specs.Asking.{inputOf};
 ghost use Rattle.build.specs.AskingContract.{Fitting};
-ghost use Rattle.build.specs.Steps.{LevelsOk, LevelsDone, Begun, Attempted, Cleared};
+ghost use Rattle.build.specs.Steps.{LevelsOk, LevelsDone, emptyMade, Begun, Attempted, Cleared};
 use build_level::Growth;
 use coarsening::Workspace;
 use finest::loading;
@@ -64,6 +65,18 @@ fn begin(
     Built::Refused(refusal::NOT_SYMMETRIC)
 }
 
+// The handle of a matrix of no rows, which has no levels.
+fn empty(rows: usize, entries: usize, o: MultigridOptions) -> Built
+    ensures { λ r. ⌜ r ≡ emptyMade o rows entries ⌝ }
+{
+    Built::Made(Handle {
+        options: o,
+        levels: 0,
+        rows: rows as u64,
+        entries: entries as u64,
+    })
+}
+
 // The whole build; where it refuses nothing is said of what the stores hold.
 fn attempt(
     rows: usize,
@@ -91,7 +104,12 @@ fn attempt(
         w.len(),
         f.len(),
     ) {
-        Verdict::Passed => begin(rows, offsets, columns, values, given, weights, o, w, f),
+        Verdict::Passed => {
+            if rows == 0 {
+                return empty(rows, columns.len(), o);
+            }
+            begin(rows, offsets, columns, values, given, weights, o, w, f)
+        }
         Verdict::Refused(q) => Built::Refused(q),
     }
 }

@@ -38,7 +38,7 @@ fn arrays_asked(
     }
 }
 
-// Questions 8 and 9, of a matrix of so many rows and entries.
+// Question 9, of a matrix of so many rows and entries: where there is no row there is no level, and none is charged.
 fn room_asked(
     rows: usize,
     entries: usize,
@@ -54,12 +54,10 @@ fn room_asked(
     let vectors = space::vectors(rows, o.krylov_dimension as usize);
     let factor = space::square(o.coarsest_cells as usize);
     let numbers = vectors + 8 * entries + factor;
-    if rows == 0 {
-        return Verdict::Refused(refusal::NO_ROWS);
-    }
     if (fixed <= words) & (numbers <= floats) & (o.max_levels as usize <= records) {
-        if (fixed + (5 * rows + 4 * entries + 8) <= words)
-            & (numbers + (20 * rows + 4 * entries) <= floats)
+        if (rows == 0)
+            | ((fixed + (5 * rows + 4 * entries + 8) <= words)
+                & (numbers + (20 * rows + 4 * entries) <= floats))
         {
             return Verdict::Passed;
         }

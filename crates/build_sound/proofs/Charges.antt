@@ -14,6 +14,7 @@ use Rattle.faces.specs.Faces.{coupledCountOf}
 use Rattle.faces.proofs.faces.Laws.{faces-few, coupled-few}
 use Rattle.hierarchy.specs.Level.{Shape, Level}
 use Rattle.layout.specs.Layout.{rowsAt, coupledAt, entriesAt, facesAt, wordsEnd, floatsEnd, levelsAt, imageEnd, wordsFit}
+use Rattle.layout.proofs.Views.{finest-most}
 use Rattle.index_check.specs.Sound.{scratchEnd, cycleStart}
 use Rattle.build_sound.specs.Laid.{Laid, last, inner, chargesOf}
 use Rattle.build_sound.proofs.Reading.{rows-told, entries-told, faces-told, coupled-told, coupled-none, view-first, shape-told, fit-split}
@@ -76,4 +77,4 @@ solve-fits {most} {p} {levels} laid w F krylov {size} view fits tall paid =
     let vectors : (2 + 2 * krylov) * rowsAt w 0 ≡ (2 + 2 * krylov) * n = ap (λ (r : ℕ). (2 + 2 * krylov) * r) tall in
     let more : 12 + 2 * krylov ≡ 10 + (2 + 2 * krylov) = omega arith in
     let split : (12 + 2 * krylov) * n ≡ 10 * n + (2 + 2 * krylov) * n = ap (λ (c : ℕ). c * n) more ∙ add-mul 10 (2 + 2 * krylov) n in
-    omega arith
+    omega (arith, finest-most k w)

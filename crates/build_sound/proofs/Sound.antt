@@ -8,6 +8,7 @@ use native.Mathlib.Omega.{arith}
 use lib.ListN.{length}
 use lib.Ieee.{Float}
 use borrow.Author.Tests.{leb-true, le-leb, eq-eqb}
+use Rattle.store.specs.Region.{idx}
 use Rattle.store.proofs.store.Each.{both-l, both-r}
 use Rattle.refusal.specs.Outcome.{accepted}
 use Rattle.refusal.proofs.Outcome.{verdict-passed}
@@ -18,14 +19,15 @@ use Rattle.csr.specs.Questions.{matrixAsked}
 use Rattle.csr.proofs.csr.Laws.{matrix-valid, matrix-rising, matrix-sizes}
 use Rattle.hierarchy.specs.Level.{Level, Hierarchy}
 use Rattle.hierarchy.specs.Build.{holds, Lent, Input, patternIn, meshIn, buildOf, symmetricOf}
-use Rattle.hierarchy.proofs.Accepted.{fixedIn, chargeIn, Built, build-built}
+use Rattle.hierarchy.proofs.Accepted.{fixedIn, chargeIn, Built, build-asked, build-empty, build-built}
 use Rattle.hierarchy.proofs.Depth.{levels-kept, build-levels}
 use Rattle.layout.specs.Layout.{rowsAt, lastAt, entriesAt, wordsEnd, floatsEnd, levelsAt, wordsFit, viewOf}
 use Rattle.build.specs.Built.{handleOf}
 use Rattle.index_check.specs.declared.sound.Walk.{Walk}
-use Rattle.index_check.specs.Sound.{headSound, shapeIn, arraysSound, rowPlaced, targetsOf, sumsOf, walkOf, isSound, scratchEnd, cycleStart, handleSound, soundOf}
+use Rattle.index_check.specs.Sound.{headSound, shapeIn, arraysSound, rowPlaced, targetsOf, sumsOf, walkOf, isSound, scratchEnd, cycleStart, emptySound, handleSound, filledSound, soundOf}
 use Rattle.index_check.proofs.sound.Walks.{endsOf, head-fits, level-walked, walk-closed, walk-none}
 use Rattle.index_check.proofs.sound.Accepts.{walk-accepts}
+use Rattle.index_check.proofs.sound.Question.{empty-sound, filled-sound}
 use Rattle.build_sound.specs.Laid.{Small, Laid, last, inner, chargesOf}
 use Rattle.build_sound.proofs.Growth.{grow-diagonal, grow-laid, held, grow-paid}
 use Rattle.build_sound.proofs.Reading.{last-arrays, inner-arrays, rows-told, last-told, entries-told, head-told, rows-placed, coupled-told, coupled-none, view-first, shape-told, fit-split}
@@ -102,7 +104,7 @@ module _ (l : Lent) (x : Input) {h : Hierarchy} (b : Built l x h) where
   unfolding symmetricOf
   finest-small =
       let p = patternIn x in
-      let asked = verdict-passed (matrixAsked (x .rows) (x .offsets) (x .columns) (x .values)) (b .matrix) in
+      let asked = verdict-passed (matrixAsked (x .rows) (x .offsets) (x .columns) (x .values)) (b .asked .matrix) in
       let valid = matrix-valid (x .rows) (x .offsets) (x .columns) (x .values) asked in
       let rising = matrix-rising (x .rows) (x .offsets) (x .columns) (x .values) asked in
       let sizes = matrix-sizes (x .rows) (x .offsets) (x .columns) (x .values) asked in
@@ -137,30 +139,52 @@ module _ (l : Lent) (x : Input) {h : Hierarchy} (b : Built l x h) where
       let paid = grow-paid o (x .given) (l .stores) (o .«max_levels» - 1) 0 0 (chargeIn x) (meshIn x) (b .grown) in
       rw (← levels-are) (paid .all (fixedIn x .floats) refl (held (l .stores) (chargeIn x) (b .paid)))
 
--- An accepted build's hierarchy, in stores of the sizes lent, passes question 19.
-pub built-sound : (l : Lent) (x : Input) {h : Hierarchy} → buildOf l x ≡ accepted h → (w : List ℕ) (F : List Float)
+-- Of no rows its handle is one of no levels.
+empty-built : (l : Lent) (x : Input) {h : Hierarchy} → x .rows ≡ 0 → buildOf l x ≡ accepted h → emptySound (handleOf x h) ≡ true
+unfolding emptySound
+empty-built l x {h} none e =
+    let a = build-asked l x e in
+    let asked = verdict-passed (matrixAsked (x .rows) (x .offsets) (x .columns) (x .values)) (a .matrix) in
+    let valid = matrix-valid (x .rows) (x .offsets) (x .columns) (x .values) asked in
+    let levels : length (h .levels) ≡ 0 = ap (λ (k : Hierarchy). length (k .levels)) (sym (build-empty l x none e)) in
+    let entries : length (x .columns) ≡ 0 = sym (valid .last) ∙ ap (idx (x .offsets)) none ∙ valid .first in
+    both (both (both (both (a .controls) (a .solver)) (eq-eqb (length (h .levels)) 0 levels)) (eq-eqb (x .rows) 0 none)) (eq-eqb (length (x .columns)) 0 entries)
+
+-- With rows the walk goes through its levels, and they fit.
+filled-built : (l : Lent) (x : Input) {h : Hierarchy} → 1 ≤ x .rows → buildOf l x ≡ accepted h → (w : List ℕ) (F : List Float)
     → viewOf (length (h .levels)) w F 0 ≡ h → wordsFit (length (h .levels)) w 0 ≡ true
     → length w ≡ l .stores .words → length F ≡ l .stores .floats
-    → soundOf (handleOf x h) w (length F) (l .records) ≡ true
-unfolding soundOf handleSound viewOf
-built-sound l x {h} e w F view fits words floats =
+    → filledSound (handleOf x h) w (length F) (l .records) ≡ true
+unfolding filledSound handleSound viewOf
+filled-built l x {h} some e w F view fits words floats =
     let o = x .options in
-    let b = build-built l x e in
-    let d = build-levels l x e in
+    let b = build-built l x some e in
+    let d = build-levels l x some e in
     let k = length (h .levels) in
     let krylov = o .«krylov_dimension» in
     let levels : levelsAt k w F 0 0 ≡ h .levels = ap (λ (g : Hierarchy). g .levels) view in
     let laid = levels-laid l x b in
     let walked = walk-laid laid w F 0 0 0 levels fits in
     let tall : rowsAt w 0 ≡ x .rows = walked .rows in
-    let records : o .«max_levels» ≤ l .records = leb-true _ _ (both-r (holds (l .stores) (fixedIn x)) _ (b .room)) in
+    let records : o .«max_levels» ≤ l .records = leb-true _ _ (both-r (holds (l .stores) (fixedIn x)) _ (b .asked .room)) in
     let paid = levels-paid l x b in
     let few = d .few in
     let size : scratchEnd k w 0 (cycleStart krylov k w) ≤ length F = solve-fits laid w F krylov levels fits tall (omega arith) in
     both (both (both (both (both
-    (both (both (both (both (b .controls) (b .solver)) (b .rows)) (le-leb 1 k (d .some))) (le-leb k (o .«max_levels») few))
+    (both (both (both (both (b .asked .controls) (b .asked .solver)) (le-leb 1 (x .rows) some)) (le-leb 1 k (d .some))) (le-leb k (o .«max_levels») few))
     (le-leb k (l .records) (omega arith)))
     (sym (walk-accepts k w 0 0) ∙ ap isSound (walked .walk)))
     (eq-eqb (rowsAt w 0) (x .rows) tall))
     (eq-eqb (entriesAt w 0) (length (x .columns)) (walked .long)))
     (le-leb (scratchEnd k w 0 (cycleStart krylov k w)) (length F) size)
+
+-- An accepted build's hierarchy, in stores of the sizes lent, passes question 19.
+pub built-sound : (l : Lent) (x : Input) {h : Hierarchy} → buildOf l x ≡ accepted h → (w : List ℕ) (F : List Float)
+    → viewOf (length (h .levels)) w F 0 ≡ h → wordsFit (length (h .levels)) w 0 ≡ true
+    → length w ≡ l .stores .words → length F ≡ l .stores .floats
+    → soundOf (handleOf x h) w (length F) (l .records) ≡ true
+built-sound l x {h} e w F view fits words floats = go (x .rows) refl
+  where
+    go : (n : ℕ) → x .rows ≡ n → soundOf (handleOf x h) w (length F) (l .records) ≡ true
+    go zero none = empty-sound (handleOf x h) w (length F) (l .records) (empty-built l x none e)
+    go (suc n) some = filled-sound (handleOf x h) w (length F) (l .records) (filled-built l x (omega arith) e w F view fits words floats)

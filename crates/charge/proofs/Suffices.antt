@@ -1,16 +1,17 @@
 -- Stores for `max_levels` levels of the finest size are never refused by question 9: no level of a build has more rows or entries than
 -- the finest, and there are at most `max_levels` of them.
 -- Assumes nothing.
-use mathlib.Core.Path.{_≡_, refl, sym, ap, subst}
+use mathlib.Core.Path.{_≡_, refl, sym, ap, _∙_, subst}
 use mathlib.Core.Bool.{Bool, true, false, not, cond, _&&_}
 use mathlib.Core.List.{List}
 use Prim.Native.Nat.{ℕ, zero, suc, _+_, _-_, _*_, _≤_}
 use native.Mathlib.Nat.{mul-le-mul, mul-comm}
 use native.Mathlib.Omega.{arith}
 use lib.Dec.{eqb, leb}
-use borrow.Author.Tests.{le-leb}
+use borrow.Author.Tests.{le-leb, eq-eqb}
+use Rattle.store.specs.Region.{idx}
 use Rattle.refusal.specs.declared.Verdict.{Verdict}
-use Rattle.refusal.specs.Refusal.{noRows, storeTooSmall, notSymmetric}
+use Rattle.refusal.specs.Refusal.{storeTooSmall, notSymmetric}
 use Rattle.refusal.specs.Outcome.{Outcome, accepted, passed, verdictOf}
 use Rattle.options.specs.declared.options.MultigridOptions.{MultigridOptions}
 use Rattle.options.specs.Options.{controlsAsked}
@@ -224,29 +225,61 @@ arrays-passed : (x : Input) {a b c : Unit} → matrixAsked (x .rows) (x .offsets
 unfolding arraysAsked
 arrays-passed x m w c = rw (m, w, c)
 
+-- Questions 4 and 5, where weights are given, spare 9.
+weighed : (x : Input) (given : Bool) → Spared 9 (cond given (weightsAsked (entries (patternIn x)) (x .weights)) passed)
+weighed x true = weights-spare (entries (patternIn x)) (x .weights)
+weighed x false = done
+
 -- A build that is lent stores for `max_levels` levels of the finest size is not refused by question 9.
 pub suffices : (l : Lent) (x : Input) → Lends l (sizesFor (x .options) (x .rows) (entries (patternIn x)) (x .options .«max_levels»))
     → spares 9 (buildOf l x) ≡ true
 unfolding buildOf
 suffices l x lends = chain .is
   where
-    weighed : (given : Bool) → Spared 9 (cond given (weightsAsked (entries (patternIn x)) (x .weights)) passed)
-    weighed true = weights-spare (entries (patternIn x)) (x .weights)
-    weighed false = done
-
     chain : Spared 9 (buildOf l x)
     chain =
         let p = patternIn x in
         let o = x .options in
         then-spares (matrixAsked (x .rows) (x .offsets) (x .columns) (x .values)) (matrix-spares (x .rows) (x .offsets) (x .columns) (x .values)) (λ _ m.
-        then-spares (cond (x .given) (weightsAsked (entries p) (x .weights)) passed) (weighed (x .given)) (λ _ w.
+        then-spares (cond (x .given) (weightsAsked (entries p) (x .weights)) passed) (weighed x (x .given)) (λ _ w.
         then-spares (controlsAsked o) (controls-spare o) (λ _ c.
         let fit = arrays-fit x (arrays-passed x m w c) in
-        ask-spares (leb 1 (x .rows)) noRows refl (
         holds-spares (holds (l .stores) (fixedIn x) && leb (o .«max_levels») (l .records)) storeTooSmall (roomy l x lends fit) (
+        cond-spares (eqb (x .rows) 0) done (λ _.
         holds-spares (holds (l .stores) (chargeIn x)) storeTooSmall (finest-paid l x lends fit) (
         ask-spares (symmetricOf p (x .values)) notSymmetric refl (
         then-spares (growOf o (x .given) (l .stores) (o .«max_levels» - 1) 0 0 (chargeIn x) (meshIn x))
         (grow-spares o (x .given) (l .stores) (5 * x .rows + 4 * entries p + 8) (20 * x .rows + 4 * entries p) (x .rows) (entries p)
         (record { words = omega arith; floats = omega arith }) (o .«max_levels» - 1) 0 0 (chargeIn x) (meshIn x)
         (record { valid = fit .valid; few = omega arith }) (omega arith) (finest-room l x lends fit)) (λ _ _. done))))))))
+
+-- ---- no rows
+
+-- The fixed charge of no rows is that of no levels of no rows.
+empty-room : (l : Lent) (x : Input) → x .rows ≡ 0 → Lends l (sizesFor (x .options) 0 0 0) → ArraysFit x
+    → (holds (l .stores) (fixedIn x) && leb (x .options .«max_levels») (l .records)) ≡ true
+unfolding sizesFor wordsFor floatsFor
+empty-room l x none lends fit =
+    let o = x .options in
+    let short : entries (patternIn x) ≡ 0 = sym (fit .valid .last) ∙ ap (idx (x .offsets)) none ∙ fit .valid .first in
+    let vectors : (12 + 2 * o .«krylov_dimension») * x .rows ≡ (12 + 2 * o .«krylov_dimension») * 0 = ap (λ (n : ℕ). (12 + 2 * o .«krylov_dimension») * n) none in
+    let s = square-few (o .«coarsest_cells») (fit .controls .coarsest) in
+    let records : o .«max_levels» ≤ l .records = lends .records in
+    let words = lends .words in
+    let floats = lends .floats in
+    rw (held (l .stores) (fixedIn x) (omega arith) (omega arith), le-leb (o .«max_levels») (l .records) records)
+
+-- A build of a matrix of no rows that is lent stores for no levels is not refused by question 9.
+pub suffices-empty : (l : Lent) (x : Input) → x .rows ≡ 0 → Lends l (sizesFor (x .options) 0 0 0) → spares 9 (buildOf l x) ≡ true
+unfolding buildOf
+suffices-empty l x none lends = chain .is
+  where
+    chain : Spared 9 (buildOf l x)
+    chain =
+        let o = x .options in
+        then-spares (matrixAsked (x .rows) (x .offsets) (x .columns) (x .values)) (matrix-spares (x .rows) (x .offsets) (x .columns) (x .values)) (λ _ m.
+        then-spares (cond (x .given) (weightsAsked (entries (patternIn x)) (x .weights)) passed) (weighed x (x .given)) (λ _ w.
+        then-spares (controlsAsked o) (controls-spare o) (λ _ c.
+        let fit = arrays-fit x (arrays-passed x m w c) in
+        holds-spares (holds (l .stores) (fixedIn x) && leb (o .«max_levels») (l .records)) storeTooSmall (empty-room l x none lends fit)
+        (rw (eq-eqb (x .rows) 0 none) done))))

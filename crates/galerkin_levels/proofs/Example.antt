@@ -174,7 +174,7 @@ ring-exact-by steps e =
       hierarchy = a .0;
       built = a .1;
       deep = a .2;
-      exact = build-galerkin ample (ring steps) (a .1) wholeAt (fit-whole (patternIn (ring steps)) wholes (ring-fits .0));
+      exact = build-galerkin ample (ring steps) (omega arith) (a .1) wholeAt (fit-whole (patternIn (ring steps)) wholes (ring-fits .0));
     }
 
 -- The three levels of the ring are exact,
@@ -194,7 +194,7 @@ ring-updated =
     let a = accepted-of (updated (r .hierarchy .levels)) e in (
       a .0,
       a .1,
-      update-galerkin ample (ring 1) (r .built) (controls 1) (ring 1 .offsets) (ring 1 .columns) (map (ofInt binary64) doubled) (a .1)
+      update-galerkin ample (ring 1) (omega arith) (r .built) (controls 1) (ring 1 .offsets) (ring 1 .columns) (map (ofInt binary64) doubled) (a .1)
           (λ e. getD doubled e (pos 0)) (fit-whole (patternIn (ring 1)) doubled (ring-fits .1)),
     )
 

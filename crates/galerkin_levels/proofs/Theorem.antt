@@ -4,7 +4,7 @@
 -- Assumes nothing.
 use mathlib.Core.Path.{_≡_, sym, ap, _∙_, subst}
 use mathlib.Core.List.{List, [], _∷_}
-use Prim.Native.Nat.{ℕ}
+use Prim.Native.Nat.{ℕ, _≤_}
 use native.Mathlib.Omega.{arith}
 use lib.IntN.{ℤ}
 use lib.Ieee.{Float}
@@ -50,13 +50,14 @@ refresh-exact o {z = z} laid e fine =
     let g = refresh-galerkin o 0 laid e fine in
     record { steps = g; finest = galerkin-finest z (laid-valid laid) laid g }
 
-module _ (lent : Lent) (x : Input) {h : Hierarchy} (built : buildOf lent x ≡ accepted h) where
+-- Of a matrix with rows; one of none has no levels.
+module _ (lent : Lent) (x : Input) {h : Hierarchy} (some : 1 ≤ x .rows) (built : buildOf lent x ≡ accepted h) where
   -- The Galerkin theorem of an accepted build.
   pub build-galerkin : (z : ℕ → ℤ) → WholeValues (patternIn x) (x .values) z → ExactLevels (patternIn x) z (h .levels)
   build-galerkin z fine =
       let f = build-first lent x built in
       let same : f .levels ≡ h .levels = sym (levels-kept (x .options) (f .levels)) ∙ sym (ap (λ (k : Hierarchy). k .levels) (f .is)) in
-      refresh-exact (x .options) (levels-laid lent x (build-built lent x built))
+      refresh-exact (x .options) (levels-laid lent x (build-built lent x some built))
       (subst (λ (ls : List Level). refreshOf (x .options) 0 (shapesIn ls) (x .values) ≡ accepted ls) same (f .second)) fine
 
   -- The Galerkin theorem of an accepted update of its levels, whatever the values before: an update leaves their shapes.
@@ -67,5 +68,5 @@ module _ (lent : Lent) (x : Input) {h : Hierarchy} (built : buildOf lent x ≡ a
       let f = update-first o (shapesIn (h .levels)) offsets columns values e in
       let same : f .levels ≡ k .levels = sym (levels-kept o (f .levels)) ∙ sym (ap (λ (j : Hierarchy). j .levels) (f .is)) in
       let shapes : shapesIn (k .levels) ≡ shapesIn (h .levels) = ap shapesIn (sym same) ∙ f .shapes in
-      refresh-exact o (laid-same (levels-laid lent x (build-built lent x built)) (k .levels) shapes)
+      refresh-exact o (laid-same (levels-laid lent x (build-built lent x some built)) (k .levels) shapes)
       (ap (λ (s : List Shape). refreshOf o 0 s values) shapes ∙ f .second ∙ ap accepted same) fine

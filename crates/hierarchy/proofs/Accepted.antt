@@ -4,14 +4,14 @@
 use mathlib.Core.Path.{_≡_, refl, sym, _∙_, subst}
 use mathlib.Core.Bool.{Bool, true, false, cond, _&&_, _||_}
 use mathlib.Core.List.{List, [], _∷_}
-use Prim.Native.Nat.{ℕ, zero, suc, _+_, _-_}
+use Prim.Native.Nat.{ℕ, zero, suc, _+_, _-_, _≤_}
 use native.Mathlib.Omega.{arith}
 use lib.Dec.{eqb, leb}
 use lib.ListN.{length}
-use borrow.Author.Tests.{ne-eqb}
+use borrow.Author.Tests.{eq-eqb, ne-eqb}
 use Rattle.options.specs.declared.options.MultigridOptions.{MultigridOptions}
 use Rattle.refusal.specs.declared.Refusal.{Refusal}
-use Rattle.refusal.specs.Refusal.{invalidControls, notCholesky, noRows, storeTooSmall, notSymmetric, tooManyCoupled, badCoarseValue}
+use Rattle.refusal.specs.Refusal.{invalidControls, notCholesky, storeTooSmall, notSymmetric, tooManyCoupled, badCoarseValue}
 use Rattle.options.specs.Options.{validOf, isCholesky, controlsAsked}
 use Rattle.refusal.specs.Outcome.{Outcome, accepted, refused, passed, ask, _>>=_}
 use Rattle.refusal.proofs.Outcome.{accepted-one}
@@ -23,7 +23,7 @@ use Rattle.pattern.proofs.pattern.Number.{not-both}
 use Rattle.faces.specs.Faces.{facesOf, diagonalsAsked}
 use Rattle.csr.specs.Questions.{matrixAsked}
 use Rattle.csr.specs.Weights.{weightsAsked}
-use Rattle.hierarchy.specs.Level.{Numbers, Level, Hierarchy}
+use Rattle.hierarchy.specs.Level.{Numbers, Level, Hierarchy, emptyHierarchy}
 use Rattle.hierarchy.specs.Refresh.{innerNumbers, lastNumbers, withSums}
 use Rattle.hierarchy.specs.Build.{Charge, fixedCharge, andLevel, holds, lastShape, innerShape, Mesh, Merged, merged, kernelAsked, paired, coarsened, coarsenedAsked, fewCoupled, lastLevel, mergeOf, growOf, Lent, Input, patternIn, meshIn, symmetricOf, buildOf}
 use Rattle.hierarchy.specs.Steps.{endsAt, innerLevel, levelStep, deeperOf}
@@ -279,42 +279,63 @@ fixedIn x = fixedCharge (x .options) (x .rows) (entries (patternIn x))
 abbrev pub chargeIn : Input → Charge
 chargeIn x = andLevel (patternIn x) (fixedIn x)
 
--- What an accepted build passed, and what it made.
-pub record Built (l : Lent) (x : Input) (h : Hierarchy) : Type 0 where
+-- what follows the fixed charge, of a matrix with rows
+abbrev levelsFrom : Charge → Input → Outcome Hierarchy
+levelsFrom stores x =
+    ask (holds stores (chargeIn x)) storeTooSmall (ask (symmetricOf (patternIn x) (x .values)) notSymmetric
+    (_>>=_ (growOf (x .options) (x .given) stores (x .options .«max_levels» - 1) 0 0 (chargeIn x) (meshIn x)) (λ levels. accepted (withSums (x .options) levels))))
+
+-- What an accepted build passed before its levels, and what it did then.
+pub record Asked (l : Lent) (x : Input) (h : Hierarchy) : Type 0 where
   pub matrix : matrixAsked (x .rows) (x .offsets) (x .columns) (x .values) ≡ passed
   pub weights : cond (x .given) (weightsAsked (entries (patternIn x)) (x .weights)) passed ≡ passed
   pub controls : validOf (x .options) ≡ true
   pub solver : isCholesky (x .options .«coarse_solver») ≡ true
-  pub rows : leb 1 (x .rows) ≡ true
   pub room : (holds (l .stores) (fixedIn x) && leb (x .options .«max_levels») (l .records)) ≡ true
+  pub rest : cond (eqb (x .rows) 0) (accepted emptyHierarchy) (levelsFrom (l .stores) x) ≡ accepted h
+
+-- What an accepted build of a matrix with rows made.
+pub record Built (l : Lent) (x : Input) (h : Hierarchy) : Type 0 where
+  pub asked : Asked l x h
   pub paid : holds (l .stores) (chargeIn x) ≡ true
   pub symmetric : symmetricOf (patternIn x) (x .values) ≡ true
   pub levels : List Level
   pub grown : growOf (x .options) (x .given) (l .stores) (x .options .«max_levels» - 1) 0 0 (chargeIn x) (meshIn x) ≡ accepted levels
   pub is : withSums (x .options) levels ≡ h
 
--- An accepted build is built.
-pub build-built : (l : Lent) (x : Input) {h : Hierarchy} → buildOf l x ≡ accepted h → Built l x h
+-- An accepted build was asked.
+pub build-asked : (l : Lent) (x : Input) {h : Hierarchy} → buildOf l x ≡ accepted h → Asked l x h
 unfolding buildOf
-build-built l x e =
-    let p = patternIn x in
+build-asked l x e =
     let o = x .options in
     let a = then-split (matrixAsked (x .rows) (x .offsets) (x .columns) (x .values)) _ e in
-    let b = then-split (cond (x .given) (weightsAsked (entries p) (x .weights)) passed) _ (a .2) in
+    let b = then-split (cond (x .given) (weightsAsked (entries (patternIn x)) (x .weights)) passed) _ (a .2) in
     let c = then-split (controlsAsked o) _ (b .2) in
     let valid = ask-split (validOf o) invalidControls _ (c .1) in
-    let rows = ask-split (leb 1 (x .rows)) noRows _ (c .2) in
-    let room = ask-split (holds (l .stores) (fixedIn x) && leb (o .«max_levels») (l .records)) storeTooSmall _ (rows .1) in
-    let paid = ask-split (holds (l .stores) (chargeIn x)) storeTooSmall _ (room .1) in
-    let even = ask-split (symmetricOf p (x .values)) notSymmetric _ (paid .1) in
-    let g = then-split (growOf o (x .given) (l .stores) (o .«max_levels» - 1) 0 0 (chargeIn x) (meshIn x)) _ (even .1) in
+    let room = ask-split (holds (l .stores) (fixedIn x) && leb (o .«max_levels») (l .records)) storeTooSmall _ (c .2) in
     record {
       matrix = a .1;
       weights = b .1;
       controls = valid .0;
       solver = ask-split (isCholesky (o .«coarse_solver»)) notCholesky _ (valid .1) .0;
-      rows = rows .0;
       room = room .0;
+      rest = room .1;
+    }
+
+-- An accepted build of a matrix of no rows has no levels.
+pub build-empty : (l : Lent) (x : Input) {h : Hierarchy} → x .rows ≡ 0 → buildOf l x ≡ accepted h → emptyHierarchy ≡ h
+build-empty l x none e = accepted-one (rw (eq-eqb (x .rows) 0 none) at (build-asked l x e .rest))
+
+-- An accepted build of a matrix with rows is built.
+pub build-built : (l : Lent) (x : Input) {h : Hierarchy} → 1 ≤ x .rows → buildOf l x ≡ accepted h → Built l x h
+build-built l x some e =
+    let o = x .options in
+    let asked = build-asked l x e in
+    let paid = ask-split (holds (l .stores) (chargeIn x)) storeTooSmall _ (rw (ne-eqb (x .rows) 0 (λ z. omega arith)) at (asked .rest)) in
+    let even = ask-split (symmetricOf (patternIn x) (x .values)) notSymmetric _ (paid .1) in
+    let g = then-split (growOf o (x .given) (l .stores) (o .«max_levels» - 1) 0 0 (chargeIn x) (meshIn x)) _ (even .1) in
+    record {
+      asked = asked;
       paid = paid .0;
       symmetric = even .0;
       levels = g .0;

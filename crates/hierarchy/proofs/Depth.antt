@@ -11,14 +11,14 @@ use borrow.Author.Tests.{leb-true, le-leb}
 use Rattle.store.proofs.store.Each.{both-l, both-r}
 use Rattle.options.specs.declared.options.MultigridOptions.{MultigridOptions}
 use Rattle.refusal.specs.declared.Refusal.{Refusal}
-use Rattle.refusal.specs.Refusal.{noRows, storeTooSmall, notSymmetric}
+use Rattle.refusal.specs.Refusal.{storeTooSmall, notSymmetric}
 use Rattle.options.specs.Options.{within, capAllowed, validOf, controlsAsked, tolerable}
 use Rattle.refusal.specs.Outcome.{Outcome, accepted, passed, ask, _>>=_}
 use Rattle.pattern.specs.Pattern.{entries}
 use Rattle.faces.specs.Faces.{diagonalsAsked}
 use Rattle.csr.specs.Questions.{matrixAsked}
 use Rattle.csr.specs.Weights.{weightsAsked}
-use Rattle.hierarchy.specs.Level.{Level, Hierarchy}
+use Rattle.hierarchy.specs.Level.{Level, Hierarchy, emptyHierarchy}
 use Rattle.hierarchy.specs.Refresh.{innerNumbers, withSums}
 use Rattle.hierarchy.specs.Build.{Charge, andLevel, holds, innerShape, Mesh, merged, kernelAsked, paired, coarsenedAsked, lastLevel, mergeOf, growOf, Lent, Input, patternIn, meshIn, symmetricOf, buildOf}
 use Rattle.hierarchy.specs.Steps.{endsAt, levelStep}
@@ -86,14 +86,14 @@ unfolding withSums
 levels-kept o [] = refl
 levels-kept o (l ∷ rest) = refl
 
--- An accepted build has at least one level and at most `max_levels`, the finest with the pattern given, the last alone terminal.
-pub build-levels : (l : Lent) (x : Input) {h : Hierarchy} → buildOf l x ≡ accepted h
+-- An accepted build of a matrix with rows has at least one level and at most `max_levels`, the finest with the pattern given, the last alone terminal.
+pub build-levels : (l : Lent) (x : Input) {h : Hierarchy} → 1 ≤ x .rows → buildOf l x ≡ accepted h
     → Deep (x .options .«max_levels») (patternIn x) (h .levels)
-build-levels l x {h} e =
+build-levels l x {h} some e =
     let o = x .options in
-    let b = build-built l x e in
+    let b = build-built l x some e in
     let d = grow-levels o (x .given) (l .stores) (o .«max_levels» - 1) 0 0 (chargeIn x) (meshIn x) (b .grown) in
-    let positive = valid-levels o (b .controls) in
+    let positive = valid-levels o (b .asked .controls) in
     let most : o .«max_levels» - 1 + 1 ≡ o .«max_levels» = omega arith in
     let is : b .levels ≡ h .levels = sym (levels-kept o (b .levels)) ∙ ap (λ (k : Hierarchy). k .levels) (b .is) in
     subst (Deep (o .«max_levels») (patternIn x)) is (subst (λ (n : ℕ). Deep n (patternIn x) (b .levels)) most d)
@@ -170,8 +170,8 @@ build-larger {l} {bigger} big x =
     then-keeps (matrixAsked (x .rows) (x .offsets) (x .columns) (x .values)) _ _ (λ _.
     then-keeps (cond (x .given) (weightsAsked (entries p) (x .weights)) passed) _ _ (λ _.
     then-keeps (controlsAsked o) _ _ (λ _.
-    ask-keeps (leb 1 (x .rows)) (leb 1 (x .rows)) noRows _ _ (λ e. e) (
     ask-keeps (room l) (room bigger) storeTooSmall _ _ roomy (
+    cond-keeps (eqb (x .rows) 0) (accepted emptyHierarchy) _ _ (
     ask-keeps (holds (l .stores) (chargeIn x)) (holds (bigger .stores) (chargeIn x)) storeTooSmall _ _
     (holds-larger (big .stores) (chargeIn x)) (
     ask-keeps (symmetricOf p (x .values)) (symmetricOf p (x .values)) notSymmetric _ _ (λ e. e) (λ e.

@@ -14,7 +14,7 @@ use Rattle.options.specs.declared.options.MultigridOptions.{MultigridOptions}
 use Rattle.options.specs.declared.options.MultigridSmoother.{MultigridSmoother}
 use Rattle.options.specs.declared.options.MultigridResidualNorm.{MultigridResidualNorm}
 use Rattle.options.specs.declared.options.MultigridCoarseSolver.{MultigridCoarseSolver}
-use Rattle.refusal.specs.Refusal.{badOffsets, badColumns, invalidControls, noRows, storeTooSmall, notSymmetric, missingDiagonal, badDiagonal, badReciprocal, tooManyCoupled, badPivot}
+use Rattle.refusal.specs.Refusal.{badOffsets, badColumns, invalidControls, storeTooSmall, notSymmetric, missingDiagonal, badDiagonal, badReciprocal, tooManyCoupled, badPivot}
 use Rattle.options.specs.Options.{validOf}
 use Rattle.refusal.specs.Outcome.{Outcome, accepted, refused, askRows}
 use Rattle.vector.specs.Finite.{allFinite}
@@ -35,7 +35,7 @@ use Rattle.galerkin.specs.Turns.{addEntry}
 use Rattle.faces.specs.Faces as faces
 use Rattle.csr.specs.Questions as csr
 use Rattle.csr.specs.Turns as csr-turns
-use Rattle.hierarchy.specs.Level.{Level, Hierarchy}
+use Rattle.hierarchy.specs.Level.{Level, Hierarchy, emptyHierarchy}
 use Rattle.hierarchy.specs.Refresh.{withSums}
 use Rattle.hierarchy.specs.Build.{mergeOf, growOf, Lent, Input, symmetricOf, buildOf}
 
@@ -157,12 +157,11 @@ one-level : buildOf (lent 178 212) (small own) ≡ accepted (record {
 unfolding buildOf symmetricOf growOf withSums csr.sizeOk csr.neverFall csr.offsetsOk csr.entryOk csr.rowOk csr-turns.stepOk csr-turns.rowAt csr-turns.entryFrom csr.columnsOk validOf isFinite absOf lt le eq ofBits add sub mul div sqrtOf each tab for iter askRows pairAgrees mirrorsAgree pattern.some pattern.howMany pattern.those pattern.rowOf faces.above faces.facesOf faces.uppersOf faces.faceOffsetsOf faces.neighborsOf faces.hasEntry faces.standsAt faces.mirroredOf faces.lowersOf faces.diagonalsAsked faces.diagonalsOf faces.coupledOf faces.coupledCountOf faces.coupledRowsOf kernelUpdateOf diagonalAsked isPositive tri factor.seekOf factor.getOf lessOf factor.restOf cholesky-turns.columnOf factor.columnsOf factor.factorRowOf factor.rowsOf factor.choleskyOf sumFace sumRow rowSumsOf
 one-level = refl
 
--- Tiny inputs that questions 2, 3, 6, 8, 9 (a word too few, a float too few), 10 (no mirror, other values), 11, 12, 13 and 15 refuse.
+-- Tiny inputs that questions 2, 3, 6, 9 (a word too few, a float too few), 10 (no mirror, other values), 11, 12, 13 and 15 refuse.
 refusals : (
     buildOf ample (square (0 ∷ 2 ∷ 3 ∷ []) (0 ∷ 1 ∷ 0 ∷ 1 ∷ []) own)
     ∷ buildOf ample (square (0 ∷ 2 ∷ 4 ∷ []) (1 ∷ 0 ∷ 0 ∷ 1 ∷ []) own)
     ∷ buildOf ample (plain (controls 10 0 1) 2 (0 ∷ 2 ∷ 4 ∷ []) (0 ∷ 1 ∷ 0 ∷ 1 ∷ []) own)
-    ∷ buildOf ample (plain (controls 10 4 1) 0 (0 ∷ []) [] [])
     ∷ buildOf (lent 177 212) (small own)
     ∷ buildOf (lent 178 211) (small own)
     ∷ buildOf ample (square (0 ∷ 2 ∷ 3 ∷ []) (0 ∷ 1 ∷ 1 ∷ []) (four ∷ minusTwo ∷ two ∷ []))
@@ -175,7 +174,6 @@ refusals : (
     refused badOffsets
     ∷ refused badColumns
     ∷ refused invalidControls
-    ∷ refused noRows
     ∷ refused storeTooSmall
     ∷ refused storeTooSmall
     ∷ refused notSymmetric
@@ -187,6 +185,17 @@ refusals : (
     ∷ [])
 unfolding buildOf symmetricOf growOf withSums csr.sizeOk csr.neverFall csr.offsetsOk csr.entryOk csr.rowOk csr-turns.stepOk csr-turns.rowAt csr-turns.entryFrom csr.columnsOk validOf isFinite absOf lt le eq ofBits add sub mul div sqrtOf each tab for iter askRows pairAgrees mirrorsAgree pattern.some pattern.howMany pattern.those pattern.rowOf faces.above faces.facesOf faces.uppersOf faces.faceOffsetsOf faces.neighborsOf faces.hasEntry faces.standsAt faces.mirroredOf faces.lowersOf faces.diagonalsAsked faces.diagonalsOf faces.coupledOf faces.coupledCountOf faces.coupledRowsOf kernelUpdateOf diagonalAsked isPositive tri factor.seekOf factor.getOf lessOf factor.restOf cholesky-turns.columnOf factor.columnsOf factor.factorRowOf factor.rowsOf factor.choleskyOf sumFace sumRow rowSumsOf
 refusals = refl
+
+-- A matrix of no rows, with so many offsets and columns, in so many words and floats.
+abbrev nothing : ℕ → ℕ → List ℕ → List ℕ → Outcome Hierarchy
+nothing words floats offsets columns = buildOf (lent words floats) (plain (controls 10 4 1) 0 offsets columns (map (λ _. one64) columns))
+
+-- It has no levels, and is charged 64 words and 10² floats: a word or a float fewer is refused by question 9, one entry or no offset by question 2.
+no-rows : (
+    nothing 64 100 (0 ∷ []) [] ∷ nothing 63 100 (0 ∷ []) [] ∷ nothing 64 99 (0 ∷ []) [] ∷ nothing 64 100 (0 ∷ []) (0 ∷ []) ∷ nothing 64 100 [] [] ∷ [])
+    ≡ (accepted emptyHierarchy ∷ refused storeTooSmall ∷ refused storeTooSmall ∷ refused badOffsets ∷ refused badOffsets ∷ [])
+unfolding buildOf csr.sizeOk csr.neverFall csr.offsetsOk csr.entryOk csr.rowOk csr-turns.stepOk csr-turns.rowAt csr-turns.entryFrom csr.columnsOk validOf isFinite lt le eq ofBits each
+no-rows = refl
 
 -- With an end of one cell P is paired into one row, 2: the entries of P are summed, and its DIC inverses are 0.25 and 1.
 two-levels : buildOf ample (plain (controls 1 4 1) 2 (0 ∷ 2 ∷ 4 ∷ []) (0 ∷ 1 ∷ 0 ∷ 1 ∷ []) own) ≡ accepted (record {

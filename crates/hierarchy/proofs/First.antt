@@ -4,7 +4,9 @@
 use mathlib.Core.Path.{_≡_, refl, sym, ap, _∙_, subst}
 use mathlib.Core.Bool.{Bool, true, false, cond}
 use mathlib.Core.List.{List, [], _∷_}
-use Prim.Native.Nat.{ℕ, zero, suc, _+_, _-_}
+use Prim.Native.Nat.{ℕ, zero, suc, _+_, _-_, _≤_}
+use native.Mathlib.Omega.{arith}
+use borrow.Author.Tests.{eq-eqb, ne-eqb}
 use lib.Dec.{eqb}
 use lib.ListN.{length}
 use lib.Ieee.{Float}
@@ -18,12 +20,12 @@ use Rattle.pattern.proofs.pattern.Place.{length-those}
 use Rattle.galerkin.specs.Contract.{galerkinOf}
 use Rattle.faces.specs.Faces.{above, facesOf, uppersOf, lowersOf}
 use Rattle.hierarchy.specs.Level.{Shape, Numbers, Level, Hierarchy}
-use Rattle.hierarchy.specs.Refresh.{numbersOf, coarseValues, refreshOf}
+use Rattle.hierarchy.specs.Refresh.{numbersOf, coarseValues, withSums, refreshOf}
 use Rattle.hierarchy.specs.Build.{shapingOf, Charge, shapeOf, lastShape, innerShape, Mesh, Merged, merged, kernelAsked, paired, coarsenedAsked, fewCoupled, mergeOf, growOf, Lent, Input, patternIn, meshIn, buildOf}
 use Rattle.hierarchy.specs.Steps.{endsAt, joinedStep}
 use Rattle.hierarchy.specs.Shapes.{Weights, Traced, pairedBy, coarseWeights, traceJoined, traceOf, tracedFrom, shapesOf, patternOf}
 use Rattle.hierarchy.specs.First.{shapesIn, First}
-use Rattle.hierarchy.proofs.Accepted.{then-split, coarsened-is, Last, onward, Inner, ends-zero, Halts, by-pattern, by-pairs, grow-keeps, joinedBy, chargeIn, build-built}
+use Rattle.hierarchy.proofs.Accepted.{then-split, coarsened-is, Last, onward, Inner, ends-zero, Halts, by-pattern, by-pairs, grow-keeps, joinedBy, chargeIn, build-empty, build-built}
 
 -- ---- the faces
 
@@ -233,11 +235,22 @@ module _ (o : MultigridOptions) where
 abbrev weighing : Input → Bool → Mesh
 weighing x given = record { pattern = patternIn x; values = x .values; weights = cond given (x .weights) [] }
 
--- An accepted build is pattern first, values second.
-pub build-first : (l : Lent) (x : Input) {h : Hierarchy} → buildOf l x ≡ accepted h → First l x h
+-- So is a build of no rows, which has no levels.
+first-empty : (l : Lent) (x : Input) {h : Hierarchy} → x .rows ≡ 0 → buildOf l x ≡ accepted h → First l x h
+unfolding patternOf refreshOf withSums
+first-empty l x none e = record {
+  built = e;
+  levels = [];
+  is = sym (build-empty l x none e);
+  second = refl;
+  first = λ _. rw (eq-eqb (x .rows) 0 none);
+}
+
+-- So is one of a matrix with rows.
+first-filled : (l : Lent) (x : Input) {h : Hierarchy} → 1 ≤ x .rows → buildOf l x ≡ accepted h → First l x h
 unfolding patternOf
-build-first l x e =
-    let b = build-built l x e in
+first-filled l x some e =
+    let b = build-built l x some e in
     let o = x .options in
     let more = o .«max_levels» - 1 in
     record {
@@ -245,6 +258,14 @@ build-first l x e =
       levels = b .levels;
       is = sym (b .is);
       second = grow-refresh o (x .given) (l .stores) more 0 0 (chargeIn x) (meshIn x) (b .grown);
-      first = λ given. grow-shapes o (l .stores) more 0 0 (chargeIn x) (weighing x true)
-          (subst (λ (g : Bool). growOf o g (l .stores) more 0 0 (chargeIn x) (weighing x g) ≡ accepted (b .levels)) given (b .grown));
+      first = λ given. rw (ne-eqb (x .rows) 0 (λ z. omega arith)) (grow-shapes o (l .stores) more 0 0 (chargeIn x) (weighing x true)
+          (subst (λ (g : Bool). growOf o g (l .stores) more 0 0 (chargeIn x) (weighing x g) ≡ accepted (b .levels)) given (b .grown)));
     }
+
+-- An accepted build is pattern first, values second.
+pub build-first : (l : Lent) (x : Input) {h : Hierarchy} → buildOf l x ≡ accepted h → First l x h
+build-first l x {h} e = go (x .rows) refl
+  where
+    go : (n : ℕ) → x .rows ≡ n → First l x h
+    go zero z = first-empty l x z e
+    go (suc n) s = first-filled l x (omega arith) e

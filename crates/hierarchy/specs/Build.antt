@@ -1,4 +1,4 @@
--- `build` of hierarchy.rs over lists and numbers, with questions 1 to 18 in the order of the Rust. Definitions only.
+-- `build` of hierarchy.rs over lists and numbers, with questions 1 to 18 in the order of the Rust, but for 8, which no matrix fails. Definitions only.
 use mathlib.Core.Bool.{Bool, true, false, not, cond, _&&_, _||_}
 use mathlib.Core.List.{List, [], _∷_}
 use Prim.Native.Nat.{ℕ, zero, suc, _+_, _-_, _*_, _%_}
@@ -7,7 +7,7 @@ use lib.ListN.{length}
 use lib.Ieee.{Float}
 use Rattle.options.specs.declared.options.MultigridCoarseSolver.{MultigridCoarseSolver}
 use Rattle.options.specs.declared.options.MultigridOptions.{MultigridOptions}
-use Rattle.refusal.specs.Refusal.{noRows, storeTooSmall, notSymmetric, tooManyCoupled, badCoarseValue}
+use Rattle.refusal.specs.Refusal.{storeTooSmall, notSymmetric, tooManyCoupled, badCoarseValue}
 use Rattle.options.specs.Options.{controlsAsked}
 use Rattle.refusal.specs.Outcome.{Outcome, accepted, passed, ask, _>>=_, _>>_}
 use Rattle.vector.specs.Finite.{allFinite}
@@ -19,7 +19,7 @@ use Rattle.galerkin.specs.Values.{sumsOf, symmetrizeOf, zeroDiagonalOf}
 use Rattle.faces.specs.Faces.{facesOf, faceOffsetsOf, neighborsOf, uppersOf, lowersOf, mirroredOf, diagonalsOf, diagonalsAsked, coupledCountOf, coupledRowsOf}
 use Rattle.csr.specs.Questions.{matrixAsked}
 use Rattle.csr.specs.Weights.{weightsAsked}
-use Rattle.hierarchy.specs.Level.{Shape, Level, Hierarchy}
+use Rattle.hierarchy.specs.Level.{Shape, Level, Hierarchy, emptyHierarchy}
 use Rattle.hierarchy.specs.Refresh.{innerNumbers, lastNumbers, withSums}
 
 -- ---- controls
@@ -229,7 +229,7 @@ meshIn x = record { pattern = patternIn x; values = x .values; weights = cond (x
 unfoldable pub symmetricOf : Pattern → List Float → Bool
 symmetricOf p values = mirroredOf p && mirrorsAgree (facesOf p) (uppersOf p) (lowersOf p) values
 
--- the build: a hierarchy, or the first refusal
+-- the build: a hierarchy, or the first refusal. Of a matrix of no rows the fixed charge is asked, and no level is made; question 8 is gone.
 unfoldable pub buildOf : Lent → Input → Outcome Hierarchy
 buildOf l x = do
   let p = patternIn x
@@ -238,9 +238,10 @@ buildOf l x = do
   _ ← matrixAsked (x .rows) (x .offsets) (x .columns) (x .values)
   _ ← cond (x .given) (weightsAsked (entries p) (x .weights)) passed
   _ ← controlsAsked o
-  ask (leb 1 (x .rows)) noRows
   ask (holds (l .stores) fixed && leb (o .«max_levels») (l .records)) storeTooSmall
-  ask (holds (l .stores) (andLevel p fixed)) storeTooSmall
-  ask (symmetricOf p (x .values)) notSymmetric
-  levels ← growOf o (x .given) (l .stores) (o .«max_levels» - 1) 0 0 (andLevel p fixed) (meshIn x)
-  accepted (withSums o levels)
+  cond (eqb (x .rows) 0) (accepted emptyHierarchy)
+      (do
+        ask (holds (l .stores) (andLevel p fixed)) storeTooSmall
+        ask (symmetricOf p (x .values)) notSymmetric
+        levels ← growOf o (x .given) (l .stores) (o .«max_levels» - 1) 0 0 (andLevel p fixed) (meshIn x)
+        accepted (withSums o levels))

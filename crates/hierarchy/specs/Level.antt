@@ -1,7 +1,7 @@
 -- The hierarchy of hierarchy.rs over lists: a list of levels, the finest first, each with a shape, which an update leaves as it
 -- is, and its numbers, which an update refreshes. Definitions only.
 use mathlib.Core.Bool.{Bool}
-use mathlib.Core.List.{List}
+use mathlib.Core.List.{List, []}
 use Prim.Native.Nat.{ℕ}
 use lib.Ieee.{Float}
 use Rattle.matrix.specs.Kernel.{Kernel}
@@ -46,6 +46,10 @@ pub record Level : Type 0 where
 pub record Hierarchy : Type 0 where
   pub levels : List Level
   pub sums : List Float
+
+-- that of a matrix of no rows: it has no levels
+abbrev pub emptyHierarchy : Hierarchy
+emptyHierarchy = record { levels = []; sums = [] }
 
 -- the kernel of a level, from its shape and its coefficients
 abbrev pub kernelOf : Shape → List Float → List Float → List Float → Kernel

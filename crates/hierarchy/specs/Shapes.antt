@@ -86,8 +86,8 @@ module _ (h : Shaping) where
   shapesOf zero stage m = shapesStep (λ _ _. []) 0 stage m
   shapesOf (suc more) stage m = shapesStep (shapesOf more) (suc more) stage m
 
--- the shapes of a build with weights
+-- the shapes of a build with weights; none of a matrix of no rows
 unfoldable pub patternOf : Input → List Shape
 patternOf x =
     let h = shapingOf (x .options) in
-    shapesOf h (h .levels - 1) 0 (record { pattern = patternIn x; weights = x .weights })
+    cond (eqb (x .rows) 0) [] (shapesOf h (h .levels - 1) 0 (record { pattern = patternIn x; weights = x .weights }))

@@ -1,5 +1,5 @@
 -- Question 19: what the index check asks of a handle and of stores that anybody may have written. Definitions only.
-use mathlib.Core.Bool.{Bool, true, not, _&&_}
+use mathlib.Core.Bool.{Bool, true, not, _&&_, _||_}
 use mathlib.Core.List.{List}
 use Prim.Native.Nat.{ℕ, zero, suc, _+_, _*_}
 use lib.Dec.{eqb, leb, ltb}
@@ -10,7 +10,7 @@ use Rattle.options.specs.declared.options.Handle.{Handle}
 use Rattle.options.specs.Options.{validOf, isCholesky}
 use Rattle.pattern.specs.Pattern.{entries}
 use Rattle.hierarchy.specs.Level.{Shape}
-use Rattle.layout.specs.Layout.{rowsAt, lastAt, coupledAt, entriesAt, facesAt, locate, shapeAt, wordsEnd, imageEnd}
+use Rattle.layout.specs.Layout.{rowsAt, lastAt, coupledAt, entriesAt, facesAt, locate, shapeAt, wordsEnd, imageOf}
 
 -- ---- one level
 
@@ -62,7 +62,7 @@ levelsSound (suc (suc more)) w a =
 
 -- where the scratch of a solve starts: after the image, which the row sums of the finest level end, and its shadow
 abbrev pub scratchStart : ℕ → List ℕ → ℕ
-scratchStart levels w = 2 * (imageEnd levels w 0 0 + rowsAt w 0)
+scratchStart levels w = 2 * imageOf levels w
 
 -- where the scratch of so many levels ends that starts at s: five vectors to a level
 unfoldable pub scratchEnd : ℕ → List ℕ → ℕ → ℕ → ℕ
@@ -75,15 +75,25 @@ cycleStart krylov levels w = scratchStart levels w + (2 + 2 * krylov) * rowsAt w
 
 -- ---- the question
 
--- the handle: its controls pass 6 and 7, it has a row, a level, and no more levels than its controls allow
-unfoldable pub handleSound : Handle → Bool
-handleSound h =
-    validOf (h .options) && isCholesky (h .options .«coarse_solver»)
-    && leb 1 (h .rows) && leb 1 (h .levels) && leb (h .levels) (h .options .«max_levels»)
+-- the controls of a handle pass 6 and 7
+abbrev pub controlsSound : Handle → Bool
+controlsSound h = validOf (h .options) && isCholesky (h .options .«coarse_solver»)
 
--- question 19, of a handle, the words, the size of the floats and the records of statistics
-unfoldable pub soundOf : Handle → List ℕ → ℕ → ℕ → Bool
-soundOf h w size records =
+-- the handle of a matrix of no rows: it has no level, no row and no entry
+unfoldable pub emptySound : Handle → Bool
+emptySound h = controlsSound h && eqb (h .levels) 0 && eqb (h .rows) 0 && eqb (h .entries) 0
+
+-- any other handle: it has a row, a level, and no more levels than its controls allow
+unfoldable pub handleSound : Handle → Bool
+handleSound h = controlsSound h && leb 1 (h .rows) && leb 1 (h .levels) && leb (h .levels) (h .options .«max_levels»)
+
+-- question 19 of such a handle, the words, the size of the floats and the records of statistics
+unfoldable pub filledSound : Handle → List ℕ → ℕ → ℕ → Bool
+filledSound h w size records =
     handleSound h && leb (h .levels) records && levelsSound (h .levels) w 0
     && eqb (rowsAt w 0) (h .rows) && eqb (entriesAt w 0) (h .entries)
     && leb (scratchEnd (h .levels) w 0 (cycleStart (h .options .«krylov_dimension») (h .levels) w)) size
+
+-- question 19: of a matrix of no rows nothing is walked and no size is asked
+unfoldable pub soundOf : Handle → List ℕ → ℕ → ℕ → Bool
+soundOf h w size records = emptySound h || filledSound h w size records

@@ -10,7 +10,7 @@ use Rattle.pattern.specs.Pattern.{entries}
 use Rattle.hierarchy.specs.Level.{Shape}
 use Rattle.layout.specs.Layout.{rowsAt, lastAt, entriesAt, wordsEnd}
 use Rattle.index_check.specs.declared.sound.Walk.{Walk}
-unfoldable pub use Rattle.index_check.specs.Question.{allBelow, headSound, shapeIn, arraysSound, rowPlaced, levelSound, levelsSound, scratchStart, scratchEnd, cycleStart, handleSound, soundOf}
+unfoldable pub use Rattle.index_check.specs.Question.{allBelow, headSound, shapeIn, arraysSound, rowPlaced, levelSound, levelsSound, scratchStart, scratchEnd, cycleStart, controlsSound, emptySound, handleSound, filledSound, soundOf}
 
 -- ---- one row
 

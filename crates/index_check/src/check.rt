@@ -1,7 +1,7 @@
 // The index check of question 19, which solve, update and statistics make before they read a store.
 ghost use mathlib.Core.Path.{_≡_};
 ghost use Rattle.index_check.specs.declared.sound.Walk.{Walk};
-ghost use Rattle.index_check.specs.Sound.{headsWalked, levelsWalked, walkOf, handleSound, soundOf};
+ghost use Rattle.index_check.specs.Sound.{headsWalked, levelsWalked, walkOf, controlsSound, emptySound, handleSound, filledSound, soundOf};
 ghost use Rattle.index_check.specs.CheckContract.{HeadsOk, SizesOk, sizesAsked};
 use crate::head;
 use crate::row;
@@ -79,14 +79,28 @@ fn walk(w: &[u32], levels: u64) -> Walk
     }
 }
 
-// The controls of the handle pass questions 6 and 7, and it has a row and a level.
+// The controls of the handle pass questions 6 and 7.
+fn controls_sound(h: Handle) -> bool
+    ensures { λ r. ⌜ r ≡ controlsSound h ⌝ }
+{
+    match options::check_controls(h.options) {
+        Verdict::Passed => true,
+        Verdict::Refused(_) => false,
+    }
+}
+
+// They do, and it has no level, no row and no entry.
+fn empty_sound(h: Handle) -> bool
+    ensures { λ r. ⌜ r ≡ emptySound h ⌝ }
+{
+    controls_sound(h) & (h.levels == 0) & (h.rows == 0) & (h.entries == 0)
+}
+
+// They do, and it has a row and a level.
 fn handle_sound(h: Handle) -> bool
     ensures { λ r. ⌜ r ≡ handleSound h ⌝ }
 {
-    match options::check_controls(h.options) {
-        Verdict::Passed => { (1 <= h.rows) & (1 <= h.levels) & (h.levels <= h.options.max_levels) }
-        Verdict::Refused(_) => false,
-    }
+    controls_sound(h) & (1 <= h.rows) & (1 <= h.levels) & (h.levels <= h.options.max_levels)
 }
 
 // The finest level is that of the handle, and the scratch of a solve ends in the floats.
@@ -101,9 +115,9 @@ fn sizes_sound(h: Handle, w: &[u32], floats: usize) -> bool
         & (sound::scratch_end(w, h.levels, start) <= floats)
 }
 
-// Question 19, of a handle and stores that anybody may have written.
-pub fn check(h: Handle, w: &[u32], floats: usize, records: usize) -> bool
-    ensures { λ r. ⌜ r ≡ soundOf h (now (w .entry)) floats records ⌝ }
+// Question 19 of a handle with levels.
+fn filled_sound(h: Handle, w: &[u32], floats: usize, records: usize) -> bool
+    ensures { λ r. ⌜ r ≡ filledSound h (now (w .entry)) floats records ⌝ }
 {
     if !handle_sound(h) {
         return false;
@@ -115,4 +129,14 @@ pub fn check(h: Handle, w: &[u32], floats: usize, records: usize) -> bool
         Walk::Sound => sizes_sound(h, w, floats),
         Walk::Stopped { level: _, row: _ } => false,
     }
+}
+
+// Question 19, of a handle and stores that anybody may have written. Of a matrix of no rows nothing is walked.
+pub fn check(h: Handle, w: &[u32], floats: usize, records: usize) -> bool
+    ensures { λ r. ⌜ r ≡ soundOf h (now (w .entry)) floats records ⌝ }
+{
+    if empty_sound(h) {
+        return true;
+    }
+    filled_sound(h, w, floats, records)
 }

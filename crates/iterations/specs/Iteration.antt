@@ -70,7 +70,7 @@ module _ (y : System) (rhs : List Float) (factor : Float) where
 
 -- ---- the hierarchy
 
--- the kernel of the first of the levels; there is always one
+-- the kernel of the first of the levels; that of no levels has no rows
 abbrev pub kernelFirst : List Level → Kernel
 kernelFirst [] = record { rows = 0; diagonal = []; inverse = []; offsets = []; neighbors = []; coefficients = [] }
 kernelFirst (l ∷ rest) = kernelIn l

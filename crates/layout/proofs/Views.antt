@@ -14,7 +14,8 @@ use Rattle.store.proofs.store.Each.{both-l, both-r}
 use Rattle.store.proofs.store.Region.{kept-part, kept-get}
 use Rattle.cholesky.specs.Triangle.{tri}
 use Rattle.layout.specs.declared.Place.{Place}
-use Rattle.layout.specs.Layout.{rowsAt, lastAt, coupledAt, entriesAt, facesAt, locate, shapeAt, numbersAt, levelAt, wordsEnd, floatsEnd, levelsAt, wordsTo, imageEnd, wordsFit}
+use Rattle.layout.specs.Layout.{rowsAt, lastAt, coupledAt, entriesAt, facesAt, locate, shapeAt, numbersAt, levelAt, wordsEnd, floatsEnd, levelsAt, wordsTo, imageEnd, wordsFit, finestRows, imageOf, viewOf}
+use Rattle.hierarchy.specs.Level.{emptyHierarchy}
 
 -- ---- one level
 
@@ -193,3 +194,27 @@ fit-to zero w a h t = h
 fit-to (suc k) w a h t =
     fit-to k w (wordsEnd w a) (leb-true (wordsEnd w a) (length w) (both-l (leb (wordsEnd w a) (length w)) (wordsFit k w (wordsEnd w a)) t))
     (both-r (leb (wordsEnd w a) (length w)) (wordsFit k w (wordsEnd w a)) t)
+
+-- ---- no levels
+
+-- The first word tells the rows of the finest level where there is one,
+pub finest-rows : (k : ℕ) (w : List ℕ) → 1 ≤ k → finestRows k w ≡ rowsAt w 0
+unfolding finestRows
+finest-rows zero w some = absurd (omega arith)
+finest-rows (suc k) w some = refl
+
+-- and there are never more.
+pub finest-most : (k : ℕ) (w : List ℕ) → finestRows k w ≤ rowsAt w 0
+unfolding finestRows
+finest-most zero w = omega arith
+finest-most (suc k) w = omega arith
+
+-- No levels are the empty hierarchy, whatever the stores hold.
+pub view-empty : (w : List ℕ) (F : List Float) → viewOf 0 w F 0 ≡ emptyHierarchy
+unfolding viewOf levelsAt imageEnd finestRows part
+view-empty w F = refl
+
+-- Their image has no float.
+pub image-empty : (w : List ℕ) → imageOf 0 w ≡ 0
+unfolding imageEnd finestRows
+image-empty w = refl

@@ -130,6 +130,15 @@ unfoldable pub wordsFit : ℕ → List ℕ → ℕ → Bool
 wordsFit zero w a = true
 wordsFit (suc k) w a = leb (wordsEnd w a) (length w) && wordsFit k w (wordsEnd w a)
 
+-- the rows of the finest of so many levels; none where there is no level, and no word is read then
+unfoldable pub finestRows : ℕ → List ℕ → ℕ
+finestRows zero w = 0
+finestRows (suc k) w = rowsAt w 0
+
+-- where the image of so many levels ends: behind their floats and the row sums of the finest
+abbrev pub imageOf : ℕ → List ℕ → ℕ
+imageOf k w = imageEnd k w 0 0 + finestRows k w
+
 -- the hierarchy of so many levels in the stores, the floats of the first level starting at b: all words that are not scratch
 unfoldable pub viewOf : ℕ → List ℕ → List Float → ℕ → Hierarchy
-viewOf k w F b = record { levels = levelsAt k w F 0 b; sums = part (imageEnd k w 0 b) (rowsAt w 0) F }
+viewOf k w F b = record { levels = levelsAt k w F 0 b; sums = part (imageEnd k w 0 b) (finestRows k w) F }

@@ -2,7 +2,7 @@
 use mathlib.Core.Path.{_≡_, refl, sym, ap, _∙_, subst}
 use mathlib.Core.Bool.{Bool, true, cond}
 use mathlib.Core.List.{List, [], _∷_}
-use Prim.Native.Nat.{ℕ}
+use Prim.Native.Nat.{ℕ, _≤_}
 use lib.ListN.{length}
 use lib.Ieee.{Float}
 use Rattle.float.specs.Float.{one64}
@@ -26,7 +26,7 @@ use Rattle.load.specs.Box.{box, cellsOf}
 use Rattle.load.specs.Load.{Load, loadOn, Room, loadOf}
 use Rattle.load_theorem.specs.Levels.{inputFrom}
 use Rattle.load_theorem.specs.Sums.{kernelFor}
-use Rattle.load_theorem.proofs.Levels.{load-made}
+use Rattle.load_theorem.proofs.Levels.{load-made, cells-some}
 use Rattle.load_theorem.proofs.Theorem.{load-row-sums}
 
 -- The kernel of a level whose shape and numbers are of the pattern p and its values.
@@ -51,14 +51,14 @@ sums-are : (o : MultigridOptions) (l : Level) (rest : List Level) → needsSums 
 unfolding withSums
 sums-are o l rest needs = rw needs
 
--- What an accepted build keeps of row sums: those of the kernel of its matrix.
-pub build-sums : (lent : Lent) (x : Input) {h : Hierarchy} → buildOf lent x ≡ accepted h → needsSums (x .options .«residual_norm») ≡ true
+-- What an accepted build of a matrix with rows keeps of row sums: those of the kernel of its matrix.
+pub build-sums : (lent : Lent) (x : Input) {h : Hierarchy} → 1 ≤ x .rows → buildOf lent x ≡ accepted h → needsSums (x .options .«residual_norm») ≡ true
     → (inverse : List Float) × (h .sums ≡ rowSumsOf (kernelFor (patternIn x) (x .values) inverse))
-build-sums lent x {h} built needs =
+build-sums lent x {h} some built needs =
     let o = x .options in
     let f = build-first lent x built in
     let same : f .levels ≡ h .levels = sym (levels-kept o (f .levels)) ∙ sym (ap (λ (k : Hierarchy). k .levels) (f .is)) in
-    let d = laid-headed (levels-laid lent x (build-built lent x built)) in
+    let d = laid-headed (levels-laid lent x (build-built lent x some built)) in
     let all : f .levels ≡ d .head ∷ d .tail = same ∙ d .is in
     let e = first-numbers o (x .values) (d .head) (d .tail) (subst (λ (ls : List Level). refreshOf o 0 (shapesIn ls) (x .values) ≡ accepted ls) all (f .second)) in (
       d .head .numbers .inverse,
@@ -73,5 +73,5 @@ pub load-sums-kept : (seed : ℕ) (es : List ℕ) (room : Room) {l : Load} → l
 load-sums-kept seed es room made lent given weights o {h} built needs =
     let m = load-made seed es room made in
     let on = subst (λ (k : Load). buildOf lent (inputFrom k given weights o) ≡ accepted h) (m .1) built in
-    let s = build-sums lent (inputFrom (loadOn seed (box es)) given weights o) on needs in
+    let s = build-sums lent (inputFrom (loadOn seed (box es)) given weights o) (cells-some es (m .0)) on needs in
     s .1 ∙ load-row-sums seed es (m .0) (s .0)

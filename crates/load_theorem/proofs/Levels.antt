@@ -3,11 +3,13 @@
 -- Assumes nothing.
 use mathlib.Core.Path.{_≡_, refl, subst}
 use mathlib.Core.Bool.{Bool, true, false, not, _&&_}
-use mathlib.Core.List.{List}
-use Prim.Native.Nat.{ℕ}
+use mathlib.Core.List.{List, [], _∷_}
+use Prim.Native.Nat.{ℕ, _≤_}
+use native.Mathlib.Nat.{mul-le-mul}
 use native.Mathlib.Omega.{arith}
-use lib.Dec.{eqb}
+use lib.Dec.{eqb, leb, ltb}
 use lib.Ieee.{Float}
+use borrow.Author.Tests.{ltb-true}
 use Rattle.refusal.specs.declared.Refusal.{Refusal}
 use Rattle.refusal.specs.Refusal.{badLoad}
 use Rattle.refusal.specs.Outcome.{accepted, ask}
@@ -18,7 +20,7 @@ use Rattle.hierarchy.specs.First.{shapesIn}
 use Rattle.hierarchy.specs.Build.{Lent, buildOf}
 use Rattle.update_levels.specs.Update.{updateOf}
 use Rattle.galerkin_levels.proofs.Theorem.{build-galerkin, update-galerkin}
-use Rattle.load.specs.Box.{box, extentsOk}
+use Rattle.load.specs.Box.{box, cellsOf, allPositive, extentsOk}
 use Rattle.load.specs.Load.{Load, loadOn, Room, roomOk, loadOf}
 use Rattle.load.specs.Theorem.{wholeAt}
 use Rattle.load.proofs.Values.{box-whole}
@@ -38,6 +40,20 @@ load-made seed es room made =
     let a = asked-made (some && extentsOk es && fits) badLoad (loadOn seed (box es)) made in
     (both-r some (extentsOk es) (both-l (some && extentsOk es) fits (a .0)), a .1)
 
+-- Extents none of which is zero have a cell,
+all-some : (es : List ℕ) → allPositive es ≡ true → 1 ≤ cellsOf es
+unfolding allPositive cellsOf
+all-some [] e = omega arith
+all-some (extent ∷ rest) e =
+    let own = ltb-true 0 extent (both-l (ltb 0 extent) (allPositive rest) e) in
+    let more = all-some rest (both-r (ltb 0 extent) (allPositive rest) e) in
+    mul-le-mul {n₁ = 1} {m₁ = 1} {n₂ = extent} {m₂ = cellsOf rest} (omega arith) more
+
+-- and so do those in order.
+pub cells-some : (es : List ℕ) → extentsOk es ≡ true → 1 ≤ cellsOf es
+unfolding extentsOk
+cells-some es e = all-some es (both-l (allPositive es) (leb (cellsOf es) 65536) e)
+
 module _ (seed : ℕ) (es : List ℕ) (room : Room) {l : Load} (made : loadOf seed es room ≡ accepted l)
     (lent : Lent) (given : Bool) (weights : List Float) (o : MultigridOptions) {h : Hierarchy} (built : buildOf lent (inputFrom l given weights o) ≡ accepted h) where
   -- the same build, of the load on the box
@@ -47,7 +63,7 @@ module _ (seed : ℕ) (es : List ℕ) (room : Room) {l : Load} (made : loadOf se
   -- The Galerkin theorem of a load: with no further hypothesis, all levels that are built from it are exact.
   pub load-galerkin : ExactFrom seed es (h .levels)
   load-galerkin =
-      build-galerkin lent (inputFrom (loadOn seed (box es)) given weights o) built-on (wholeAt seed (box es)) (box-whole seed es (load-made seed es room made .0))
+      build-galerkin lent (inputFrom (loadOn seed (box es)) given weights o) (cells-some es (load-made seed es room made .0)) built-on (wholeAt seed (box es)) (box-whole seed es (load-made seed es room made .0))
 
   -- And so they are after an update to the load of another seed on the same box.
   pub load-update-galerkin : (other : ℕ) (lent-to : Room) {l′ : Load} → loadOf other es lent-to ≡ accepted l′ → {k : Hierarchy}
@@ -55,6 +71,6 @@ module _ (seed : ℕ) (es : List ℕ) (room : Room) {l : Load} (made : loadOf se
   load-update-galerkin other lent-to {l′} made′ {k} updated =
       let m = load-made other es lent-to made′ in
       let on = loadOn other (box es) in
-      update-galerkin lent (inputFrom (loadOn seed (box es)) given weights o) built-on o (on .pattern .offsets) (on .pattern .columns) (on .values)
+      update-galerkin lent (inputFrom (loadOn seed (box es)) given weights o) (cells-some es (load-made seed es room made .0)) built-on o (on .pattern .offsets) (on .pattern .columns) (on .values)
       (subst (λ (j : Load). updateOf o (shapesIn (h .levels)) (j .pattern .offsets) (j .pattern .columns) (j .values) ≡ accepted k) (m .1) updated)
       (wholeAt other (box es)) (box-whole other es (m .0))

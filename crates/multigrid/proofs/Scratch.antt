@@ -14,7 +14,6 @@ use lib.Seq.{ext-getD, getD-take}
 use lib.Ieee.{Float, nan}
 use borrow.Author.Tests.{leb-false, lt-leb}
 use Rattle.store.specs.Region.{at, Kept}
-use Rattle.store.proofs.store.Each.{both-l}
 use Rattle.store.proofs.store.Region.{kept-get}
 use Rattle.pattern.proofs.pattern.Number.{bool?}
 use Rattle.options.specs.declared.options.Handle.{Handle}
@@ -23,9 +22,8 @@ use Rattle.refusal.specs.Refusal.{unsoundStores}
 use Rattle.refusal.specs.Outcome.{Outcome, accepted, refused, ask}
 use Rattle.refusal.proofs.Outcome.{ask-yes, ask-no}
 use Rattle.hierarchy.specs.Level.{Hierarchy}
-use Rattle.layout.specs.Layout.{wordsTo, viewOf}
-use Rattle.index_check.specs.Sound.{handleSound, soundOf}
-use Rattle.index_check.proofs.sound.Question.{handle-few}
+use Rattle.layout.specs.Layout.{wordsTo, viewOf, imageOf}
+use Rattle.index_check.specs.Sound.{soundOf}
 use Rattle.iterations.specs.Iteration.{systemOf}
 use Rattle.iterations.specs.Iterate.{answerOf}
 use Rattle.solve.specs.Solve.{solveOf}
@@ -33,7 +31,6 @@ use Rattle.solve.specs.Solved.{solvedAt, solutionOf}
 use Rattle.solver.specs.declared.answers.Solved.{Solved}
 use Rattle.solver.specs.declared.statistics.MultigridLevelStatistics.{MultigridLevelStatistics}
 use Rattle.solver.specs.declared.answers.Updated.{Updated}
-use Rattle.update.specs.Shadow.{imageOf}
 use Rattle.update.specs.Updated.{updatedAt, hierarchyOf}
 use Rattle.update.specs.Updated as updating
 use Rattle.multigrid.specs.UpdatingCall.{updatedOf, UpdateCall}
@@ -54,11 +51,6 @@ kept-each d p {F} {G} size same =
       size = size;
     }
 
--- A store that passes question 19 has a level.
-sound-some : (h : Handle) (w : List ℕ) (size records : ℕ) → soundOf h w size records ≡ true → 1 ≤ h .levels
-unfolding soundOf
-sound-some h w size records e = handle-few h (both-l (handleSound h) _ (both-l _ _ (both-l _ _ (both-l _ _ (both-l _ _ e))))) .0
-
 module _ (h : Handle) {w w' : List ℕ} {F F' : List Float} (a : Agree (h .levels) w w' F F') where
   -- The words that the levels stand in are the same.
   words-same : Kept (wordsTo (h .levels) w 0) w w'
@@ -69,9 +61,9 @@ module _ (h : Handle) {w w' : List ℕ} {F F' : List Float} (a : Agree (h .level
   sound-same records =
       ap (λ (n : ℕ). soundOf h w' n records) (a .floatsize) ∙ sound-told h (length F) records words-same
 
-  -- The stores hold the same hierarchy, if there is a level.
-  view-same : 1 ≤ h .levels → viewOf (h .levels) w' F' 0 ≡ viewOf (h .levels) w F 0
-  view-same some = view-told (h .levels) F' some words-same ∙ view-agrees (h .levels) w F F' (a .floatsize) (a .floats)
+  -- The stores hold the same hierarchy.
+  view-same : viewOf (h .levels) w' F' 0 ≡ viewOf (h .levels) w F 0
+  view-same = view-told (h .levels) F' words-same ∙ view-agrees (h .levels) w F F' (a .floatsize) (a .floats)
 
   -- ---- what the calls leave
 
@@ -94,9 +86,9 @@ module _ (h : Handle) {w w' : List ℕ} {F F' : List Float} (a : Agree (h .level
         past i e = neither-r (valueAt (h .levels) w 0 0 i) (leb (imageOf (h .levels) w) i) e
 
     -- They hold the same hierarchy.
-    agree-view : 1 ≤ h .levels → length G' ≡ length G → viewOf (h .levels) w' G' 0 ≡ viewOf (h .levels) w G 0 → Agree (h .levels) w w' G G'
-    agree-view some size e =
-        agree-on size (agrees-view (h .levels) w G G' (sym (view-told (h .levels) G' some words-same) ∙ e))
+    agree-view : length G' ≡ length G → viewOf (h .levels) w' G' 0 ≡ viewOf (h .levels) w G 0 → Agree (h .levels) w w' G G'
+    agree-view size e =
+        agree-on size (agrees-view (h .levels) w G G' (sym (view-told (h .levels) G' words-same) ∙ e))
 
   -- ---- an update
 
@@ -107,11 +99,8 @@ module _ (h : Handle) {w w' : List ℕ} {F F' : List Float} (a : Agree (h .level
     updated-sound passes =
         (c' .done .answer ∙ ap updating.updatedAnswer same ∙ sym (c .done .answer), left (updatedOf h w F records offsets columns values) refl)
       where
-        some : 1 ≤ h .levels
-        some = sound-some h w (length F) records passes
-
         found : updatedAt h w' F' offsets columns values ≡ updatedAt h w F offsets columns values
-        found = rw (view-same some)
+        found = rw view-same
 
         same : updatedOf h w' F' records offsets columns values ≡ updatedOf h w F records offsets columns values
         same =
@@ -123,11 +112,11 @@ module _ (h : Handle) {w w' : List ℕ} {F F' : List Float} (a : Agree (h .level
         size = c' .done .size ∙ a .floatsize ∙ sym (c .done .size)
 
         left : (out : Outcome Hierarchy) → updatedOf h w F records offsets columns values ≡ out → Agree (h .levels) w w' G G'
-        left (accepted k) e = agree-view some size
+        left (accepted k) e = agree-view size
             (c' .done .view ∙ ap (hierarchyOf (viewOf (h .levels) w' F' 0)) (same ∙ e)
             ∙ sym (c .done .view ∙ ap (hierarchyOf (viewOf (h .levels) w F 0)) e))
         left (refused q) e =
-            let end = image-end-told (h .levels) some words-same in
+            let end = image-end-told (h .levels) words-same in
             agree-kept (c .done .kept q e) (c' .done .kept q (same ∙ e)) (omega arith) (omega arith)
 
     -- Neither does.
@@ -161,12 +150,11 @@ module _ (h : Handle) {w w' : List ℕ} {F F' : List Float} (a : Agree (h .level
     -- Both pass question 19.
     solved-sound : soundOf h w (length F) (length t) ≡ true → (r' ≡ r) × (y' ≡ y) × (u' ≡ u) × Agree (h .levels) w w' G G'
     solved-sound passes =
-        let some = sound-some h w (length F) (length t) passes in
         let same : solvedOf h w' F' (length t) rhs x s ≡ solvedOf h w F (length t) rhs x s =
         ask-yes (soundOf h w' (length F') (length t)) unsoundStores (solvedAt h w' F' rhs x s) (sound-same (length t) ∙ passes)
-        ∙ ap (λ (b : Hierarchy). solveOf (systemOf (h .options) b) s rhs x) (view-same some)
+        ∙ ap (λ (b : Hierarchy). solveOf (systemOf (h .options) b) s rhs x) view-same
         ∙ sym (ask-yes (soundOf h w (length F) (length t)) unsoundStores (solvedAt h w F rhs x s) passes) in
-        let end = image-end-told (h .levels) some words-same in
+        let end = image-end-told (h .levels) words-same in
         let told = told-same same in
         (told .0, told .1, told .2, agree-kept (c .floats) (c' .floats) (omega arith) (omega arith))
 

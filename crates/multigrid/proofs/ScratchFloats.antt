@@ -17,9 +17,8 @@ use Rattle.store.proofs.store.Region.{le-or-lt, getD-part}
 use Rattle.pattern.proofs.pattern.Number.{not-both}
 use Rattle.hierarchy.specs.Level.{Numbers, Level, Hierarchy}
 use Rattle.layout.specs.declared.Place.{Place}
-use Rattle.layout.specs.Layout.{rowsAt, coupledAt, entriesAt, locate, numbersAt, levelAt, wordsEnd, floatsEnd, levelsAt, imageEnd, viewOf}
+use Rattle.layout.specs.Layout.{coupledAt, entriesAt, locate, numbersAt, levelAt, wordsEnd, floatsEnd, levelsAt, imageEnd, finestRows, viewOf, imageOf}
 use Rattle.layout.proofs.Views.{floats-to}
-use Rattle.update.specs.Shadow.{imageOf}
 use Rattle.update.proofs.shadow.Moving.{Moved, level-moved}
 use Rattle.multigrid.specs.Scratch.{ownValue, valueAt, scratchFloat}
 
@@ -233,8 +232,8 @@ module _ (levels : ℕ) (w : List ℕ) (F G : List Float) where
       let free : (i : ℕ) → i < imageOf levels w → valueAt levels w 0 0 i ≡ false → at G i ≡ at F i =
       λ i h e. same i (neither (valueAt levels w 0 0 i) (leb (imageOf levels w) i) e (lt-leb (imageOf levels w) i h)) in
       let all = levels-same w F G levels 0 0 size (λ i l h e. free i (omega arith) e) in
-      let sums : part end (rowsAt w 0) G ≡ part end (rowsAt w 0) F =
-      part-same F G end (rowsAt w 0) size (λ i l h. free i h (value-after w levels 0 0 i l)) in
+      let sums : part end (finestRows levels w) G ≡ part end (finestRows levels w) F =
+      part-same F G end (finestRows levels w) size (λ i l h. free i h (value-after w levels 0 0 i l)) in
       cc
 
   -- and those that hold the same hierarchy agree outside scratch.
@@ -246,6 +245,6 @@ module _ (levels : ℕ) (w : List ℕ) (F G : List Float) where
       inside = leb-false (imageOf levels w) i (neither-r (valueAt levels w 0 0 i) (leb (imageOf levels w) i) none)
 
       go : (imageEnd levels w 0 0 ≤ i) ⊎ (i < imageEnd levels w 0 0) → at G i ≡ at F i
-      go (inl h) = part-at F G (imageEnd levels w 0 0) (rowsAt w 0) (ap (λ (k : Hierarchy). k .sums) e) i h inside
+      go (inl h) = part-at F G (imageEnd levels w 0 0) (finestRows levels w) (ap (λ (k : Hierarchy). k .sums) e) i h inside
       go (inr h) = value-same w F G levels 0 0 (ap (λ (k : Hierarchy). k .levels) e) i (omega arith) h
           (neither-l (valueAt levels w 0 0 i) (leb (imageOf levels w) i) none)

@@ -2,7 +2,7 @@
 -- levels. This needs no level to lie in the store: what lies past its end reads as zero in both.
 -- Assumes nothing.
 use mathlib.Core.Path.{_≡_, refl, sym, ap, _∙_}
-use mathlib.Core.Bool.{true, false}
+use mathlib.Core.Bool.{Bool, true, false, _||_}
 use mathlib.Core.List.{List}
 use mathlib.Core.Logic.{_⊎_, inl, inr}
 use Prim.Native.Nat.{ℕ, zero, suc, _+_, _*_, _≤_}
@@ -11,12 +11,11 @@ use lib.Ieee.{Float}
 use Rattle.store.specs.Region.{Kept}
 use Rattle.pattern.proofs.pattern.Number.{bool?}
 use Rattle.options.specs.declared.options.Handle.{Handle}
-use Rattle.layout.specs.Layout.{rowsAt, levelAt, wordsEnd, floatsEnd, levelsAt, wordsTo, imageEnd, viewOf}
+use Rattle.layout.specs.Layout.{rowsAt, levelAt, wordsEnd, floatsEnd, levelsAt, wordsTo, imageEnd, finestRows, viewOf, imageOf}
 use Rattle.layout.proofs.Views.{SameWords, words-told, words-to}
-use Rattle.index_check.specs.Sound.{headSound, headFits, headsWalked, targetsOf, sumsOf, levelsWalked, walkOf, isSound, scratchEnd, cycleStart, handleSound, soundOf}
+use Rattle.index_check.specs.Sound.{headSound, headFits, headsWalked, targetsOf, sumsOf, levelsWalked, walkOf, isSound, scratchEnd, cycleStart, emptySound, handleSound, filledSound, soundOf}
 use Rattle.index_check.proofs.sound.Question.{handle-few}
 use Rattle.index_check.proofs.sound.Accepts.{walk-accepts}
-use Rattle.update.specs.Shadow.{imageOf}
 
 module _ {w z : List ℕ} {e : ℕ} (kept : Kept e w z) where
   -- ---- the levels
@@ -126,13 +125,19 @@ pub finest-told : (levels : ℕ) {w z : List ℕ} → 1 ≤ levels → Kept (wor
 finest-told zero some kept = absurd (omega arith)
 finest-told (suc more) some kept = first-told kept more 0 (omega arith)
 
--- Question 19 reads no word past the last level: where the words before are kept it has the same answer, whatever the handle.
-pub sound-told : (h : Handle) {w z : List ℕ} (size records : ℕ) → Kept (wordsTo (h .levels) w 0) w z
-    → soundOf h z size records ≡ soundOf h w size records
-unfolding soundOf
-sound-told h {w} {z} size records kept = go (bool? (handleSound h))
+-- How many rows the finest of them has is the same.
+pub count-told : (levels : ℕ) {w z : List ℕ} → Kept (wordsTo levels w 0) w z → finestRows levels z ≡ finestRows levels w
+unfolding finestRows
+count-told zero kept = refl
+count-told (suc more) kept = first-told kept more 0 (omega arith) .rows
+
+-- Question 19 reads no word past the last level: of a handle with levels,
+filled-told : (h : Handle) {w z : List ℕ} (size records : ℕ) → Kept (wordsTo (h .levels) w 0) w z
+    → filledSound h z size records ≡ filledSound h w size records
+unfolding filledSound
+filled-told h {w} {z} size records kept = go (bool? (handleSound h))
   where
-    go : (handleSound h ≡ true) ⊎ (handleSound h ≡ false) → soundOf h z size records ≡ soundOf h w size records
+    go : (handleSound h ≡ true) ⊎ (handleSound h ≡ false) → filledSound h z size records ≡ filledSound h w size records
     go (inl holds) =
         let s = finest-told (h .levels) (handle-few h holds .0) kept in
         let h0 = s .rows in
@@ -141,22 +146,28 @@ sound-told h {w} {z} size records kept = go (bool? (handleSound h))
         let h3 = image-told kept (h .levels) 0 0 (omega arith) in
         let start = cycleStart (h .options .«krylov_dimension») (h .levels) w in
         let h4 = scratch-told kept (h .levels) 0 start (omega arith) in
-        rw (h2, h1, h0, h3, h4)
+        let h5 = count-told (h .levels) kept in
+        rw (h2, h1, h0, h3, h5, h4)
     go (inr fails) = rw fails
 
--- The hierarchy in the stores reads none either, where there is a level,
-pub view-told : (levels : ℕ) {w z : List ℕ} (F : List Float) → 1 ≤ levels → Kept (wordsTo levels w 0) w z
-    → viewOf levels z F 0 ≡ viewOf levels w F 0
+-- and so of any: where the words before are kept it has the same answer.
+pub sound-told : (h : Handle) {w z : List ℕ} (size records : ℕ) → Kept (wordsTo (h .levels) w 0) w z
+    → soundOf h z size records ≡ soundOf h w size records
+unfolding soundOf
+sound-told h size records kept = ap (λ (b : Bool). emptySound h || b) (filled-told h size records kept)
+
+-- The hierarchy in the stores reads none either,
+pub view-told : (levels : ℕ) {w z : List ℕ} (F : List Float) → Kept (wordsTo levels w 0) w z → viewOf levels z F 0 ≡ viewOf levels w F 0
 unfolding viewOf
-view-told levels F some kept =
-    let h0 = finest-told levels some kept .rows in
+view-told levels F kept =
+    let h0 = count-told levels kept in
     let h1 = levels-told kept levels 0 0 F (omega arith) in
     let h2 = image-told kept levels 0 0 (omega arith) in
     cc
 
 -- nor does where the image ends.
-pub image-end-told : (levels : ℕ) {w z : List ℕ} → 1 ≤ levels → Kept (wordsTo levels w 0) w z → imageOf levels z ≡ imageOf levels w
-image-end-told levels some kept =
-    let h0 = finest-told levels some kept .rows in
+pub image-end-told : (levels : ℕ) {w z : List ℕ} → Kept (wordsTo levels w 0) w z → imageOf levels z ≡ imageOf levels w
+image-end-told levels kept =
+    let h0 = count-told levels kept in
     let h2 = image-told kept levels 0 0 (omega arith) in
     cc

@@ -27,23 +27,17 @@ use Rattle.iterations.specs.Iterate.{Solution, answerOf}
 use Rattle.iterations.specs.System.{systemAt}
 use Rattle.solve.specs.Solved.{solvedAt}
 use Rattle.solve.specs.Work.{visitsPer, preOf, postOf, afterIterations, sweepsOf, smoothingSweepsOf}
-use Rattle.solve.proofs.Solving.{opened-of}
+use Rattle.solve.proofs.Solving.{opened-of, levels-long}
 use Rattle.solve.proofs.Work.{solve-work, sweeps-together}
 use Rattle.multigrid.specs.SolvingCall.{solvedOf, recordsOf, SolveCall}
 use Rattle.multigrid.proofs.solving.Counting.{counted-here}
 
--- Of levels that the index check passed the last alone is terminal,
+-- Of levels that the index check passed the last alone is terminal.
 walk-ending : (more : ℕ) (w : List ℕ) (F : List Float) (level a b : ℕ) → walkOf (suc more) w level a ≡ Walk.Sound → Ending (levelsAt (suc more) w F a b)
 unfolding levelsAt levelAt
 walk-ending zero w F level a b e = last (passed 0 e .last)
 walk-ending (suc more) w F level a b e =
     let p = passed (suc more) e in inner (p .last) (walk-ending more w F (level + 1) (wordsEnd w a) (floatsEnd w a b) (p .rest))
-
--- and there are so many.
-levels-long : (k : ℕ) (w : List ℕ) (F : List Float) (a b : ℕ) → length (levelsAt k w F a b) ≡ k
-unfolding levelsAt
-levels-long zero w F a b = refl
-levels-long (suc k) w F a b = omega (arith, levels-long k w F (wordsEnd w a) (floatsEnd w a b))
 
 -- A solve that reports was accepted.
 reported : {r : LinearSolveReport} (out : Outcome Solution) → Solved.Report r ≡ answerOf out → (v : Solution) × (out ≡ accepted v) × (v .report ≡ r)
@@ -56,7 +50,7 @@ module _ (h : Handle) (w : List ℕ) (F : List Float) (records : ℕ) (sound : s
       → countedAt (v .counts) depth r ≡ afterIterations (h .options) (h .levels) depth (v .report .iterations) r
   unfolding viewOf
   view-work s rhs x {v} e r =
-      let opened = opened-of h w (length F) records sound .0 in
+      let opened = opened-of h w (length F) records (omega arith) sound .0 in
       let deep = opened .deep in
       let n = h .levels in
       let long : length (levelsAt n w F 0 0) ≡ n = levels-long n w F 0 0 in
@@ -75,7 +69,7 @@ work-told {h} {w} {F} {t = t} {u = u} {rhs = rhs} {x = x} {s = s} {r = r} c dept
     let a = reported out (c .answer) in
     let v = a .0 in
     let b = ask-split (soundOf h w (length F) (length t)) unsoundStores (solvedAt h w F rhs x s) (a .1) in
-    let room = opened-of h w (length F) (length t) (b .0) .1 in
+    let room = opened-of h w (length F) (length t) (omega arith) (b .0) .1 in
     let old = getD t depth (unvisited 0) in
     let is : u ≡ countedOn (h .levels) 0 (v .counts) t = c .statistics ∙ ap (recordsOf (h .levels) t) (a .1) in
     ap (λ (l : List MultigridLevelStatistics). getD l depth (unvisited 0)) is

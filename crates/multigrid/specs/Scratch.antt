@@ -10,11 +10,10 @@ use lib.Ieee.{Float}
 use Rattle.store.specs.Region.{at, idx}
 use Rattle.options.specs.declared.options.Handle.{Handle}
 use Rattle.solver.specs.declared.solver.LinearSolverOptions.{LinearSolverOptions}
-use Rattle.layout.specs.Layout.{locate, wordsEnd, floatsEnd, wordsTo}
+use Rattle.layout.specs.Layout.{locate, wordsEnd, floatsEnd, wordsTo, imageOf}
 use Rattle.solver.specs.declared.answers.Solved.{Solved}
 use Rattle.solver.specs.declared.answers.Updated.{Updated}
 use Rattle.solver.specs.declared.statistics.MultigridLevelStatistics.{MultigridLevelStatistics}
-use Rattle.update.specs.Shadow.{imageOf}
 use Rattle.multigrid.specs.UpdatingCall.{UpdateCall}
 use Rattle.multigrid.specs.SolvingCall.{SolveCall}
 use Rattle.multigrid.specs.CountingCall.{countedOf}

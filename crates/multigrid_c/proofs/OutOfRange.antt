@@ -13,7 +13,7 @@ use Rattle.csr.specs.Weights.{weightsAsked}
 use Rattle.pattern.specs.Pattern.{entries}
 use Rattle.hierarchy.specs.Level.{Hierarchy}
 use Rattle.hierarchy.specs.Build.{Lent, Input, patternIn, buildOf}
-use Rattle.index_check.specs.Sound.{handleSound, soundOf}
+use Rattle.index_check.specs.Sound.{emptySound, handleSound, filledSound, soundOf}
 use Rattle.export.specs.declared.structs.OptionsForC.{OptionsForC}
 use Rattle.export.specs.declared.structs.HierarchyForC.{HierarchyForC}
 use Rattle.export.specs.Structs.{inRange, controlsOf, handleOf}
@@ -36,5 +36,5 @@ build-out-of-range l x o is e =
 -- A handle with such options is that of no stores.
 pub handle-out-of-range : (h : HierarchyForC) (w : List ℕ) (size records : ℕ) → inRange (h .options) ≡ false
     → soundOf (handleOf h) w size records ≡ false
-unfolding handleOf soundOf handleSound
+unfolding handleOf soundOf emptySound filledSound handleSound
 handle-out-of-range h w size records e = rw (out-of-range-invalid (h .options) e)

@@ -16,7 +16,8 @@ use Rattle.options.specs.declared.options.MultigridResidualNorm.{MultigridResid
 use Rattle.options.specs.declared.options.MultigridCoarseSolver.{MultigridCoarseSolver}
 use Rattle.solver.specs.declared.solver.LinearSolverOptions.{LinearSolverOptions}
 use Rattle.solver.specs.declared.solver.LinearSolverStatus.{LinearSolverStatus}
-use Rattle.refusal.specs.Outcome.{accepted}
+use Rattle.refusal.specs.Refusal.{wrongLength, badInput}
+use Rattle.refusal.specs.Outcome.{accepted, refused}
 use Rattle.vector.specs.Dot as dot
 use Rattle.vector.specs.Finite as finite
 use Rattle.matrix.specs.Kernel as matrix
@@ -30,7 +31,7 @@ use Rattle.residual_norm.specs.Measure as measure
 use Rattle.residual_norm.specs.Turns as residual-norm-turns
 use Rattle.residual_norm.specs.Normalization as normalization
 use Rattle.solver.specs.Solver as solver
-use Rattle.hierarchy.specs.Level.{Hierarchy}
+use Rattle.hierarchy.specs.Level.{Hierarchy, emptyHierarchy}
 use Rattle.cycle.specs.Cycle as cycle
 use Rattle.iterations.specs.Iteration as iteration
 use Rattle.solve.specs.Input as input
@@ -122,3 +123,26 @@ small-press : solve.solveOf (iteration.systemOf (controls MultigridResidualNorm.
     })
 unfolding solve.solveOf input.inputOk solve.runOf iterating.iterateOf iteration.stepOf iteration.movedOf cycle.cycleOf cycle.endOf cycle.countOf terminal.terminalOf terminal.terminalSolution coarse-turns.scatterOf coarse-turns.gatherOf coarse-turns.diagonalOf factor.solveFactorOf factor.lowRow factor.highRow cholesky-turns.lowTerm cholesky-turns.highTerm tri measure.measureOf measure.valueOf residual-norm-turns.squaresOf residual-norm-turns.squareAt measure.sumOf residual-norm-turns.sumTurn finite.allFinite dot.productOf normalization.normalizationOf solver.relativeOf matrix.applyOf matrix.spreadOf matrix.spreadRow matrix.spreadFace correction.subtractOf correction.addPlainOf isFinite maxNum sqrtOf each tab lay for iter lt le eq ne ofBits add sub mul div
 small-press = refl
+
+-- Of no levels, with either norm: converged after no iteration, with plus zeros; a vector of one row is refused by question 20, a limit of zero by 21.
+empty-press : (norm : MultigridResidualNorm) → (
+    solve.solveOf (iteration.systemOf (controls norm 0) emptyHierarchy) asked [] []
+    ∷ solve.solveOf (iteration.systemOf (controls norm 0) emptyHierarchy) asked (zero64 ∷ []) []
+    ∷ solve.solveOf (iteration.systemOf (controls norm 0) emptyHierarchy) (record { «absolute_tolerance» = zero64; «relative_tolerance» = half; «max_iterations» = 0 }) [] []
+    ∷ []) ≡ (
+    accepted (record {
+      report = record {
+        status = LinearSolverStatus.Converged;
+        iterations = 0;
+        «initial_residual» = zero64;
+        «final_residual» = zero64;
+        «relative_residual» = zero64;
+      };
+      x = [];
+      counts = solve.uncounted;
+    })
+    ∷ refused wrongLength
+    ∷ refused badInput
+    ∷ [])
+unfolding solve.solveOf input.inputOk finite.allFinite each isFinite lt le eq ofBits
+empty-press norm = refl

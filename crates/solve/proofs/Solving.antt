@@ -3,9 +3,9 @@
 use mathlib.Core.Path.{_≡_, refl, sym, ap, _∙_}
 use mathlib.Core.Bool.{Bool, true, false, cond, _&&_}
 use mathlib.Core.List.{List}
-use Prim.Native.Nat.{ℕ, _+_, _≤_, _<_}
+use Prim.Native.Nat.{ℕ, zero, suc, _+_, _≤_, _<_}
 use native.Mathlib.Omega.{arith}
-use borrow.Author.Tests.{leb-true, eqb-true}
+use borrow.Author.Tests.{leb-true, eqb-true, eq-eqb, ne-eqb}
 use lib.Dec.{eqb, leb}
 use lib.ListN.{length, replicate, length-replicate, getD-replicate}
 use lib.Seq.{ext-getD}
@@ -24,7 +24,7 @@ use Rattle.refusal.specs.declared.Refusal.{Refusal}
 use Rattle.refusal.specs.Refusal.{badNormalization, badResidual}
 use Rattle.refusal.specs.declared.Verdict.{Verdict}
 use Rattle.refusal.specs.Outcome.{Outcome, accepted, refused, verdictOf, _>>=_}
-use Rattle.refusal.proofs.Outcome.{ask-yes, ask-no, refuses, never, accepts-it}
+use Rattle.refusal.proofs.Outcome.{ask-yes, ask-no, refuses, never, accepts-it, accepted-one}
 use Rattle.vector.specs.declared.vector.Product.{Product}
 use Rattle.matrix.specs.Kernel.{Kernel, applyOf}
 use Rattle.correction.specs.Correction.{subtractOf}
@@ -34,27 +34,29 @@ use Rattle.residual_norm.specs.Measure.{measureOf}
 use Rattle.residual_norm.specs.Normalization.{normalizationOf}
 use Rattle.residual_norm.specs.Contract.{NormalizationOk}
 use Rattle.solver.specs.Solver.{thresholdOf, reportOf}
-use Rattle.layout.specs.Layout.{rowsAt, entriesAt}
-use Rattle.index_check.specs.Sound.{levelsSound, handleSound, scratchStart, scratchEnd, cycleStart, soundOf}
-use Rattle.index_check.proofs.sound.Question.{handle-few}
+use Rattle.hierarchy.specs.Level.{emptyHierarchy}
+use Rattle.layout.specs.Layout.{rowsAt, entriesAt, wordsEnd, floatsEnd, levelsAt, viewOf}
+use Rattle.layout.proofs.Views.{view-empty}
+use Rattle.index_check.specs.Sound.{levelsSound, handleSound, scratchStart, scratchEnd, cycleStart, filledSound, soundOf}
+use Rattle.index_check.proofs.sound.Question.{handle-few, sound-filled, sound-empty}
 use Rattle.index_check.proofs.sound.Accepts.{walk-passes}
 use Rattle.solve.specs.Copies.{EnterOk, Entered}
 use Rattle.iterations.specs.declared.stepping.Regions.{Regions}
-use Rattle.iterations.specs.Iteration.{System, trueResidualOf}
+use Rattle.iterations.specs.Iteration.{System, trueResidualOf, systemOf}
 use Rattle.iterations.specs.System.{systemAt}
 use Rattle.iterations.specs.Steps.{regionsAt, Opened, Ready, Renewed, productAt}
 use Rattle.iterations.proofs.stepping.Placing.{vectors, rows-is, system-kept, sums-is, kernel-is, kernel-rows}
 use Rattle.solver.specs.declared.answers.Solved.{Solved}
 use Rattle.solver.specs.declared.answers.SolveRun.{SolveRun}
 use Rattle.solve.specs.Input.{lengthsOk, inputOk}
-use Rattle.solve.specs.Steps.{askedOf, attemptAt, AttemptOk, begunAt, BeginOk}
+use Rattle.solve.specs.Steps.{SolveOk, askedOf, attemptAt, AttemptOk, begunAt, BeginOk}
 use Rattle.solve.proofs.input.Asked.{asked-no, both-asked, asked-yes}
 use Rattle.iterations.specs.Iterate.{Solution, answerOf}
 use Rattle.iterations.specs.Contract.{Ran, iterateAt}
 use Rattle.iterations.proofs.iterating.Iterations.{ran-accepted, ran-refused}
-use Rattle.solve.specs.Solve.{uncounted, factorOf, runOf, solveOf, attemptOf}
+use Rattle.solve.specs.Solve.{uncounted, factorOf, runOf, emptyReport, emptySolution, solveOf, attemptOf}
 use Rattle.solve.specs.Solved.{solvedAt, solutionOf}
-use Rattle.solve.specs.Contract.{levelsCounted, refusedRun, SolveDone}
+use Rattle.solve.specs.Contract.{levelsCounted, uncountedRun, refusedRun, emptyRun, SolveDone}
 
 -- ---- from question 22 on
 
@@ -220,10 +222,10 @@ module _ {h : Handle} {w : List ℕ} {size m n : ℕ} (b : BeginOk h w size m n)
         let is = b .opened .rows in
         record { given = omega arith; room = omega arith }
 
--- What a refused solve gives its call.
-pub refused-run : {q : Refusal} {counts : List ℕ} → counts ≡ replicate 512 0
-    → _≡_ {A = SolveRun} (record { answer = Solved.Refused q; levels = 0; counts = counts }) (refusedRun q)
-refused-run zeros = rw (zeros ∙ zeros-are 512)
+-- What a solve that counted on no level gives its call.
+pub uncounted-run : {answer : Solved} {counts : List ℕ} → counts ≡ replicate 512 0
+    → _≡_ {A = SolveRun} (record { answer = answer; levels = 0; counts = counts }) (uncountedRun answer)
+uncounted-run zeros = rw (zeros ∙ zeros-are 512)
 
 -- Its contract, of an outcome that is refused.
 done-refused : {h : Handle} {w : List ℕ} {F G x : List Float} {q : Refusal} {out : Outcome Solution} {run : SolveRun} → out ≡ refused q
@@ -309,10 +311,10 @@ all-six a b c d e f t =
     let t2 = both-l (a && b) c t3 in
     (both-l a b t2, both-r a b t2, both-r (a && b) c t3, both-r (a && b && c) d t4, both-r (a && b && c && d) e t5, both-r (a && b && c && d && e) f t)
 
--- What question 19 tells.
-pub opened-of : (h : Handle) (w : List ℕ) (size records : ℕ) → soundOf h w size records ≡ true → Opened h w size × (h .levels ≤ records)
-unfolding soundOf
-opened-of h w size records e =
+-- What question 19 tells of levels.
+opened-filled : (h : Handle) (w : List ℕ) (size records : ℕ) → filledSound h w size records ≡ true → Opened h w size × (h .levels ≤ records)
+unfolding filledSound
+opened-filled h w size records e =
     let o = h .options in
     let end = scratchEnd (h .levels) w 0 (cycleStart (o .«krylov_dimension») (h .levels) w) in
     let t = all-six (handleSound h) (leb (h .levels) records) (levelsSound (h .levels) w 0) (eqb (rowsAt w 0) (h .rows))
@@ -330,22 +332,58 @@ opened-of h w size records e =
       leb-true (h .levels) records (t .1),
     )
 
+-- What question 19 tells where there is a level,
+pub opened-of : (h : Handle) (w : List ℕ) (size records : ℕ) → 1 ≤ h .levels → soundOf h w size records ≡ true
+    → Opened h w size × (h .levels ≤ records)
+opened-of h w size records some e = opened-filled h w size records (sound-filled h w size records some e)
+
+-- and of any handle.
+pub solve-ready : (h : Handle) (w : List ℕ) (size records : ℕ) → soundOf h w size records ≡ true → SolveOk h w size
+solve-ready h w size records e = record {
+  filled = λ filled. opened-of h w size records (omega (arith, filled)) e .0;
+  empty = λ none. sound-empty h w size records none e .0;
+}
+
 -- What the solve on copies requires.
-pub begin-ok : {h : Handle} {w : List ℕ} {size : ℕ} (s : LinearSolverOptions) (rhs x : List Float) {r : Verdict} → Opened h w size
+pub begin-ok : {h : Handle} {w : List ℕ} {size : ℕ} (s : LinearSolverOptions) (rhs x : List Float) {r : Verdict} → SolveOk h w size → (h .levels ≡ 0 → ⊥)
     → r ≡ verdictOf (askedOf (h .rows) s rhs x) → r ≡ Verdict.Passed → BeginOk h w size (length rhs) (length x)
-begin-ok {h} s rhs x o a told =
+begin-ok {h} s rhs x o some a told =
     let yes = accepts-it (askedOf (h .rows) s rhs x) a told .1 in
     let fits = both-asked (lengthsOk (h .rows) rhs x) (inputOk s rhs x) x yes .0 in
     let long = eqb-true (length rhs) (h .rows) (both-l (eqb (length rhs) (h .rows)) (eqb (length x) (h .rows)) fits) in
     let wide = eqb-true (length x) (h .rows) (both-r (eqb (length rhs) (h .rows)) (eqb (length x) (h .rows)) fits) in
-    record { opened = o; given = long; start = wide }
+    record { opened = o .filled some; given = long; start = wide }
 
-module _ (h : Handle) (w : List ℕ) (F rhs x : List Float) (s : LinearSolverOptions) (o : Opened h w (length F)) where
+-- There are as many levels in the stores as are read.
+pub levels-long : (k : ℕ) (w : List ℕ) (F : List Float) (a b : ℕ) → length (levelsAt k w F a b) ≡ k
+unfolding levelsAt
+levels-long zero w F a b = refl
+levels-long (suc k) w F a b = omega (arith, levels-long k w F (wordsEnd w a) (floatsEnd w a b))
+
+-- The hierarchy of a handle of no levels.
+empty-system : (h : Handle) (w : List ℕ) (F : List Float) → h .levels ≡ 0 → systemAt h w F ≡ systemOf (h .options) emptyHierarchy
+empty-system h w F none = ap (systemOf (h .options)) (ap (λ (n : ℕ). viewOf n w F 0) none ∙ view-empty w F)
+
+module _ (h : Handle) (w : List ℕ) (F rhs x : List Float) (s : LinearSolverOptions) (o : SolveOk h w (length F)) where
   -- The finest level's rows are the handle's.
   rows-are : systemAt h w F .kernel .rows ≡ h .rows
-  rows-are =
-      let ready : Ready h w (length F) (regionsAt h w) = record { opened = o; regions = refl } in
-      kernel-rows ready F ∙ rows-is ready ∙ o .rows
+  rows-are = go (h .levels) refl
+    where
+      go : (n : ℕ) → h .levels ≡ n → systemAt h w F .kernel .rows ≡ h .rows
+      go zero none = ap (λ (y : System). y .kernel .rows) (empty-system h w F none) ∙ sym (o .empty none)
+      go (suc n) some =
+          let opened = o .filled (λ none. omega arith) in
+          let ready : Ready h w (length F) (regionsAt h w) = record { opened = opened; regions = refl } in
+          kernel-rows ready F ∙ rows-is ready ∙ opened .rows
+
+  -- There are as many levels as the handle says.
+  levels-are : length (systemAt h w F .levels) ≡ h .levels
+  unfolding viewOf
+  levels-are = levels-long (h .levels) w F 0 0
+
+  -- what follows questions 20 and 21
+  abbrev after : Outcome Solution
+  after = cond (eqb (length (systemAt h w F .levels)) 0) (accepted (emptySolution x)) (begunAt h w F rhs x s)
 
   module _ {r : Verdict} (a : r ≡ verdictOf (askedOf (h .rows) s rhs x)) where
     -- The questions of the definition are those of the handle's rows.
@@ -357,14 +395,31 @@ module _ (h : Handle) (w : List ℕ) (F rhs x : List Float) (s : LinearSolverOpt
     unfolding solveOf
     solve-no {q} told e =
         let no = asked-as ∙ refuses (askedOf (h .rows) s rhs x) a told in
-        done-refused (asked-no (lengthsOk (systemAt h w F .kernel .rows) rhs x) (inputOk s rhs x) x (begunAt h w F rhs x s) no) e kept-self
+        done-refused (asked-no (lengthsOk (systemAt h w F .kernel .rows) rhs x) (inputOk s rhs x) x after no) e kept-self
 
     -- The solve of an input that passed.
-    pub solve-on : r ≡ Verdict.Passed → {G z : List Float} {run : SolveRun}
+    pub solve-on : r ≡ Verdict.Passed → (h .levels ≡ 0 → ⊥) → {G z : List Float} {run : SolveRun}
         → SolveDone h w F G x z (begunAt h w F rhs x s) run → SolveDone h w F G x z (solvedAt h w F rhs x s) run
     unfolding solveOf
-    solve-on told {G} {z} {run} d =
+    solve-on told some {G} {z} {run} d =
         let yes = asked-as ∙ accepts-it (askedOf (h .rows) s rhs x) a told .1 in
+        let rest : after ≡ begunAt h w F rhs x s = rw (ne-eqb (length (systemAt h w F .levels)) 0 (λ none. some (sym levels-are ∙ none))) in
         let same : solvedAt h w F rhs x s ≡ begunAt h w F rhs x s =
-        asked-yes (lengthsOk (systemAt h w F .kernel .rows) rhs x) (inputOk s rhs x) x (begunAt h w F rhs x s) yes in
+        asked-yes (lengthsOk (systemAt h w F .kernel .rows) rhs x) (inputOk s rhs x) x after yes ∙ rest in
         rw same d
+
+    -- That of no levels: nothing is written and nothing counted.
+    pub solve-empty : r ≡ Verdict.Passed → h .levels ≡ 0 → {run : SolveRun} → run ≡ emptyRun → SolveDone h w F F x x (solvedAt h w F rhs x s) run
+    unfolding solveOf
+    solve-empty told none {run} e =
+        let yes = asked-as ∙ accepts-it (askedOf (h .rows) s rhs x) a told .1 in
+        let rest : after ≡ accepted (emptySolution x) = rw (eq-eqb (length (systemAt h w F .levels)) 0 (levels-are ∙ none)) in
+        let same : solvedAt h w F rhs x s ≡ accepted (emptySolution x) =
+        asked-yes (lengthsOk (systemAt h w F .kernel .rows) rhs x) (inputOk s rhs x) x after yes ∙ rest in
+        record {
+          answer = ap (λ (r : SolveRun). r .answer) e ∙ sym (ap answerOf same);
+          solution = sym (ap (solutionOf x) same);
+          levels = ap (λ (r : SolveRun). r .levels) e ∙ sym none ∙ sym (ap (levelsCounted (h .levels)) same);
+          counts = λ v is. ap (λ (r : SolveRun). r .counts) e ∙ ap (λ (z : Solution). z .counts) (accepted-one (sym same ∙ is));
+          floats = kept-self;
+        }

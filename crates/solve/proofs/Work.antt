@@ -7,7 +7,7 @@ use mathlib.Core.Logic.{_⊎_, inl, inr}
 use Prim.Native.Nat.{ℕ, zero, suc, _+_, _*_, _≤_, _<_, min}
 use native.Mathlib.Nat.{suc-mul, zero-mul, mul-one, add-mul, one-mul, add-zero}
 use native.Mathlib.Omega.{arith}
-use borrow.Author.Tests.{lt-ltb, le-ltb}
+use borrow.Author.Tests.{lt-ltb, le-ltb, ne-eqb}
 use lib.ListN.{length, length-set}
 use lib.Seq.{getD-set-same, getD-set-other}
 use lib.Ieee.{Float, le}
@@ -330,7 +330,7 @@ module _ (y : System) (ending : Ending (y .levels)) (j : ℕ) (there : j < lengt
       let factor = factorOf y rhs x in
       let a = ask-split (lengthsOk (y .kernel .rows) rhs x) wrongLength _ e in
       let b = ask-split (inputOk s rhs x) badInput _ (a .1) in
-      let c = ask-split (isFinite factor) badNormalization _ (b .1) in
+      let c = ask-split (isFinite factor) badNormalization _ (rw (ne-eqb (length (y .levels)) 0 (λ none. omega arith)) at (b .1)) in
       let residual = trueResidualOf y rhs factor x in
       let d = then-split (measuredOf y rhs factor residual) _ (c .1) in
       by-test factor residual (d .0) (thresholdOf (s .«absolute_tolerance») (s .«relative_tolerance») (d .0)) (le (d .0) (thresholdOf (s .«absolute_tolerance») (s .«relative_tolerance») (d .0))) (d .2)

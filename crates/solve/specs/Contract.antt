@@ -11,7 +11,7 @@ use Rattle.index_check.specs.Sound.{scratchStart}
 use Rattle.solver.specs.declared.answers.Solved.{Solved}
 use Rattle.solver.specs.declared.answers.SolveRun.{SolveRun}
 use Rattle.iterations.specs.Iterate.{Solution, answerOf}
-use Rattle.solve.specs.Solve.{uncounted}
+use Rattle.solve.specs.Solve.{uncounted, emptyReport}
 use Rattle.solve.specs.Solved.{solutionOf}
 
 -- on how many of so many levels a solve counted: on none where it is refused
@@ -19,9 +19,17 @@ abbrev pub levelsCounted : ℕ → Outcome Solution → ℕ
 levelsCounted levels (accepted v) = levels
 levelsCounted levels (refused q) = 0
 
--- what a solve that is refused gives its call
+-- what a solve that counted on no level gives its call
+abbrev pub uncountedRun : Solved → SolveRun
+uncountedRun answer = record { answer = answer; levels = 0; counts = uncounted }
+
+-- one that is refused
 abbrev pub refusedRun : Refusal → SolveRun
-refusedRun q = record { answer = Solved.Refused q; levels = 0; counts = uncounted }
+refusedRun q = uncountedRun (Solved.Refused q)
+
+-- and one of no levels
+abbrev pub emptyRun : SolveRun
+emptyRun = uncountedRun (Solved.Report emptyReport)
 
 -- What a solve whose outcome is `out` ensures: its answer and solution, on how many levels it counted and what; and nothing below the
 -- scratch changed.

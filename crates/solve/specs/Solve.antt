@@ -2,11 +2,14 @@
 use mathlib.Core.Bool.{cond}
 use mathlib.Core.List.{List, []}
 use Prim.Native.Nat.{ℕ}
+use lib.Dec.{eqb}
+use lib.ListN.{length}
 use lib.Ieee.{Float, le}
-use Rattle.float.specs.Float.{isFinite}
+use Rattle.float.specs.Float.{isFinite, zero64}
 use Rattle.store.specs.Vector.{filled}
 use Rattle.solver.specs.declared.solver.LinearSolverOptions.{LinearSolverOptions}
 use Rattle.solver.specs.declared.solver.LinearSolverStatus.{LinearSolverStatus}
+use Rattle.solver.specs.declared.solver.LinearSolveReport.{LinearSolveReport}
 use Rattle.refusal.specs.Refusal.{wrongLength, badInput, badNormalization}
 use Rattle.refusal.specs.Outcome.{Outcome, accepted, ask, _>>=_, _>>_}
 use Rattle.matrix.specs.Kernel.{applyOf}
@@ -42,9 +45,24 @@ factorOf y rhs x = normalizationOf (y .options .«residual_norm») (y .kernel .r
 abbrev pub attemptOf : System → LinearSolverOptions → List Float → List Float → Outcome Solution
 attemptOf y s rhs x = ask (isFinite (factorOf y rhs x)) badNormalization (runOf y s rhs x (factorOf y rhs x))
 
--- `solve`: questions 20 and 21 of its input, and the rest
+-- the report of a solve of no levels: converged before the first iteration. Its residuals are said to be plus zero and not computed, since an
+-- empty sum is minus zero and the mean of no numbers a NaN.
+abbrev pub emptyReport : LinearSolveReport
+emptyReport = record {
+  status = LinearSolverStatus.Converged;
+  iterations = 0;
+  «initial_residual» = zero64;
+  «final_residual» = zero64;
+  «relative_residual» = zero64;
+}
+
+-- a solve of no levels: the solution is the start, which has no rows, and nothing is counted
+abbrev pub emptySolution : List Float → Solution
+emptySolution x = record { report = emptyReport; x = x; counts = uncounted }
+
+-- `solve`: questions 20 and 21 of its input, and the rest where there is a level
 unfoldable pub solveOf : System → LinearSolverOptions → List Float → List Float → Outcome Solution
 solveOf y s rhs x = do
   ask (lengthsOk (y .kernel .rows) rhs x) wrongLength
   ask (inputOk s rhs x) badInput
-  attemptOf y s rhs x
+  cond (eqb (length (y .levels)) 0) (accepted (emptySolution x)) (attemptOf y s rhs x)

@@ -15,6 +15,11 @@ use Rattle.iterations.specs.Iterate.{Solution}
 use Rattle.solve.specs.Solve.{uncounted, attemptOf}
 use Rattle.solve.specs.Input.{lengthsOk, inputOk}
 
+-- What a solve requires of the stores: what question 19 tells of levels; a handle of no levels has no rows.
+pub record SolveOk (h : Handle) (w : List ℕ) (size : ℕ) : Type 0 where
+  pub filled : (h .levels ≡ 0 → ⊥) → Opened h w size
+  pub empty : h .levels ≡ 0 → h .rows ≡ 0
+
 -- questions 20 and 21, of a system of so many rows; the start passes them with the rest
 abbrev pub askedOf : ℕ → LinearSolverOptions → List Float → List Float → Outcome (List Float)
 askedOf n s rhs x = ask (lengthsOk n rhs x) wrongLength (ask (inputOk s rhs x) badInput (accepted x))

@@ -1,11 +1,10 @@
 // mod.rs: the solve in lent stores: its input, its iterations on copies, and what it leaves.
 ghost use mathlib.Core.Path.{_≡_};
 ghost use lib.ListN.{length};
-ghost use Rattle.iterations.specs.Steps.{Opened};
 ghost use Rattle.solve.specs.Solved.{solvedAt};
-ghost use Rattle.solve.specs.Contract.{refusedRun, SolveDone};
+ghost use Rattle.solve.specs.Contract.{uncountedRun, refusedRun, emptyRun, SolveDone};
 ghost use Rattle.iterations.specs.Contract.{Ran};
-ghost use Rattle.solve.specs.Steps.{AttemptOk, BeginOk, begunAt, attemptAt};
+ghost use Rattle.solve.specs.Steps.{SolveOk, AttemptOk, BeginOk, begunAt, attemptAt};
 use iterations::Regions;
 use iterations::iteration;
 use iterations::places;
@@ -14,6 +13,7 @@ use refusal::Refusal;
 use refusal::Verdict;
 use residual_norm::measure;
 use residual_norm::normalization;
+use solver::LinearSolveReport;
 use solver::LinearSolverOptions;
 use solver::LinearSolverStatus;
 use solver::SolveRun;
@@ -67,16 +67,37 @@ fn attempt(
     }
 }
 
-// What a solve that is refused gives its call: it counted on no level.
-pub fn refused(q: Refusal) -> SolveRun
-    ensures { λ r. ⌜ r ≡ refusedRun q ⌝ }
+// What a solve that counted on no level gives its call.
+fn uncounted(answer: Solved) -> SolveRun
+    ensures { λ r. ⌜ r ≡ uncountedRun answer ⌝ }
 {
     let counts = [0u64; 512];
     SolveRun {
-        answer: Solved::Refused(q),
+        answer: answer,
         levels: 0,
         counts: counts,
     }
+}
+
+// What a solve that is refused gives its call.
+pub fn refused(q: Refusal) -> SolveRun
+    ensures { λ r. ⌜ r ≡ refusedRun q ⌝ }
+{
+    uncounted(Solved::Refused(q))
+}
+
+// What a solve of no levels gives its call. The residuals are said and not computed: an empty sum is minus zero, and the mean of no
+// numbers is a NaN.
+fn empty() -> SolveRun
+    ensures { λ r. ⌜ r ≡ emptyRun ⌝ }
+{
+    uncounted(Solved::Report(LinearSolveReport {
+        status: LinearSolverStatus::Converged,
+        iterations: 0,
+        initial_residual: 0.0,
+        final_residual: 0.0,
+        relative_residual: 0.0,
+    }))
 }
 
 // The solve of an input that has passed, on copies and from counters at zero: the solution is written where it is accepted, and only there.
@@ -116,11 +137,16 @@ pub fn solve(
     x: &mut [f64],
     s: LinearSolverOptions,
 ) -> SolveRun
-    requires { ⌜ Opened h (now w) (length (now f)) ⌝ }
+    requires { ⌜ SolveOk h (now w) (length (now f)) ⌝ }
     ensures { λ r. ⌜ SolveDone h (now (w .entry)) (now (f .entry)) (now (f .exit)) (now (x .entry)) (now (x .exit)) (solvedAt h (now (w .entry)) (now (f .entry)) (now (rhs .entry)) (now (x .entry)) s) r ⌝ }
 {
     match input::ask_input(h.rows as usize, s, rhs, x) {
         Verdict::Refused(q) => refused(q),
-        Verdict::Passed => begin(h, w, f, rhs, x, s),
+        Verdict::Passed => {
+            if h.levels == 0 {
+                return empty();
+            }
+            begin(h, w, f, rhs, x, s)
+        }
     }
 }

@@ -11,6 +11,7 @@ use Rattle.store.specs.Region.{part, lay, splice}
 use Rattle.store.specs.Vector.{tab, each}
 use Rattle.options.specs.Options.{validOf}
 use Rattle.refusal.specs.Outcome.{askRows}
+use Rattle.hierarchy.specs.Level.{emptyHierarchy}
 use Rattle.hierarchy.specs.Build as building
 use Rattle.hierarchy.specs.Refresh as refreshing
 use Rattle.aggregation.specs.Pairs as pairs
@@ -70,17 +71,23 @@ use Rattle.multigrid.specs.Trace.{statisticsAfter, Agrees}
 use Rattle.trace_example.specs.Calls.{calls}
 use Rattle.trace_example.specs.Cell.{two, half, cell}
 use Rattle.trace_example.specs.Ring.{ring}
+use Rattle.trace_example.specs.Empty.{drum}
 use Rattle.trace_example.proofs.Cell.{oneCell}
 use Rattle.trace_example.proofs.Ring.{fine, before, after}
 
 -- Of the cell and of the ring: the build with the first values and with the accepted ones; both hold in the stores; one update is refused, the
 -- other accepted; and the solve has its two answers.
 pub computed : Computes cell (oneCell one64 one64) (oneCell two half) × Computes ring before after
-unfolding headers.headsAt headers.headsOf building.buildOf building.symmetricOf building.growOf refreshing.withSums csr.sizeOk csr.neverFall csr.offsetsOk csr.entryOk csr.rowOk csr-turns.stepOk csr-turns.rowAt csr-turns.entryFrom csr.columnsOk weights.weightsOk csr-turns.weightOk validOf isFinite lt le eq ofBits add sub mul div sqrtOf each tab for iter askRows pairAgrees mirrorsAgree pattern.some pattern.howMany pattern.those pattern.rowOf faces.above faces.facesOf faces.uppersOf faces.faceOffsetsOf faces.neighborsOf faces.hasEntry faces.standsAt faces.mirroredOf faces.lowersOf faces.diagonalsAsked faces.diagonalsOf faces.coupledOf faces.coupledCountOf faces.coupledRowsOf kernelUpdateOf diagonalAsked isPositive tri cholesky.seekOf cholesky.getOf lessOf cholesky.restOf cholesky-turns.columnOf cholesky.columnsOf cholesky.factorRowOf cholesky.rowsOf cholesky.choleskyOf layout.viewOf layout.levelsAt layout.levelAt layout.wordsEnd layout.floatsEnd layout.imageEnd layout.wordsFit part lay splice levelWords levelFloats allLevels wordsFor floatsFor update.updateOf update.renewOf update.sameList update.samePattern standing.diagonalStands standing.diagonalsStand solve.solveOf input.inputOk solve.runOf iterating.iterateOf iteration.stepOf iteration.movedOf cycle.cycleOf cycle.endOf cycle.countOf terminal.terminalOf terminal.terminalSolution coarse-turns.scatterOf coarse-turns.gatherOf coarse-turns.diagonalOf factor.solveFactorOf factor.lowRow factor.highRow cholesky-turns.lowTerm cholesky-turns.highTerm measure.measureOf measure.valueOf residual-norm-turns.squaresOf residual-norm-turns.squareAt measure.sumOf residual-norm-turns.sumTurn finite.allFinite vector-turns.termOf dot.blockOf vector-turns.blockTurn dot.dotOf dot.productOf dot.rootOf dot.normOf normalization.normalizationOf solver.relativeOf matrix.applyOf matrix.spreadOf matrix.spreadRow matrix.spreadFace correction.subtractOf correction.addPlainOf maxNum ne ofInt absOf pairs.strengthsOf pairs.considerOf aggregation-turns.entryOf pairs.strongestOf pairs.assignOf pairs.pairRowOf aggregation-turns.turnOf pairs.pairsOf pattern.sumTo pattern.flat pattern.startOf pattern.columnPlaceOf pattern-steps.joinsBy pattern.joins pattern.coarseOffsets pattern.coarseColumns pattern.coarsePositions pattern.composeOf galerkin-turns.addEntry galerkin.sumsOf galerkin.averageFace galerkin.symmetrizeOf galerkin.zeroEntry galerkin-turns.zeroEntries galerkin.zeroDiagonalOf building.mergeOf dic.isPivot dic.pivotFace dic.pivotRow dic.pivotsOf dic.reciprocalsOf dic.dicOf matrix.sumFace matrix.sumRow matrix.rowSumsOf sweep.gatherFace sweep.castFace sweep.freshOf sweep.forwardRow sweep.backwardRow sweep.gaussSeidelOf sweep.lowerRow sweep.upperRow sweep.dicSweepOf matrix.residualOf smooth.gaussSeidelsOf smooth.dicSweepsOf smooth.sweptOf smooth.smoothOf scaling.productsTurn scaling.productsOf scaling.quotientOf scaling.scaleOf scaling.correctionFactorOf scaled.addScaledOf transfer.gatherTurn transfer.gatherOf transfer.restrictOf transfer.prolongOf counts.preSweepsOf counts.postSweepsOf cycle.residualAfter cycle.corrected cycle.upOf residual-norm-turns.sizeAt residual-norm-turns.sizesOf normalization.meanOf residual-norm-turns.spreadOf residual-norm-turns.spreadAt residual-norm-turns.spreadsOf gcr.twiceOf gcr.keptOf gcr.correctOf directions.lessOf directions.orthogonalTo directions.passOf normal.overOf normal.normalOf acceleration-turns.moreOf advance.advanceOf
+unfolding headers.headsAt headers.headsOf building.buildOf building.symmetricOf building.growOf refreshing.withSums csr.sizeOk csr.neverFall csr.offsetsOk csr.entryOk csr.rowOk csr-turns.stepOk csr-turns.rowAt csr-turns.entryFrom csr.columnsOk weights.weightsOk csr-turns.weightOk validOf isFinite lt le eq ofBits add sub mul div sqrtOf each tab for iter askRows pairAgrees mirrorsAgree pattern.some pattern.howMany pattern.those pattern.rowOf faces.above faces.facesOf faces.uppersOf faces.faceOffsetsOf faces.neighborsOf faces.hasEntry faces.standsAt faces.mirroredOf faces.lowersOf faces.diagonalsAsked faces.diagonalsOf faces.coupledOf faces.coupledCountOf faces.coupledRowsOf kernelUpdateOf diagonalAsked isPositive tri cholesky.seekOf cholesky.getOf lessOf cholesky.restOf cholesky-turns.columnOf cholesky.columnsOf cholesky.factorRowOf cholesky.rowsOf cholesky.choleskyOf layout.viewOf layout.finestRows layout.levelsAt layout.levelAt layout.wordsEnd layout.floatsEnd layout.imageEnd layout.wordsFit part lay splice levelWords levelFloats allLevels wordsFor floatsFor update.updateOf update.renewOf update.sameList update.samePattern standing.diagonalStands standing.diagonalsStand solve.solveOf input.inputOk solve.runOf iterating.iterateOf iteration.stepOf iteration.movedOf cycle.cycleOf cycle.endOf cycle.countOf terminal.terminalOf terminal.terminalSolution coarse-turns.scatterOf coarse-turns.gatherOf coarse-turns.diagonalOf factor.solveFactorOf factor.lowRow factor.highRow cholesky-turns.lowTerm cholesky-turns.highTerm measure.measureOf measure.valueOf residual-norm-turns.squaresOf residual-norm-turns.squareAt measure.sumOf residual-norm-turns.sumTurn finite.allFinite vector-turns.termOf dot.blockOf vector-turns.blockTurn dot.dotOf dot.productOf dot.rootOf dot.normOf normalization.normalizationOf solver.relativeOf matrix.applyOf matrix.spreadOf matrix.spreadRow matrix.spreadFace correction.subtractOf correction.addPlainOf maxNum ne ofInt absOf pairs.strengthsOf pairs.considerOf aggregation-turns.entryOf pairs.strongestOf pairs.assignOf pairs.pairRowOf aggregation-turns.turnOf pairs.pairsOf pattern.sumTo pattern.flat pattern.startOf pattern.columnPlaceOf pattern-steps.joinsBy pattern.joins pattern.coarseOffsets pattern.coarseColumns pattern.coarsePositions pattern.composeOf galerkin-turns.addEntry galerkin.sumsOf galerkin.averageFace galerkin.symmetrizeOf galerkin.zeroEntry galerkin-turns.zeroEntries galerkin.zeroDiagonalOf building.mergeOf dic.isPivot dic.pivotFace dic.pivotRow dic.pivotsOf dic.reciprocalsOf dic.dicOf matrix.sumFace matrix.sumRow matrix.rowSumsOf sweep.gatherFace sweep.castFace sweep.freshOf sweep.forwardRow sweep.backwardRow sweep.gaussSeidelOf sweep.lowerRow sweep.upperRow sweep.dicSweepOf matrix.residualOf smooth.gaussSeidelsOf smooth.dicSweepsOf smooth.sweptOf smooth.smoothOf scaling.productsTurn scaling.productsOf scaling.quotientOf scaling.scaleOf scaling.correctionFactorOf scaled.addScaledOf transfer.gatherTurn transfer.gatherOf transfer.restrictOf transfer.prolongOf counts.preSweepsOf counts.postSweepsOf cycle.residualAfter cycle.corrected cycle.upOf residual-norm-turns.sizeAt residual-norm-turns.sizesOf normalization.meanOf residual-norm-turns.spreadOf residual-norm-turns.spreadAt residual-norm-turns.spreadsOf gcr.twiceOf gcr.keptOf gcr.correctOf directions.lessOf directions.orthogonalTo directions.passOf normal.overOf normal.normalOf acceleration-turns.moreOf advance.advanceOf
 computed = (
   record { weights = refl; built = refl; anew = refl; view = refl; viewed = refl; fits = refl; heads = refl; refuses = refl; accepts = refl; solves = refl; solved = refl },
   record { weights = refl; built = refl; anew = refl; view = refl; viewed = refl; fits = refl; heads = refl; refuses = refl; accepts = refl; solves = refl; solved = refl },
 )
+
+-- Of the drum with nothing in it.
+pub drum-computed : Computes drum emptyHierarchy emptyHierarchy
+unfolding headers.headsAt headers.headsOf building.buildOf csr.sizeOk csr.neverFall csr.offsetsOk csr.entryOk csr.rowOk csr-turns.stepOk csr-turns.rowAt csr-turns.entryFrom csr.columnsOk weights.weightsOk csr-turns.weightOk validOf isFinite lt le eq ofBits each tab for iter layout.viewOf layout.finestRows layout.levelsAt layout.imageEnd layout.wordsFit part lay splice allLevels wordsFor floatsFor update.updateOf update.emptyPattern solve.solveOf input.inputOk finite.allFinite
+drum-computed = record { weights = refl; built = refl; anew = refl; view = refl; viewed = refl; fits = refl; heads = refl; refuses = refl; accepts = refl; solves = refl; solved = refl }
 
 -- The ring is paired by its weights; by its values it would be paired otherwise.
 pub weights-decide : (paired (ring .input .options) true 0 (meshIn (ring .input)) .map ≡ fine .links) × (paired (ring .input .options) false 0 (meshIn (ring .input)) .map ≡ 0 ∷ 0 ∷ 1 ∷ 1 ∷ [])
@@ -93,6 +100,9 @@ cell-agrees = calls-agree (computed .0)
 
 pub ring-agrees : Agrees (lent ring) (ring .input) (calls ring)
 ring-agrees = calls-agree (computed .1)
+
+pub drum-agrees : Agrees (lent drum) (drum .input) (calls drum)
+drum-agrees = calls-agree drum-computed
 
 -- What their calls leave in the statistics: three solves of the cell visit its level once each,
 pub cell-counted : statisticsAfter (calls-made (computed .0))

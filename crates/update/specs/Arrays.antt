@@ -15,7 +15,7 @@ use Rattle.layout.specs.Layout.{locate}
 use Rattle.index_check.specs.Sound.{shapeIn}
 use Rattle.layout.specs.PlaceContract.{PlaceOk}
 use Rattle.update_levels.specs.Level.{FacesReady}
-use Rattle.update_levels.specs.Update.{samePattern}
+use Rattle.update_levels.specs.Update.{samePattern, emptyPattern}
 
 -- the questions of a finest level of shape s
 abbrev pub askedOf : Shape → List ℕ → List ℕ → List Float → Outcome Unit
@@ -23,6 +23,10 @@ askedOf s offsets columns values = do
   ask (samePattern s offsets columns values) otherPattern
   ask (mirrorsAgree (length (s .uppers)) (s .uppers) (s .lowers) values) notSymmetric
   passed
+
+-- the question of no levels
+abbrev pub emptyAsked : List ℕ → List ℕ → List Float → Outcome Unit
+emptyAsked offsets columns values = ask (emptyPattern offsets columns values) otherPattern passed
 
 -- The pattern of the level at p lies in the words.
 pub record PatternOk (w : List ℕ) (p : Place) : Type 0 where

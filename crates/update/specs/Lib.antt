@@ -1,5 +1,4 @@
 pub mod Arrays
-pub mod Shadow
 pub mod Updated
 pub mod Steps
 pub mod ShadowContract

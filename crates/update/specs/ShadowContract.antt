@@ -8,12 +8,11 @@ use Rattle.options.specs.declared.options.MultigridOptions.{MultigridOptions}
 use Rattle.options.specs.declared.options.MultigridResidualNorm.{MultigridResidualNorm}
 use Rattle.options.specs.declared.options.MultigridSmoother.{MultigridSmoother}
 use Rattle.matrix.specs.Kernel.{KernelOk}
-use Rattle.layout.specs.Layout.{rowsAt, entriesAt, locate}
+use Rattle.layout.specs.Layout.{rowsAt, entriesAt, locate, imageOf}
 use Rattle.layout.specs.Parts.{kernelIn}
 use Rattle.layout.specs.SumsContract.{sumsAt}
 use Rattle.layout.specs.PlaceContract.{PlaceOk}
 use Rattle.update_levels.specs.Steps.{Chain}
-use Rattle.update.specs.Shadow.{imageOf}
 
 -- where the row sums of the finest level start: they end the image
 abbrev pub sumsStart : List ℕ → ℕ → ℕ

@@ -12,12 +12,11 @@ use Rattle.refusal.specs.declared.Verdict.{Verdict}
 use Rattle.refusal.specs.Outcome.{Outcome, refused, verdictOf}
 use Rattle.hierarchy.specs.Level.{Hierarchy}
 use Rattle.hierarchy.specs.First.{shapesIn}
-use Rattle.layout.specs.Layout.{levelsAt, viewOf}
+use Rattle.layout.specs.Layout.{levelsAt, viewOf, imageOf}
 use Rattle.index_check.specs.declared.sound.Walk.{Walk}
 use Rattle.index_check.specs.Sound.{walkOf}
 use Rattle.update_levels.specs.Update.{updateOf}
 use Rattle.update_levels.specs.Steps.{Chain}
-use Rattle.update.specs.Shadow.{imageOf}
 use Rattle.solver.specs.declared.answers.Updated.{Updated}
 use Rattle.update.specs.Updated.{hierarchyOf}
 
@@ -61,9 +60,9 @@ abbrev pub toldOf : Verdict → Updated
 toldOf Verdict.Passed = Updated.Done
 toldOf (Verdict.Refused q) = Updated.Refused q
 
--- What an update requires: from one to 128 levels, which the walk of question 19 went through, and room for the image and its shadow.
+-- What an update requires: at most 128 levels, which the walk of question 19 went through, and room for the image and its shadow. Of no levels this
+-- asks nothing.
 pub record UpdateOk (h : Handle) (w : List ℕ) (size : ℕ) : Type 0 where
-  pub some : 1 ≤ h .levels
   pub few : h .levels ≤ 128
   pub walk : walkOf (h .levels) w 0 0 ≡ Walk.Sound
   pub room : 2 * imageOf (h .levels) w ≤ size

@@ -10,9 +10,8 @@ use Rattle.refusal.specs.declared.Refusal.{Refusal}
 use Rattle.refusal.specs.Outcome.{Outcome, accepted, refused}
 use Rattle.hierarchy.specs.Level.{Hierarchy}
 use Rattle.hierarchy.specs.First.{shapesIn}
-use Rattle.layout.specs.Layout.{viewOf}
+use Rattle.layout.specs.Layout.{viewOf, imageOf}
 use Rattle.update_levels.specs.Update.{updateOf}
-use Rattle.update.specs.Shadow.{imageOf}
 use Rattle.solver.specs.declared.answers.Updated.{Updated}
 
 -- the update in stores that pass question 19, of the shapes that it finds there

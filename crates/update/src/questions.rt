@@ -4,11 +4,12 @@ ghost use mathlib.Core.Path.{_≡_};
 ghost use Prim.Native.Nat.{_+_, _≤_};
 ghost use lib.Dec.{eqb};
 ghost use lib.ListN.{length};
+ghost use Rattle.refusal.specs.Outcome.{verdictOf};
 ghost use Rattle.store.specs.Region.{idx, part};
 ghost use Rattle.store.specs.Vector.{each};
-ghost use Rattle.update_levels.specs.Update.{sameList, samePattern};
+ghost use Rattle.update_levels.specs.Update.{sameList, samePattern, emptyPattern};
 ghost use Rattle.update_levels.specs.StandingContract.{bareAt};
-ghost use Rattle.update.specs.Arrays.{PatternOk, AskOk, Asked};
+ghost use Rattle.update.specs.Arrays.{emptyAsked, PatternOk, AskOk, Asked};
 use layout::Place;
 use refusal::Verdict;
 
@@ -46,6 +47,26 @@ fn same_pattern(w: &[u32], p: Place, offsets: &[u32], columns: &[u32], values: &
     same_words(w, p.offsets, p.rows + 1, offsets)
         & same_words(w, p.columns, p.entries, columns)
         & (values.len() == columns.len())
+}
+
+// Question 31 of a matrix of no rows: the one offset, 0, no columns and no values.
+fn empty_pattern(offsets: &[u32], columns: &[u32], values: &[f64]) -> bool
+    ensures { λ r. ⌜ r ≡ emptyPattern (now (offsets .entry)) (now (columns .entry)) (now (values .entry)) ⌝ }
+{
+    if offsets.len() != 1 {
+        return false;
+    }
+    (offsets[0] == 0) & (columns.len() == 0) & (values.len() == 0)
+}
+
+// The same as an answer.
+pub fn asked_empty(offsets: &[u32], columns: &[u32], values: &[f64]) -> Verdict
+    ensures { λ r. ⌜ r ≡ verdictOf (emptyAsked (now (offsets .entry)) (now (columns .entry)) (now (values .entry))) ⌝ }
+{
+    if empty_pattern(offsets, columns, values) {
+        return Verdict::Passed;
+    }
+    Verdict::Refused(refusal::OTHER_PATTERN)
 }
 
 // Questions 31 and 10. The values that 10 compares are the coefficients of the finest level: they are taken to its place in the shadow,

@@ -73,7 +73,8 @@ fn told(answer: Verdict) -> Updated
     }
 }
 
-// New values for a hierarchy, of the pattern that it was built from. Refused, no word of the image has changed.
+// New values for a hierarchy, of the pattern that it was built from. Refused, no word of the image has changed. One of no levels has no
+// values: its arrays are asked, and nothing is written.
 pub fn update(
     h: Handle,
     offsets: &[u32],
@@ -85,6 +86,9 @@ pub fn update(
     requires { ⌜ UpdateOk h (now w) (length (now f)) ⌝ }
     ensures { λ r. ⌜ UpdateDone h (now (w .entry)) (now (f .entry)) (now (f .exit)) (updatedAt h (now (w .entry)) (now (f .entry)) (now (offsets .entry)) (now (columns .entry)) (now (values .entry))) r ⌝ }
 {
+    if h.levels == 0 {
+        return told(questions::asked_empty(offsets, columns, values));
+    }
     let options = h.options;
     let kind = options.smoother;
     let norm = options.residual_norm;

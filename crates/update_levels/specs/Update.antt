@@ -9,11 +9,11 @@ use Rattle.store.specs.Region.{idx}
 use Rattle.store.specs.Vector.{each}
 use Rattle.options.specs.declared.options.MultigridOptions.{MultigridOptions}
 use Rattle.refusal.specs.Refusal.{notSymmetric, badCoarseValue, otherPattern}
-use Rattle.refusal.specs.Outcome.{Outcome, accepted, refused, ask, _>>=_, _>>_}
+use Rattle.refusal.specs.Outcome.{Outcome, accepted, ask, _>>=_, _>>_}
 use Rattle.vector.specs.Finite.{allFinite}
 use Rattle.coefficients.specs.Mirrors.{mirrorsAgree}
 use Rattle.pattern.specs.Pattern.{entries}
-use Rattle.hierarchy.specs.Level.{Shape, Level, Hierarchy}
+use Rattle.hierarchy.specs.Level.{Shape, Level, Hierarchy, emptyHierarchy}
 use Rattle.hierarchy.specs.Refresh.{numbersOf, coarseValues, withSums}
 use Rattle.update_levels.specs.Standing.{diagonalsStand}
 
@@ -26,6 +26,10 @@ sameList u v = eqb (length u) (length v) && each (λ k. eqb (idx u k) (idx v k))
 -- question 31: offsets and columns are those of the finest level, with as many values as columns
 unfoldable pub samePattern : Shape → List ℕ → List ℕ → List Float → Bool
 samePattern s offsets columns values = sameList offsets (s .pattern .offsets) && sameList columns (s .pattern .columns) && eqb (length values) (length columns)
+
+-- question 31 of a matrix of no rows: the one offset, 0, no columns and no values
+unfoldable pub emptyPattern : List ℕ → List ℕ → List Float → Bool
+emptyPattern offsets columns values = eqb (length offsets) 1 && eqb (idx offsets 0) 0 && eqb (length columns) 0 && eqb (length values) 0
 
 -- ---- the levels
 
@@ -46,7 +50,7 @@ module _ (o : MultigridOptions) where
 
   -- `update_values` of a hierarchy of those shapes: its hierarchy with new values, or the first refusal
   unfoldable pub updateOf : List Shape → List ℕ → List ℕ → List Float → Outcome Hierarchy
-  updateOf [] offsets columns values = refused otherPattern
+  updateOf [] offsets columns values = ask (emptyPattern offsets columns values) otherPattern (accepted emptyHierarchy)
   updateOf (s ∷ rest) offsets columns values = do
     ask (samePattern s offsets columns values) otherPattern
     ask (mirrorsAgree (length (s .uppers)) (s .uppers) (s .lowers) values) notSymmetric

@@ -1,17 +1,16 @@
 -- Chains of questions: the answers of the functions that ask them.
 -- Assumes nothing.
 use mathlib.Core.Path.{_≡_, refl, sym, ap, _∙_}
-use mathlib.Core.Bool.{Bool, true, false, _&&_}
+use mathlib.Core.Bool.{Bool, true, false, _&&_, _||_}
 use mathlib.Core.List.{List}
 use Prim.Native.Nat.{ℕ, _+_, _*_}
 use native.Mathlib.Omega.{arith}
-use lib.Dec.{leb}
+use lib.Dec.{eqb, leb}
 use lib.ListN.{length}
 use lib.Ieee.{Float}
-use borrow.Author.Tests.{le-leb, lt-leb}
 use Rattle.options.specs.declared.options.MultigridOptions.{MultigridOptions}
 use Rattle.refusal.specs.declared.Refusal.{Refusal}
-use Rattle.refusal.specs.Refusal.{noRows, storeTooSmall}
+use Rattle.refusal.specs.Refusal.{storeTooSmall}
 use Rattle.refusal.specs.declared.Verdict.{Verdict}
 use Rattle.options.specs.Options.{controlsAsked}
 use Rattle.refusal.specs.Outcome.{Outcome, accepted, refused, passed, ask, verdictOf, _>>=_}
@@ -71,11 +70,11 @@ module _ (x : Input) {v : Verdict} (a : v ≡ verdictOf (matrixAsked (x .rows) (
   unfolding arraysAsked
   arrays-no {q} p = record { answer = sym (ap verdictOf (refused-then matrix others q (sym a ∙ p))) }
 
--- ---- questions 8 and 9
+-- ---- question 9
 
--- three questions, the last two with one refusal
-abbrev three : Bool → Bool → Bool → Outcome Unit
-three a b c = ask a noRows (ask b storeTooSmall (ask c storeTooSmall passed))
+-- two questions with one refusal
+abbrev two : Bool → Bool → Outcome Unit
+two a b = ask a storeTooSmall (ask b storeTooSmall passed)
 
 module _ (rows entries : ℕ) (o : MultigridOptions) (words floats records : ℕ) {v q : ℕ} (vectors : Vectors rows (o .«krylov_dimension») v)
     (factor : Squared (o .«coarsest_cells») q) where
@@ -84,40 +83,29 @@ module _ (rows entries : ℕ) (o : MultigridOptions) (words floats records : ℕ
   paid = leb (16 * rows + 12 * entries + 64) words && leb (v + 8 * entries + q) floats && leb (o .«max_levels») records
 
   abbrev finest : Bool
-  finest = leb (16 * rows + 12 * entries + 64 + (5 * rows + 4 * entries + 8)) words && leb (v + 8 * entries + q + (20 * rows + 4 * entries)) floats
+  finest = eqb rows 0 || (leb (16 * rows + 12 * entries + 64 + (5 * rows + 4 * entries + 8)) words && leb (v + 8 * entries + q + (20 * rows + 4 * entries)) floats)
 
-  room-is : roomAsked o (lending words floats records) rows entries ≡ three (leb 1 rows) paid finest
+  room-is : roomAsked o (lending words floats records) rows entries ≡ two paid finest
   unfolding roomAsked
   room-is = rw (vectors .is, factor .is)
 
-  pub room-empty : rows ≡ 0 → RoomAsked rows entries o (lending words floats records) (Verdict.Refused noRows)
-  room-empty e = record { answer = sym (ap verdictOf room-is ∙ none (leb 1 rows) paid finest (lt-leb 1 rows (omega arith))) }
+  pub room-short : paid ≡ false → RoomAsked rows entries o (lending words floats records) (Verdict.Refused storeTooSmall)
+  room-short e = record { answer = sym (ap verdictOf room-is ∙ none paid finest e) }
     where
-      none : (a b c : Bool) → a ≡ false → verdictOf (three a b c) ≡ Verdict.Refused noRows
-      none a b c e = rw e
+      none : (a b : Bool) → a ≡ false → verdictOf (two a b) ≡ Verdict.Refused storeTooSmall
+      none a b e = rw e
 
-  module _ (some : rows ≡ 0 → ⊥) where
-    one : leb 1 rows ≡ true
-    one = le-leb 1 rows (omega (arith, some))
+  pub room-shorter : paid ≡ true → finest ≡ false → RoomAsked rows entries o (lending words floats records) (Verdict.Refused storeTooSmall)
+  room-shorter e f = record { answer = sym (ap verdictOf room-is ∙ none paid finest e f) }
+    where
+      none : (a b : Bool) → a ≡ true → b ≡ false → verdictOf (two a b) ≡ Verdict.Refused storeTooSmall
+      none a b e f = rw (e, f)
 
-    pub room-short : paid ≡ false → RoomAsked rows entries o (lending words floats records) (Verdict.Refused storeTooSmall)
-    room-short e = record { answer = sym (ap verdictOf room-is ∙ none (leb 1 rows) paid finest one e) }
-      where
-        none : (a b c : Bool) → a ≡ true → b ≡ false → verdictOf (three a b c) ≡ Verdict.Refused storeTooSmall
-        none a b c d e = rw (d, e)
-
-    pub room-shorter : paid ≡ true → finest ≡ false
-        → RoomAsked rows entries o (lending words floats records) (Verdict.Refused storeTooSmall)
-    room-shorter e f = record { answer = sym (ap verdictOf room-is ∙ none (leb 1 rows) paid finest one e f) }
-      where
-        none : (a b c : Bool) → a ≡ true → b ≡ true → c ≡ false → verdictOf (three a b c) ≡ Verdict.Refused storeTooSmall
-        none a b c d e f = rw (d, e, f)
-
-    pub room-enough : paid ≡ true → finest ≡ true → RoomAsked rows entries o (lending words floats records) Verdict.Passed
-    room-enough e f = record { answer = sym (ap verdictOf room-is ∙ all (leb 1 rows) paid finest one e f) }
-      where
-        all : (a b c : Bool) → a ≡ true → b ≡ true → c ≡ true → verdictOf (three a b c) ≡ Verdict.Passed
-        all a b c d e f = rw (d, e, f)
+  pub room-enough : paid ≡ true → finest ≡ true → RoomAsked rows entries o (lending words floats records) Verdict.Passed
+  room-enough e f = record { answer = sym (ap verdictOf room-is ∙ all paid finest e f) }
+    where
+      all : (a b : Bool) → a ≡ true → b ≡ true → verdictOf (two a b) ≡ Verdict.Passed
+      all a b e f = rw (e, f)
 
 -- ---- questions 1 to 9
 

@@ -1,16 +1,16 @@
 -- What the questions tell where they passed.
 -- Assumes nothing.
 use mathlib.Core.Path.{_≡_, sym, _∙_}
-use mathlib.Core.Bool.{Bool, true, cond, _&&_}
+use mathlib.Core.Bool.{Bool, true, cond, _&&_, _||_}
 use mathlib.Core.List.{List}
 use Prim.Native.Nat.{ℕ, _+_, _*_}
-use lib.Dec.{leb}
+use lib.Dec.{eqb, leb}
 use lib.ListN.{length}
 use lib.Ieee.{Float}
-use borrow.Author.Tests.{leb-true}
+use borrow.Author.Tests.{leb-true, ne-eqb}
 use Rattle.store.proofs.store.Each.{both-l, both-r}
 use Rattle.options.specs.declared.options.MultigridOptions.{MultigridOptions}
-use Rattle.refusal.specs.Refusal.{invalidControls, notCholesky, noRows, storeTooSmall}
+use Rattle.refusal.specs.Refusal.{invalidControls, notCholesky, storeTooSmall}
 use Rattle.refusal.specs.declared.Verdict.{Verdict}
 use Rattle.options.specs.Options.{within, tolerable, capAllowed, validOf, isCholesky, controlsAsked}
 use Rattle.refusal.specs.Outcome.{passed, ask, verdictOf}
@@ -83,11 +83,11 @@ charge-ok {x} a p =
     let f = arrays-fit x (sym (a .answer) ∙ p) in
     record { few = f .sizes .few; less = f .sizes .short; controls = f .controls }
 
--- The stores of a build that passed.
+-- The stores of a build with rows that passed.
 pub fitting : {words floats records : ℕ} {x : Input} {v : Verdict} → Asked (lending words floats records) x v → v ≡ Verdict.Passed
-    → Fitting words floats x
+    → (x .rows ≡ 0 → ⊥) → Fitting words floats x
 unfolding askedOf roomAsked
-fitting {words} {floats} {records} {x} a p =
+fitting {words} {floats} {records} {x} a p some =
     let o = x .options in
     let rows = x .rows in
     let entries = length (x .columns) in
@@ -95,11 +95,9 @@ fitting {words} {floats} {records} {x} a p =
     let all = charge (fixed .words + (5 * rows + 4 * entries + 8)) (fixed .floats + (20 * rows + 4 * entries)) in
     let l = lending words floats records in
     let s = then-passed (arraysAsked x) (roomAsked o l rows entries) (sym (a .answer) ∙ p) in
-    let c = ask (holds (l .stores) all) storeTooSmall passed in
-    let b = ask (holds (l .stores) fixed && leb (o .«max_levels») records) storeTooSmall c in
-    let t = asked-yes (leb 1 rows) noRows b (s .1) in
-    let u = asked-yes (holds (l .stores) fixed && leb (o .«max_levels») records) storeTooSmall c (t .1) in
-    let z = asked-yes (holds (l .stores) all) storeTooSmall passed (u .1) in
+    let c = ask (eqb rows 0 || holds (l .stores) all) storeTooSmall passed in
+    let u = asked-yes (holds (l .stores) fixed && leb (o .«max_levels») records) storeTooSmall c (s .1) in
+    let z = asked-yes (holds (l .stores) all) storeTooSmall passed (rw (ne-eqb rows 0 some) at (u .1)) in
     record {
       arrays = arrays-fit x (s .0);
       heldwords = leb-true (all .words) words (both-l (leb (all .words) words) (leb (all .floats) floats) (z .0));

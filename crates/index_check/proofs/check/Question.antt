@@ -18,7 +18,7 @@ use Rattle.options.specs.Options.{validOf, isCholesky, controlsAsked}
 use Rattle.layout.specs.declared.Place.{Place}
 use Rattle.layout.specs.Layout.{rowsAt, entriesAt, locate}
 use Rattle.index_check.specs.declared.sound.Walk.{Walk}
-use Rattle.index_check.specs.Sound.{headsWalked, levelsWalked, walkOf, isSound, levelsSound, handleSound, cycleStart, scratchEnd, soundOf}
+use Rattle.index_check.specs.Sound.{headsWalked, levelsWalked, walkOf, isSound, levelsSound, controlsSound, emptySound, handleSound, cycleStart, scratchEnd, filledSound, soundOf}
 use Rattle.index_check.specs.SoundContract.{LevelsOk, MemoryOk, ScratchOk}
 use Rattle.index_check.proofs.sound.Sizes.{cycle-bound}
 use Rattle.index_check.proofs.sound.Accepts.{walk-accepts}
@@ -26,14 +26,6 @@ use Rattle.index_check.proofs.sound.Question.{handle-few}
 use Rattle.index_check.specs.CheckContract.{HeadsOk, SizesOk, sizesAsked}
 
 -- ---- the handle
-
--- Tests in a row of which the first two are one.
-pair-first : (a b c d e : Bool) → a ≡ true → b ≡ true → c && d && e ≡ a && b && c && d && e
-pair-first a b c d e ea eb = rw (ea, eb)
-
--- One of the first two fails.
-pair-no : (a b c d e : Bool) → a && b ≡ false → false ≡ a && b && c && d && e
-pair-no a b c d e n = rw n
 
 -- Questions 6 and 7 pass where both tests do,
 controls-pass : (o : MultigridOptions) → controlsAsked o ≡ passed → (validOf o ≡ true) × (isCholesky (o .«coarse_solver») ≡ true)
@@ -53,20 +45,25 @@ controls-no o {q} e = both-no (validOf o) (isCholesky (o .«coarse_solver»)) e
     both-no true false e = refl
     both-no false b e = refl
 
-module _ (h : Handle) {v : Verdict} (ev : v ≡ verdictOf (controlsAsked (h .options))) where
-  -- Its controls are refused.
-  pub handle-no : {q : Refusal} → v ≡ Verdict.Refused q → false ≡ handleSound h
-  unfolding handleSound
-  handle-no told = pair-no (validOf (h .options)) (isCholesky (h .options .«coarse_solver»)) (leb 1 (h .rows)) (leb 1 (h .levels))
-      (leb (h .levels) (h .options .«max_levels»)) (controls-no (h .options) (refuses (controlsAsked (h .options)) ev told))
+module _ (o : MultigridOptions) {v : Verdict} (ev : v ≡ verdictOf (controlsAsked o)) where
+  -- They are refused,
+  pub controls-fail : {q : Refusal} → v ≡ Verdict.Refused q → false ≡ (validOf o && isCholesky (o .«coarse_solver»))
+  controls-fail told = sym (controls-no o (refuses (controlsAsked o) ev told))
 
-  -- They pass.
-  pub handle-told : v ≡ Verdict.Passed → leb 1 (h .rows) && leb 1 (h .levels) && leb (h .levels) (h .options .«max_levels») ≡ handleSound h
-  unfolding handleSound
-  handle-told told =
-      let t = controls-pass (h .options) (passes (controlsAsked (h .options)) ev told) in
-      pair-first (validOf (h .options)) (isCholesky (h .options .«coarse_solver»)) (leb 1 (h .rows)) (leb 1 (h .levels))
-      (leb (h .levels) (h .options .«max_levels»)) (t .0) (t .1)
+  -- or pass.
+  pub controls-hold : v ≡ Verdict.Passed → true ≡ (validOf o && isCholesky (o .«coarse_solver»))
+  controls-hold told = let t = controls-pass o (passes (controlsAsked o) ev told) in rw (t .0, t .1)
+
+-- Where they do, the numbers of the handle decide: of one of no rows,
+pub empty-is : (h : Handle) {t : Bool} → t ≡ controlsSound h → (t && eqb (h .levels) 0 && eqb (h .rows) 0 && eqb (h .entries) 0) ≡ emptySound h
+unfolding emptySound
+empty-is h e = rw e
+
+-- and of one with levels.
+pub handle-is : (h : Handle) {t : Bool} → t ≡ controlsSound h
+    → (t && leb 1 (h .rows) && leb 1 (h .levels) && leb (h .levels) (h .options .«max_levels»)) ≡ handleSound h
+unfolding handleSound
+handle-is h e = rw e
 
 -- ---- the walk
 
@@ -106,7 +103,7 @@ pub sizes-are : (h : Handle) (w : List ℕ) (size : ℕ) {p : Place} {s e : ℕ}
     → eqb (p .rows) (h .rows) && eqb (p .entries) (h .entries) && leb e size ≡ sizesAsked h w size
 sizes-are h w size q es ee = rw (ee, es, q)
 
--- ---- the question
+-- ---- a handle with levels
 
 -- Tests in a row, and all but the first three of them apart.
 regroup : (a b c d e f : Bool) → a ≡ true → b ≡ true → c ≡ true → d && e && f ≡ a && b && c && d && e && f
@@ -114,20 +111,20 @@ regroup a b c d e f ea eb ec = rw (ea, eb, ec)
 
 module _ (h : Handle) (w : List ℕ) (size records : ℕ) {t : Bool} (et : t ≡ handleSound h) where
   -- The handle fails.
-  pub check-handle : t ≡ false → false ≡ soundOf h w size records
-  unfolding soundOf
+  pub check-handle : t ≡ false → false ≡ filledSound h w size records
+  unfolding filledSound
   check-handle n = let no = sym et ∙ n in rw no
 
   module _ (y : t ≡ true) where
     -- There are too few records.
-    pub check-records : records < h .levels → false ≡ soundOf h w size records
-    unfolding soundOf
+    pub check-records : records < h .levels → false ≡ filledSound h w size records
+    unfolding filledSound
     check-records n = let yes = sym et ∙ y in rw (yes, lt-leb (h .levels) records n)
 
     module _ (r : h .levels ≤ records) {v : Walk} (ev : v ≡ walkOf (h .levels) w 0 0) where
       -- The walk stopped.
-      pub check-stopped : (level row : ℕ) → v ≡ Walk.Stopped level row → false ≡ soundOf h w size records
-      unfolding soundOf
+      pub check-stopped : (level row : ℕ) → v ≡ Walk.Stopped level row → false ≡ filledSound h w size records
+      unfolding filledSound
       check-stopped level row n =
           let yes = sym et ∙ y in
           let no : levelsSound (h .levels) w 0 ≡ false = sym (walk-accepts (h .levels) w 0 0) ∙ ap isSound (sym ev ∙ n) in
@@ -137,11 +134,24 @@ module _ (h : Handle) (w : List ℕ) (size records : ℕ) {t : Bool} (et : t ≡
       pub check-sizes : v ≡ Walk.Sound → SizesOk h w
       check-sizes g = record { handle = sym et ∙ y; sound = sym ev ∙ g }
 
-      pub check-told : v ≡ Walk.Sound → {s : Bool} → s ≡ sizesAsked h w size → s ≡ soundOf h w size records
-      unfolding soundOf
+      pub check-told : v ≡ Walk.Sound → {s : Bool} → s ≡ sizesAsked h w size → s ≡ filledSound h w size records
+      unfolding filledSound
       check-told g e =
           let yes = sym et ∙ y in
           let through : levelsSound (h .levels) w 0 ≡ true = sym (walk-accepts (h .levels) w 0 0) ∙ ap isSound (sym ev ∙ g) in
           e ∙ regroup (handleSound h) (leb (h .levels) records) (levelsSound (h .levels) w 0) (eqb (rowsAt w 0) (h .rows))
           (eqb (entriesAt w 0) (h .entries))
           (leb (scratchEnd (h .levels) w 0 (cycleStart (h .options .«krylov_dimension») (h .levels) w)) size) yes (le-leb (h .levels) records r) through
+
+-- ---- the question
+
+module _ (h : Handle) (w : List ℕ) (size records : ℕ) {t : Bool} (et : t ≡ emptySound h) where
+  -- There are no rows.
+  pub check-empty : t ≡ true → true ≡ soundOf h w size records
+  unfolding soundOf
+  check-empty y = let yes = sym et ∙ y in rw yes
+
+  -- There are some, or the handle fails.
+  pub check-filled : t ≡ false → {r : Bool} → r ≡ filledSound h w size records → r ≡ soundOf h w size records
+  unfolding soundOf
+  check-filled n e = let no = sym et ∙ n in rw no e

@@ -8,9 +8,9 @@ use native.Mathlib.Nat.{sub-zero, mul-le-mul-right}
 use native.Mathlib.Omega.{arith}
 use Rattle.cholesky.specs.Triangle.{tri}
 use Rattle.layout.specs.declared.Place.{Place}
-use Rattle.layout.specs.Layout.{rowsAt, coupledAt, locate, wordsEnd, floatsEnd, imageEnd}
+use Rattle.layout.specs.Layout.{rowsAt, coupledAt, locate, wordsEnd, floatsEnd, imageEnd, imageOf}
 use Rattle.layout.specs.PlaceContract.{PlaceOk}
-use Rattle.layout.proofs.Views.{floats-to}
+use Rattle.layout.proofs.Views.{floats-to, finest-rows, finest-most}
 use Rattle.index_check.specs.declared.sound.Walk.{Walk}
 use Rattle.index_check.specs.Sound.{headSound, walkOf, scratchStart, scratchEnd, cycleStart}
 use Rattle.index_check.specs.SoundContract.{LevelsOk, FloatsOk, ScratchOk}
@@ -219,7 +219,11 @@ module _ {w : List ℕ} {levels : ℕ} (ok : LevelsOk w levels) where
 
   -- Where the scratch of a solve starts, as a bound.
   pub start-bound : scratchStart levels w ≤ 2199023386624
-  start-bound = let r = head-told w 0 first-head .rows in omega (arith, image-bound w levels ok)
+  start-bound = let r = head-told w 0 first-head .rows in omega (arith, image-bound w levels ok, finest-most levels w)
+
+  -- Where the shadow starts.
+  pub shadow-told : {e r : ℕ} → e ≡ imageEnd levels w 0 0 → r ≡ rowsAt w 0 → e + r ≡ imageOf levels w
+  shadow-told ee er = rw (finest-rows levels w (ok .some), ee, er)
 
   -- The memory of GCR.
   pub memory-most : (krylov : ℕ) {r : ℕ} → krylov ≤ 16 → r ≡ rowsAt w 0 → (2 + 2 * krylov) * r ≤ 2228224

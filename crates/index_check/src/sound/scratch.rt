@@ -1,7 +1,6 @@
 // Where the floats of the levels end, and where the scratch behind them starts and ends.
 ghost use mathlib.Core.Path.{_≡_};
-ghost use Prim.Native.Nat.{_+_};
-ghost use Rattle.layout.specs.Layout.{rowsAt, floatsEnd, imageEnd};
+ghost use Rattle.layout.specs.Layout.{floatsEnd, imageEnd, imageOf};
 ghost use Rattle.index_check.specs.Sound.{scratchStart, cycleStart, scratchEnd};
 ghost use Rattle.index_check.specs.SoundContract.{FloatsOk, LevelsOk, MemoryOk, ScratchOk};
 use crate::sound::place::coupled_at;
@@ -35,7 +34,7 @@ fn image_end(w: &[u32], levels: u64) -> usize
 // Where the shadow starts: behind the image, which the row sums of the finest level end.
 pub fn shadow_start(w: &[u32], levels: u64) -> usize
     requires { ⌜ LevelsOk (now w) levels ⌝ }
-    ensures { λ r. ⌜ r ≡ imageEnd levels (now (w .entry)) 0 0 + rowsAt (now (w .entry)) 0 ⌝ }
+    ensures { λ r. ⌜ r ≡ imageOf levels (now (w .entry)) ⌝ }
 {
     image_end(w, levels) + word_at(w, 0)
 }

@@ -12,9 +12,9 @@ use Rattle.store.proofs.store.Region.{kept-self, kept-part}
 use Rattle.options.specs.declared.options.Handle.{Handle}
 use Rattle.matrix.specs.declared.matrix.SymmetricMatrix.{SymmetricMatrix}
 use Rattle.matrix.specs.Kernel.{Kernel, KernelOk, kernelAt}
-use Rattle.layout.specs.Layout.{rowsAt, locate, levelAt, wordsEnd, floatsEnd, levelsAt, imageEnd, viewOf}
+use Rattle.layout.specs.Layout.{rowsAt, locate, levelAt, wordsEnd, floatsEnd, levelsAt, imageEnd, finestRows, imageOf, viewOf}
 use Rattle.layout.specs.Parts as parts
-use Rattle.layout.proofs.Views.{floats-to, levels-kept}
+use Rattle.layout.proofs.Views.{floats-to, levels-kept, finest-rows}
 use Rattle.index_check.specs.declared.sound.Walk.{Walk}
 use Rattle.index_check.specs.Sound.{walkOf, scratchStart, scratchEnd, cycleStart}
 use Rattle.layout.specs.PlaceContract.{PlaceOk}
@@ -61,6 +61,10 @@ module _ {h : Handle} {w : List ℕ} {size : ℕ} (o : Opened h w size) where
   first : Passed k w 0 0
   first = passed k (subst (λ (l : ℕ). walkOf l w 0 0 ≡ Walk.Sound) some-is (o .sound))
 
+  -- The row sums are as many as its rows.
+  sums-count : finestRows (h .levels) w ≡ n
+  sums-count = finest-rows (h .levels) w (o .some)
+
   -- Its floats end in the image,
   image-first : floatsEnd w 0 0 ≤ imageEnd (h .levels) w 0 0
   unfolding imageEnd
@@ -89,22 +93,24 @@ module _ {h : Handle} {w : List ℕ} {size : ℕ} (o : Opened h w size) where
   first-ok = place-zero w 0 (first-head levels-ok)
 
   -- No sum of the places wraps where the store's size does not.
-  pub places-fit : {image residual : ℕ} → image ≡ imageEnd (h .levels) w 0 0 + rowsAt w 0 → residual ≡ cycleStart (h .options .«krylov_dimension») (h .levels) w
+  pub places-fit : {image residual : ℕ} → image ≡ imageOf (h .levels) w → residual ≡ cycleStart (h .options .«krylov_dimension») (h .levels) w
       → (2 * image + 2 * h .rows + 2 * (h .options .«krylov_dimension» * h .rows) ≡ residual) × (residual + 5 * h .rows ≤ size)
       × (h .rows ≤ image)
   places-fit {image} {residual} s r =
       let room = room-first in
       let rows = o .rows in
+      let count = sums-count in
       let memory : (2 + 2 * h .options .«krylov_dimension») * rowsAt w 0 ≡ 2 * h .rows + 2 * (h .options .«krylov_dimension» * h .rows) =
       ap (λ (n : ℕ). (2 + 2 * h .options .«krylov_dimension») * n) rows ∙ memory-is (h .options .«krylov_dimension») (h .rows) in
       (omega arith, omega arith, omega arith)
 
   -- The places are those of the definition.
-  pub places-are : {image residual : ℕ} {matrix : SymmetricMatrix} → image ≡ imageEnd (h .levels) w 0 0 + rowsAt w 0
+  pub places-are : {image residual : ℕ} {matrix : SymmetricMatrix} → image ≡ imageOf (h .levels) w
       → residual ≡ cycleStart (h .options .«krylov_dimension») (h .levels) w → matrix ≡ parts.kernelIn (locate w 0 0)
       → placed matrix (h .rows) image (h .options .«krylov_dimension») residual ≡ regionsAt h w
   places-are {image} {residual} {matrix} s r m =
       let rows = o .rows in
+      let count = sums-count in
       let sums : image - h .rows ≡ imageEnd (h .levels) w 0 0 = omega arith in
       rw (sums, m, r, s, ← rows)
 
@@ -129,6 +135,7 @@ module _ {h : Handle} {w : List ℕ} {size : ℕ} (o : Opened h w size) where
   vectors-at : VectorsOk w size (regionsAt h w)
   vectors-at =
       let room = room-first in
+      let count = sums-count in
       let memory = memory-is (h .options .«krylov_dimension») n in
       record {
         kernel = kernel-ok;
@@ -158,7 +165,8 @@ module _ {h : Handle} {w : List ℕ} {size : ℕ} (o : Opened h w size) where
   system-at {F} {G} {p} kept above fits =
       let words = walk-to (h .levels) w 0 0 zero-le (o .sound) in
       let levels = levels-kept (h .levels) 0 0 {e = length w} (kept-self {F = w}) kept words (omega arith) (omega arith) fits .0 in
-      let sums : part (imageEnd (h .levels) w 0 0) n G ≡ part (imageEnd (h .levels) w 0 0) n F = kept-part kept _ _ (omega arith) in
+      let rows = finestRows (h .levels) w in
+      let sums : part (imageEnd (h .levels) w 0 0) rows G ≡ part (imageEnd (h .levels) w 0 0) rows F = kept-part kept _ _ (omega arith) in
       rw (levels, sums)
 
   -- The kernel of the hierarchy is the one that stands at the finest level's place.
@@ -202,4 +210,4 @@ module _ {h : Handle} {w : List ℕ} {size : ℕ} {g : Regions} (r : Ready h w s
   -- Its row sums stand at their place.
   pub sums-is : (F : List Float) → part (g .sums) (g .rows) F ≡ systemAt h w F .sums
   unfolding viewOf
-  sums-is F = rw (r .regions)
+  sums-is F = rw (r .regions, finest-rows (h .levels) w (r .opened .some))

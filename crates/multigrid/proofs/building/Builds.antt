@@ -20,7 +20,8 @@ use Rattle.solver.specs.declared.answers.BuildRun.{BuildRun}
 use Rattle.build.specs.Built.{handleOf, builtOf, lentOf, BuildDone}
 use Rattle.build.specs.Steps.{inputOf}
 use Rattle.build_sound.proofs.Sound.{built-sound}
-use Rattle.solve.proofs.Solving.{zeros-are, opened-of}
+use Rattle.solve.proofs.Solving.{zeros-are}
+use Rattle.multigrid.proofs.solving.Counting.{sound-few}
 use Rattle.multigrid.specs.Contract.{cellsAt, cellsOf, tableOf, tableBuilt, CellsOk, BuildRan}
 use Rattle.multigrid.proofs.building.Reading.{cells-are}
 
@@ -42,10 +43,8 @@ refused-is x (refused q) e = cc
 module _ {w z : List ℕ} {F G : List Float} {records : ℕ} {x : Input} {r : Built} (d : BuildDone w z F G x records r) where
   -- A build has at most 128 levels, and a record was lent for each.
   pub levels-few : (k : Hierarchy) → buildOf (lentOf w F records) x ≡ accepted k → (length (k .levels) ≤ 128) × (length (k .levels) ≤ records)
-  levels-few k e =
-      let o = opened-of (handleOf x k) z (length G) records
-      (built-sound (lentOf w F records) x e z G (d .view k e) (d .fits k e) (d .wordsize) (d .floatsize)) in
-      (o .0 .deep, o .1)
+  levels-few k e = sound-few (handleOf x k) z (length G) records
+      (built-sound (lentOf w F records) x e z G (d .view k e) (d .fits k e) (d .wordsize) (d .floatsize))
 
   -- The rows of a handle's levels can be read.
   pub cells-ok : {h : Handle} → r ≡ Built.Made h → CellsOk z (h .levels)

@@ -91,6 +91,14 @@ solve-length levels t (refused q) = refl
 
 -- ---- the call
 
+-- A handle that passes question 19 has at most 128 levels, and a record for each.
+pub sound-few : (h : Handle) (w : List ℕ) (size records : ℕ) → soundOf h w size records ≡ true → (h .levels ≤ 128) × (h .levels ≤ records)
+sound-few h w size records e = go (h .levels) refl
+  where
+    go : (n : ℕ) → h .levels ≡ n → (h .levels ≤ 128) × (h .levels ≤ records)
+    go zero none = (omega arith, omega arith)
+    go (suc n) some = let o = opened-of h w size records (omega arith) e in (o .0 .deep, o .1)
+
 module _ {h : Handle} {w : List ℕ} {F G : List Float} {records : ℕ} {rhs x y : List Float} {s : LinearSolverOptions} {run : SolveRun}
     (d : SolveRan h w F G records rhs x y s run) where
   -- A solve counts on at most 128 levels, and on none that has no record.
@@ -103,8 +111,8 @@ module _ {h : Handle} {w : List ℕ} {F G : List Float} {records : ℕ} {rhs x y
 
       go : (soundOf h w (length F) records ≡ true) ⊎ (soundOf h w (length F) records ≡ false) → (run .levels ≤ 128) × (run .levels ≤ records)
       go (inl passes) =
-          let o = opened-of h w (length F) records passes in
-          let deep = o .0 .deep in
+          let o = sound-few h w (length F) records passes in
+          let deep = o .0 in
           let room = o .1 in
           let is = d .done .levels in
           let few = most (solvedOf h w F records rhs x s) in

@@ -16,11 +16,11 @@ use Rattle.refusal.specs.Refusal.{unsoundStores}
 use Rattle.refusal.proofs.Outcome.{never}
 use Rattle.layout.specs.Layout.{viewOf}
 use Rattle.index_check.specs.Sound.{soundOf, scratchStart}
-use Rattle.iterations.specs.Steps.{Opened}
 use Rattle.solver.specs.declared.answers.SolveRun.{SolveRun}
 use Rattle.solve.specs.Solved.{solvedAt}
 use Rattle.solve.specs.Contract.{refusedRun, SolveDone}
-use Rattle.solve.proofs.Solving.{opened-of}
+use Rattle.solve.specs.Steps.{SolveOk}
+use Rattle.solve.proofs.Solving.{solve-ready}
 use Rattle.update.proofs.shadow.Moving.{view-stays}
 use Rattle.multigrid.specs.SolvingCall.{solvedOf}
 use Rattle.multigrid.specs.Contract.{SolveRan}
@@ -30,8 +30,8 @@ view-same : (levels : ℕ) (w : List ℕ) {F G : List Float} → Kept (scratchSt
 view-same levels w k = view-stays k levels w (omega arith)
 
 -- What the index check tells a solve.
-pub solve-opened : {h : Handle} {w : List ℕ} {size : ℕ} (records : ℕ) → soundOf h w size records ≡ true → Opened h w size
-solve-opened {h} {w} {size} records e = opened-of h w size records e .0
+pub solve-opened : {h : Handle} {w : List ℕ} {size : ℕ} (records : ℕ) → soundOf h w size records ≡ true → SolveOk h w size
+solve-opened {h} {w} {size} records e = solve-ready h w size records e
 
 -- The index check passes: the solve of the hierarchy in the stores.
 pub ran-sound : {h : Handle} {w : List ℕ} {F G : List Float} {records : ℕ} {rhs x y : List Float} {s : LinearSolverOptions} {run : SolveRun}

@@ -24,10 +24,10 @@ use Rattle.coefficients.specs.Contract.{MirrorsOk, Taken}
 use Rattle.layout.specs.declared.Place.{Place}
 use Rattle.layout.specs.Layout.{entriesAt, locate}
 use Rattle.index_check.specs.Sound.{shapeIn}
-use Rattle.update_levels.specs.Update.{sameList, samePattern}
+use Rattle.update_levels.specs.Update.{sameList, samePattern, emptyPattern}
 use Rattle.update_levels.specs.StandingContract.{bareAt}
 use Rattle.update_levels.specs.Level.{FacesReady}
-use Rattle.update.specs.Arrays.{askedOf, PatternOk, AskOk, Asked}
+use Rattle.update.specs.Arrays.{askedOf, emptyAsked, PatternOk, AskOk, Asked}
 
 module _ (w : List ℕ) (from : ℕ) (v : List ℕ) where
   -- the test of index k
@@ -161,3 +161,24 @@ module _ {w : List ℕ} (F : List Float) {image : ℕ} (offsets columns : List �
 -- What the comparison of the pattern requires.
 pub pattern-ready : {w : List ℕ} {size image : ℕ} {p : Place} → AskOk w size image → p ≡ locate w 0 image → PatternOk w p
 pattern-ready ok is = rw is (record { offsets = ok .pattern .offsets; columns = ok .pattern .columns })
+
+-- ---- no rows
+
+module _ (offsets columns : List ℕ) (values : List Float) where
+  -- There is not one offset,
+  pub empty-other : (length offsets ≡ 1 → ⊥) → false ≡ emptyPattern offsets columns values
+  unfolding emptyPattern
+  empty-other n = rw (ne-eqb (length offsets) 1 n)
+
+  -- or there is, and the rest is asked.
+  pub empty-same : length offsets ≡ 1 → (eqb (idx offsets 0) 0 && eqb (length columns) 0 && eqb (length values) 0) ≡ emptyPattern offsets columns values
+  unfolding emptyPattern
+  empty-same e = rw (eq-eqb (length offsets) 1 e)
+
+  module _ {t : Bool} (is : t ≡ emptyPattern offsets columns values) where
+    -- Question 31 as an answer.
+    pub empty-passed : t ≡ true → Verdict.Passed ≡ verdictOf (emptyAsked offsets columns values)
+    empty-passed holds = let e = sym is ∙ holds in rw e
+
+    pub empty-refused : t ≡ false → Verdict.Refused otherPattern ≡ verdictOf (emptyAsked offsets columns values)
+    empty-refused fails = let e = sym is ∙ fails in rw e

@@ -12,12 +12,11 @@ use Rattle.store.proofs.store.Region.{wrote-off, kept-wrote, kept-on, kept-less
 use Rattle.hierarchy.specs.Level.{Level}
 use Rattle.layout.specs.declared.Place.{Place}
 use Rattle.layout.specs.Layout.{rowsAt, locate, levelAt, wordsEnd, floatsEnd, levelsAt, imageEnd}
-use Rattle.layout.proofs.Views.{floats-to}
+use Rattle.layout.proofs.Views.{floats-to, finest-rows}
 use Rattle.layout.specs.PlaceContract.{PlaceOk}
 use Rattle.update_levels.specs.Steps.{RenewOk}
 use Rattle.update_levels.proofs.levels.Chains.{opened}
 use Rattle.update_levels.proofs.levels.Renewing.{renew-place, inner-words, next-place, next-ready, ends-at, levels-some}
-use Rattle.update.specs.Shadow.{imageOf}
 use Rattle.update.proofs.shadow.Moving.{floats-shift, floats-own, Moved, kept-moved, copied-moved, level-moved}
 use Rattle.update.specs.Steps.{CommitOk, Committed}
 
@@ -28,7 +27,7 @@ pub record Copying (levels image end level a : ℕ) (p : Place) (w : List ℕ) (
   pub is : p ≡ locate w a b
   pub ok : RenewOk w (length G) (levels - level) level a b
   pub size : length G ≡ length F
-  pub ended : image ≡ imageOf levels w
+  pub ended : image ≡ imageEnd levels w 0 0 + rowsAt w 0
   pub stop : end ≡ image - rowsAt w 0
   pub room : 2 * image ≤ length F
   pub ends : imageEnd (levels - level) w a b ≡ imageEnd levels w 0 0
@@ -42,7 +41,7 @@ commit-place ok = renew-place (record { chain = ok .chain; some = ok .some })
 
 -- The row sums are a part of the image.
 pub commit-sums : {levels : ℕ} {w : List ℕ} {size image : ℕ} {p : Place} → CommitOk levels w size image → p ≡ locate w 0 0 → p .rows ≤ image
-commit-sums ok is = let im = ok .is in rw is (omega arith)
+commit-sums {levels} {w} ok is = let im = ok .is in rw is (omega (arith, finest-rows levels w (ok .some)))
 
 -- Before the first level all are left.
 pub copying-start : {levels image end : ℕ} {w : List ℕ} (F : List Float) {p : Place} → CommitOk levels w (length F) image → p ≡ locate w 0 0
@@ -52,7 +51,7 @@ copying-start {levels} {image} {end} {w} F ok is at = record {
   is = is;
   ok = rw (sub-zero levels) (record { chain = ok .chain; some = ok .some });
   size = refl;
-  ended = ok .is;
+  ended = let im = ok .is in omega (arith, finest-rows levels w (ok .some));
   stop = rw is at at;
   room = ok .room;
   ends = rw (sub-zero levels);

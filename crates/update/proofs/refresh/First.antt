@@ -9,7 +9,7 @@ use lib.Ieee.{Float}
 use Rattle.options.specs.declared.options.MultigridOptions.{MultigridOptions}
 use Rattle.refusal.specs.Refusal.{notSymmetric, badCoarseValue, otherPattern}
 use Rattle.refusal.specs.Outcome.{Outcome, accepted, ask, _>>=_}
-use Rattle.refusal.proofs.Outcome.{ask-yes, then-accepted, accepted-one, never}
+use Rattle.refusal.proofs.Outcome.{ask-yes, then-accepted, accepted-one}
 use Rattle.vector.specs.Finite.{allFinite}
 use Rattle.coefficients.specs.Mirrors.{mirrorsAgree}
 use Rattle.pattern.specs.Pattern.{entries}
@@ -18,7 +18,7 @@ use Rattle.hierarchy.specs.First.{shapesIn}
 use Rattle.hierarchy.specs.Refresh.{refreshOf, numbersOf, coarseValues, withSums}
 use Rattle.hierarchy.proofs.Accepted.{ask-split, then-split}
 use Rattle.update_levels.specs.Standing.{diagonalsStand}
-use Rattle.update_levels.specs.Update.{samePattern, renewOf, updateOf}
+use Rattle.update_levels.specs.Update.{samePattern, emptyPattern, renewOf, updateOf}
 
 -- The levels of an accepted update of those shapes: a refresh of the same shapes makes them, and their shapes are these.
 pub record Second (o : MultigridOptions) (level : ℕ) (shapes : List Shape) (values : List Float) (levels : List Level) : Type 0 where
@@ -76,8 +76,10 @@ pub record FirstUpdate (o : MultigridOptions) (old : List Shape) (values : List 
 -- Pattern first, values second: an update reads the hierarchy's shapes and the new values, and nothing of the old ones.
 pub update-first : (o : MultigridOptions) (shapes : List Shape) (offsets columns : List ℕ) (values : List Float) {h : Hierarchy}
     → updateOf o shapes offsets columns values ≡ accepted h → FirstUpdate o shapes values h
-unfolding updateOf
-update-first o [] offsets columns values e = never refl e
+unfolding updateOf withSums refreshOf
+update-first o [] offsets columns values e =
+    let a = ask-split (emptyPattern offsets columns values) otherPattern _ e in
+    record { levels = []; is = sym (accepted-one (a .1)); second = refl; shapes = refl }
 update-first o (s ∷ rest) offsets columns values e =
     let a = ask-split (samePattern s offsets columns values) otherPattern _ e in
     let b = ask-split (mirrorsAgree (length (s .uppers)) (s .uppers) (s .lowers) values) notSymmetric _ (a .1) in

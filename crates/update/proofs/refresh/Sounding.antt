@@ -1,25 +1,26 @@
 -- Stores that question 19 passes are ready for an update.
 -- Assumes nothing.
-use mathlib.Core.Path.{_≡_}
+use mathlib.Core.Path.{_≡_, refl, sym}
 use mathlib.Core.Bool.{true, _&&_}
 use mathlib.Core.List.{List}
-use Prim.Native.Nat.{ℕ}
+use Prim.Native.Nat.{ℕ, zero, suc, _*_, _≤_}
 use native.Mathlib.Omega.{arith}
 use lib.Dec.{eqb, leb}
 use borrow.Author.Tests.{leb-true}
 use Rattle.store.proofs.store.Each.{both-l, both-r}
 use Rattle.options.specs.declared.options.Handle.{Handle}
-use Rattle.layout.specs.Layout.{rowsAt, entriesAt}
-use Rattle.index_check.specs.Sound.{levelsSound, scratchEnd, cycleStart, handleSound, soundOf}
-use Rattle.index_check.proofs.sound.Question.{handle-few}
+use Rattle.layout.specs.Layout.{rowsAt, entriesAt, imageOf}
+use Rattle.layout.proofs.Views.{image-empty}
+use Rattle.index_check.specs.Sound.{headsWalked, levelsWalked, walkOf, levelsSound, scratchEnd, cycleStart, handleSound, filledSound, soundOf}
+use Rattle.index_check.proofs.sound.Question.{handle-few, sound-filled}
 use Rattle.index_check.proofs.sound.Sizes.{scratch-to}
 use Rattle.index_check.proofs.sound.Accepts.{walk-passes}
 use Rattle.update.specs.Steps.{UpdateOk}
 
--- What an update requires follows from question 19.
-pub update-ready : (h : Handle) (w : List ℕ) (size records : ℕ) → soundOf h w size records ≡ true → UpdateOk h w size
-unfolding soundOf
-update-ready h w size records e =
+-- What an update of levels requires.
+filled-ready : (h : Handle) (w : List ℕ) (size records : ℕ) → filledSound h w size records ≡ true → UpdateOk h w size
+unfolding filledSound
+filled-ready h w size records e =
     let n = h .levels in
     let s = cycleStart (h .options .«krylov_dimension») n w in
     let a1 = handleSound h in
@@ -36,8 +37,24 @@ update-ready h w size records e =
     let ends = leb-true (scratchEnd n w 0 s) size (both-r (a1 && a2 && a3 && a4 && a5) a6 e) in
     let more = scratch-to n w 0 s in
     record {
-      some = count .0;
       few = count .1;
       walk = walk-passes n w 0 0 (both-r (a1 && a2) a3 h3);
       room = omega arith;
     }
+
+-- Of no levels it asks nothing.
+empty-ready : (h : Handle) (w : List ℕ) (size : ℕ) → h .levels ≡ 0 → UpdateOk h w size
+unfolding walkOf headsWalked levelsWalked
+empty-ready h w size none = record {
+  few = omega arith;
+  walk = rw none;
+  room = rw none (let e = image-empty w in omega arith);
+}
+
+-- What an update requires follows from question 19.
+pub update-ready : (h : Handle) (w : List ℕ) (size records : ℕ) → soundOf h w size records ≡ true → UpdateOk h w size
+update-ready h w size records e = go (h .levels) refl
+  where
+    go : (n : ℕ) → h .levels ≡ n → UpdateOk h w size
+    go zero none = empty-ready h w size none
+    go (suc n) some = filled-ready h w size records (sound-filled h w size records (omega arith) e)

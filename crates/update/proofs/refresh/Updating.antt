@@ -8,7 +8,7 @@ use native.Mathlib.Omega.{arith}
 use lib.ListN.{length}
 use lib.Ieee.{Float}
 use Rattle.store.specs.Region.{Kept}
-use Rattle.store.proofs.store.Region.{kept-on}
+use Rattle.store.proofs.store.Region.{kept-on, kept-self}
 use Rattle.options.specs.declared.options.Handle.{Handle}
 use Rattle.options.specs.declared.options.MultigridOptions.{MultigridOptions}
 use Rattle.options.specs.declared.options.MultigridResidualNorm.{MultigridResidualNorm}
@@ -18,22 +18,22 @@ use Rattle.refusal.specs.declared.Verdict.{Verdict}
 use Rattle.refusal.specs.Outcome.{Outcome, accepted, refused, passed, ask, verdictOf, isRefused, _>>=_}
 use Rattle.refusal.proofs.Outcome.{then-accepted, then-refused, passes, went-on, never}
 use Rattle.coefficients.specs.Mirrors.{mirrorsAgree}
-use Rattle.hierarchy.specs.Level.{Shape, Level, Hierarchy}
+use Rattle.hierarchy.specs.Level.{Shape, Level, Hierarchy, emptyHierarchy}
+use Rattle.hierarchy.specs.First.{shapesIn}
 use Rattle.hierarchy.specs.Refresh.{withSums}
 use Rattle.hierarchy.proofs.Accepted.{ask-split}
-use Rattle.layout.specs.Layout.{entriesAt, locate, wordsEnd, floatsEnd, levelsAt, viewOf}
-use Rattle.layout.proofs.Views.{floats-to}
+use Rattle.layout.specs.Layout.{entriesAt, locate, wordsEnd, floatsEnd, levelsAt, viewOf, imageOf}
+use Rattle.layout.proofs.Views.{floats-to, view-empty}
 use Rattle.index_check.specs.Sound.{shapeIn}
 use Rattle.index_check.specs.SoundContract.{LevelsOk}
-use Rattle.update_levels.specs.Update.{samePattern, renewOf, updateOf}
+use Rattle.update_levels.specs.Update.{samePattern, emptyPattern, renewOf, updateOf}
 use Rattle.update_levels.specs.Steps.{shapesAt, Renewed}
 use Rattle.update_levels.proofs.levels.Chains.{Opened, opened}
 use Rattle.update_levels.proofs.diagonals.Outcomes.{told-accepted, told-refused}
 use Rattle.update_levels.proofs.levels.Renewing.{shapes-some, floats-end}
 use Rattle.update_levels.specs.Level.{FacesReady}
-use Rattle.update.specs.Arrays.{askedOf, AskOk, Asked}
+use Rattle.update.specs.Arrays.{askedOf, emptyAsked, AskOk, Asked}
 use Rattle.update.proofs.questions.Questions.{many-values}
-use Rattle.update.specs.Shadow.{imageOf}
 use Rattle.update.specs.ShadowContract.{SumOk, Summed, With, ShadowOk}
 use Rattle.update.proofs.shadow.Moving.{shapes-are, view-stays}
 use Rattle.update.proofs.shadow.Shadowing.{shadow-end, sums-ready, with-sums}
@@ -214,8 +214,8 @@ module _ {levels : ℕ} {w : List ℕ} (F : List Float) (ok : AttemptOk levels w
 -- ---- the answer of an update
 
 -- What the attempt requires.
-pub attempt-ready : {h : Handle} {w : List ℕ} {size : ℕ} → UpdateOk h w size → size ≤ 18446744073709551615 → AttemptOk (h .levels) w size
-attempt-ready ok fits = record { some = ok .some; few = ok .few; walk = ok .walk; room = ok .room; fits = fits }
+pub attempt-ready : {h : Handle} {w : List ℕ} {size : ℕ} → UpdateOk h w size → (h .levels ≡ 0 → ⊥) → size ≤ 18446744073709551615 → AttemptOk (h .levels) w size
+attempt-ready ok filled fits = record { some = omega (arith, filled); few = ok .few; walk = ok .walk; room = ok .room; fits = fits }
 
 -- The answer is that of the outcome.
 answer-is : (out : Outcome Hierarchy) → toldOf (verdictOf out) ≡ updatedAnswer out
@@ -233,4 +233,32 @@ update-done h {w} {F} offsets columns values all e =
       view = d .view;
       kept = d .kept;
       size = d .size;
+    }
+
+-- ---- no levels
+
+-- the outcome of an update of no levels
+abbrev emptied : List ℕ → List ℕ → List Float → Outcome Hierarchy
+emptied offsets columns values = ask (emptyPattern offsets columns values) otherPattern (accepted emptyHierarchy)
+
+-- Its answer is that of question 31, and its hierarchy the empty one.
+emptied-is : (b : Bool) (q : Refusal) → (toldOf (verdictOf (ask b q passed)) ≡ updatedAnswer (ask b q (accepted emptyHierarchy)))
+    × (emptyHierarchy ≡ hierarchyOf emptyHierarchy (ask b q (accepted emptyHierarchy)))
+emptied-is true q = (refl, refl)
+emptied-is false q = (refl, refl)
+
+-- Where there are no levels an update leaves the stores as they are.
+pub update-empty : (h : Handle) (w : List ℕ) (F : List Float) (offsets columns : List ℕ) (values : List Float) → h .levels ≡ 0 → {v : Verdict}
+    → v ≡ verdictOf (emptyAsked offsets columns values) → {r : Updated} → r ≡ toldOf v → UpdateDone h w F F (updatedAt h w F offsets columns values) r
+unfolding updateOf
+update-empty h w F offsets columns values none ev er =
+    let view : viewOf (h .levels) w F 0 ≡ emptyHierarchy = ap (λ (n : ℕ). viewOf n w F 0) none ∙ view-empty w F in
+    let out : updatedAt h w F offsets columns values ≡ emptied offsets columns values =
+    ap (λ (k : Hierarchy). updateOf (h .options) (shapesIn (k .levels)) offsets columns values) view in
+    let told = emptied-is (emptyPattern offsets columns values) otherPattern in
+    record {
+      answer = er ∙ ap toldOf ev ∙ told .0 ∙ sym (ap updatedAnswer out);
+      view = view ∙ told .1 ∙ sym (ap (hierarchyOf emptyHierarchy) out) ∙ ap (λ (k : Hierarchy). hierarchyOf k (updatedAt h w F offsets columns values)) (sym view);
+      kept = λ _ _. kept-self;
+      size = refl;
     }

@@ -12,11 +12,10 @@ use Rattle.store.proofs.store.Region.{getD-part, length-part, wrote-at, kept-pa
 use Rattle.cholesky.specs.Triangle.{tri}
 use Rattle.hierarchy.specs.Level.{Shape}
 use Rattle.hierarchy.specs.First.{shapesIn}
-use Rattle.layout.specs.Layout.{rowsAt, coupledAt, locate, levelAt, wordsEnd, floatsEnd, levelsAt, imageEnd, viewOf}
+use Rattle.layout.specs.Layout.{rowsAt, coupledAt, locate, levelAt, wordsEnd, floatsEnd, levelsAt, imageEnd, finestRows, viewOf, imageOf}
 use Rattle.layout.proofs.Views.{floats-to}
 use Rattle.index_check.specs.Sound.{shapeIn}
 use Rattle.update_levels.specs.Steps.{shapesAt}
-use Rattle.update.specs.Shadow.{imageOf}
 
 -- The shapes of levels in the stores do not depend on the floats.
 pub shapes-are : (k : ℕ) (w : List ℕ) (F : List Float) (a b : ℕ) → shapesIn (levelsAt k w F a b) ≡ shapesAt k w a
@@ -115,5 +114,5 @@ pub view-stays : {p : ℕ} {F G : List Float} → Kept p F G → (k : ℕ) (w : 
 unfolding viewOf
 view-stays kept k w h =
     let levels = levels-stay kept k w 0 0 (omega arith) in
-    let sums = kept-part kept (imageEnd k w 0 0) (rowsAt w 0) h in
+    let sums = kept-part kept (imageEnd k w 0 0) (finestRows k w) h in
     cc

@@ -18,15 +18,14 @@ use Rattle.refusal.specs.declared.Verdict.{Verdict}
 use Rattle.matrix.specs.Kernel.{kernelAt, rowSumsOf}
 use Rattle.hierarchy.specs.Level.{Level}
 use Rattle.hierarchy.specs.Refresh.{needsDic, needsSums, withSums}
-use Rattle.layout.specs.Layout.{rowsAt, locate, levelAt, wordsEnd, floatsEnd, levelsAt, imageEnd, viewOf}
+use Rattle.layout.specs.Layout.{rowsAt, locate, levelAt, wordsEnd, floatsEnd, levelsAt, imageEnd, viewOf, imageOf}
 use Rattle.layout.specs.Parts.{kernelIn}
-use Rattle.layout.proofs.Views.{floats-to}
+use Rattle.layout.proofs.Views.{floats-to, finest-rows}
 use Rattle.update_levels.specs.Level.{Under}
 use Rattle.update_levels.specs.Steps.{Chain, StartOk, Renewed}
 use Rattle.update_levels.proofs.levels.Chains.{opened}
 use Rattle.update_levels.proofs.level.Levels.{kernel-ready}
 use Rattle.update_levels.proofs.levels.Renewing.{bare-ok, levels-some, floats-end}
-use Rattle.update.specs.Shadow.{imageOf}
 use Rattle.update.specs.ShadowContract.{sumsStart, SumOk, Summed, Smoothed, ShadowOk}
 use Rattle.update.proofs.shadow.Moving.{image-shift, levels-stay}
 
@@ -61,6 +60,7 @@ module _ {levels : ℕ} {w : List ℕ} {image : ℕ} (some : 1 ≤ levels) (is :
       let opens = first .is in
       let up = floats-to (levels - 1) w (wordsEnd w 0) (floatsEnd w 0 0) in
       let e = floats-end w 0 0 in
+      let rows = finest-rows levels w some in
       record {
         place = first .place;
         kernel = kernel-ready (bare-ok (record { chain = chain; some = some })) (sumsStart w image) (omega arith);
@@ -74,10 +74,11 @@ module _ {levels : ℕ} {w : List ℕ} {image : ℕ} (some : 1 ≤ levels) (is :
   unfolding viewOf
   with-sums o {norm} under {F} {G} room summed =
       let s : Summed w F G (o .«residual_norm») image = subst (λ (n : MultigridResidualNorm). Summed w F G n image) (sym under) summed in
+      let rows = finest-rows levels w some in
       let far : imageEnd levels w 0 0 ≡ sumsStart w image = omega arith in
       let frame : Kept (sumsStart w image) F G = kept-wrote (s .wrote) (omega arith) in
       let opens = levels-some levels w F 0 0 some in
       let stay : levelsAt levels w G 0 0 ≡ levelsAt levels w F 0 0 = levels-stay frame levels w 0 0 (omega arith) in
-      let sums = ap (λ (n : ℕ). part n (rowsAt w 0) G) far ∙ wrote-at (s .wrote) (omega arith) in
+      let sums = ap (λ (n : ℕ). part (imageEnd levels w 0 0) n G) rows ∙ ap (λ (n : ℕ). part n (rowsAt w 0) G) far ∙ wrote-at (s .wrote) (omega arith) in
       let made = sums-are o w F 0 0 (levelsAt (levels - 1) w F (wordsEnd w 0) (floatsEnd w 0 0)) in
       rw (stay, sums, opens) (sym made)

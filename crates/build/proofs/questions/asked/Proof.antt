@@ -1,4 +1,4 @@
--- `questions::asked` asks questions 1 to 7, then 8 and 9, whose charges do not wrap where 1 and 6 passed.
+-- `questions::asked` asks questions 1 to 7, then 9, whose charges do not wrap where 1 and 6 passed.
 -- Assumes nothing.
 use Rattle.build.proofs.questions.Passing.{charge-ok}
 use Rattle.build.proofs.questions.Chains.{asked-on, asked-no}

@@ -2,7 +2,7 @@
 -- Assumes nothing.
 use mathlib.Core.Path.{refl}
 use Rattle.index_check.proofs.sound.Laws.{head-told, head-sizes}
-use Rattle.index_check.proofs.sound.Sizes.{first-head, image-bound}
+use Rattle.index_check.proofs.sound.Sizes.{first-head, image-bound, shadow-told}
 use native.Mathlib.Omega.{arith}
 use borrow.Author.Needs.{needs}
 use Rattle.index_check.proofs.sound.scratch.shadow_start.Statement.{statement}
@@ -14,6 +14,9 @@ word-at-requires c κs = omega (arith, head-sizes _ _ refl refl refl (head-told 
 add-result : tie.Need-add-result
 add-result c = omega (arith, image-bound _ _ (c .before .before .before .pre), c .before .image-end .ensures, c .word-at .ensures .small)
 
+returns : tie.Need-returns
+returns c = shadow-told (c .before .before .before .pre) (c .before .image-end .ensures) (c .word-at .ensures .is)
+
 pub shadow-start-spec : {M : Type 1} → statement M
 shadow-start-spec =
-    tie.close (tie.spec (λ c κs. search needs) word-at-requires add-result (λ c. search needs))
+    tie.close (tie.spec (λ c κs. search needs) word-at-requires add-result returns)
