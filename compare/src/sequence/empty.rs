@@ -38,6 +38,7 @@ fn one_drum(report: &mut Report, random: &mut Random) {
         ..options::valid(random)
     };
     let problem = Problem {
+        cap: 0,
         arrays: no_entries(),
         weights: (random.below(2) == 0).then(Vec::new),
         options,
@@ -197,14 +198,12 @@ fn one_handle(report: &mut Report, random: &mut Random) {
         rows,
         entries,
     };
-    let mut stores = noisy(
-        random,
-        &Lent {
-            words: random.index(70),
-            floats: random.index(70),
-            statistics: random.index(3),
-        },
-    );
+    let lent = Lent {
+        words: random.index(70),
+        floats: random.index(70),
+        statistics: random.index(3),
+    };
+    let mut stores = noisy(random, &lent);
     let before = stores.clone();
     let due = match why {
         Some(_) => Err((19, 0, 0)),

@@ -77,15 +77,22 @@ fn same_statistics(text: &[u8], at: usize, levels: u64, s: &[u64], lent: usize) 
     }
 }
 
-// What is compared: the whole hierarchy of an accepted build, and all that was lent to one that refuses, since that leaves zeros.
-fn compared(p: Problem, levels: u64, words: &[u32]) -> Extent {
-    if levels == 0 {
+// What is compared: the whole hierarchy of an accepted build, which is nothing where it has no levels, and all that was lent to one that
+// refuses, since that leaves zeros.
+fn compared(p: Problem, a: Answer, words: &[u32]) -> Extent {
+    if a.number != 0 {
         return Extent {
             words: p.words,
             floats: p.floats,
         };
     }
-    stores::view_end(words, levels)
+    if a.levels == 0 {
+        return Extent {
+            words: 0,
+            floats: 0,
+        };
+    }
+    stores::view_end(words, a.levels)
 }
 
 // Whether an answer and the stores that it left are as the list has them, which ends at `size`.
@@ -101,7 +108,7 @@ fn agrees(
     let told = same_answer(text, p.next, a);
     let rows = same_statistics(text, told.next, a.levels, statistics, p.statistics);
     let due = reading::number(text, rows.next);
-    let sum = stores::checksum(compared(p, a.levels, words), words, floats);
+    let sum = stores::checksum(compared(p, a, words), words, floats);
     told.same & rows.same & (sum == due.value) & (due.next == size)
 }
 
