@@ -4,5 +4,3 @@ pub mod UpdatingCall
 pub mod SolvingCall
 pub mod CountingCall
 pub mod Contract
-pub mod Scratch
-pub mod Trace

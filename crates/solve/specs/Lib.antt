@@ -4,4 +4,3 @@ pub mod Solve
 pub mod Solved
 pub mod Contract
 pub mod Steps
-pub mod Work

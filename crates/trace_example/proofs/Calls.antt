@@ -37,8 +37,8 @@ use Rattle.update_levels.specs.Update.{updateOf}
 use Rattle.multigrid.specs.New.{NewDone, statisticsOf}
 use Rattle.multigrid.specs.UpdatingCall.{updatedOf, UpdateCall}
 use Rattle.multigrid.specs.SolvingCall.{solvedOf, recordsOf, SolveCall}
-use Rattle.multigrid.specs.Trace.{Trace, statisticsAfter, withValues, Agrees}
-use Rattle.multigrid.proofs.Trace.{new-sound, refreshed-is-fresh}
+use Rattle.call_theorem.specs.Trace.{Trace, statisticsAfter, withValues, Agrees}
+use Rattle.call_theorem.proofs.Trace.{new-sound, refreshed-is-fresh}
 use Rattle.multigrid.proofs.building.Publishing.{build-length}
 use Rattle.multigrid.proofs.solving.Counting.{solve-length}
 use Rattle.trace_example.specs.Calls.{Answer, Example, calls}

@@ -67,7 +67,7 @@ use Rattle.update_levels.specs.Update as update
 use Rattle.trace_example.proofs.Calls.{levelWords, levelFloats, allLevels, wordsFor, floatsFor, lent, Computes, calls-made, calls-counted, calls-agree}
 use Rattle.hierarchy.specs.Build.{meshIn, paired}
 use Rattle.multigrid.specs.New.{unvisitedLevels, statisticsOf}
-use Rattle.multigrid.specs.Trace.{statisticsAfter, Agrees}
+use Rattle.call_theorem.specs.Trace.{statisticsAfter, Agrees}
 use Rattle.trace_example.specs.Calls.{calls}
 use Rattle.trace_example.specs.Cell.{two, half, cell}
 use Rattle.trace_example.specs.Ring.{ring}

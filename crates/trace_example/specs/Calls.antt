@@ -8,7 +8,7 @@ use Rattle.solver.specs.declared.solver.LinearSolveReport.{LinearSolveReport}
 use Rattle.solver.specs.declared.answers.Solved.{Solved}
 use Rattle.solver.specs.declared.answers.Updated.{Updated}
 use Rattle.hierarchy.specs.Build.{Input}
-use Rattle.multigrid.specs.Trace.{Event, updated, solved}
+use Rattle.call_theorem.specs.Trace.{Event, updated, solved}
 
 -- a solve's report, its solution and what it counted, three numbers to a level
 pub record Answer : Type 0 where

@@ -20,7 +20,7 @@ use Rattle.layout.specs.declared.Place.{Place}
 use Rattle.layout.specs.Layout.{coupledAt, entriesAt, locate, numbersAt, levelAt, wordsEnd, floatsEnd, levelsAt, imageEnd, finestRows, viewOf, imageOf}
 use Rattle.layout.proofs.Views.{floats-to}
 use Rattle.update.proofs.shadow.Moving.{Moved, level-moved}
-use Rattle.multigrid.specs.Scratch.{ownValue, valueAt, scratchFloat}
+use Rattle.call_theorem.specs.Scratch.{ownValue, valueAt, scratchFloat}
 
 -- ---- tests
 

@@ -34,13 +34,13 @@ use Rattle.solve.specs.Solved.{solvedAt, solutionOf}
 use Rattle.solver.specs.declared.answers.Updated.{Updated}
 use Rattle.update.specs.Updated.{updatedAt, hierarchyOf}
 use Rattle.update.specs.Updated as refreshing
 use Rattle.multigrid.specs.New.{NewDone}
 use Rattle.multigrid.proofs.building.Builds.{made-is}
 use Rattle.multigrid.proofs.building.Publishing.{build-length}
 use Rattle.multigrid.proofs.solving.Counting.{solve-length}
 use Rattle.multigrid.specs.UpdatingCall.{updatedOf, UpdateCall}
 use Rattle.multigrid.specs.SolvingCall.{solvedOf, SolveCall}
-use Rattle.multigrid.specs.Trace.{Event, Trace, floatsAfter, statisticsAfter, withValues, booked, bookOf, Fresh, Agrees}
+use Rattle.call_theorem.specs.Trace.{Event, Trace, floatsAfter, statisticsAfter, withValues, booked, bookOf, Fresh, Agrees}
 use Rattle.update.proofs.refresh.First.{update-first}
 
 -- ---- pattern first, values second

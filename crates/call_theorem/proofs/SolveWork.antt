@@ -33,9 +33,9 @@ use Rattle.hierarchy.proofs.Accepted.{ask-split, then-split}
 use Rattle.cycle.specs.Cycle.{Cycled, countOf, visited, swept, iterated, rowsFirst, smoothed, ended, corrected, endOf, upOf, cycleOf}
 use Rattle.iterations.specs.Iteration.{State, System, trueResidualOf, measuredOf, movedOf, stepOf}
 use Rattle.iterations.specs.Iterate.{Solution, solution, iterateOf}
 use Rattle.solve.specs.Input.{lengthsOk, inputOk}
 use Rattle.solve.specs.Solve.{uncounted, begun, factorOf, runOf, solveOf}
-use Rattle.solve.specs.Work.{visitsPer, preOf, postOf, afterVisits, afterIterations, sweepsOf, smoothingSweepsOf}
+use Rattle.call_theorem.specs.Work.{visitsPer, preOf, postOf, afterVisits, afterIterations, sweepsOf, smoothingSweepsOf}
 
 -- ---- one counter
 

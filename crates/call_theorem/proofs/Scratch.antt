@@ -33,11 +33,11 @@ use Rattle.solver.specs.declared.statistics.MultigridLevelStatistics.{Multigrid
 use Rattle.solver.specs.declared.answers.Updated.{Updated}
 use Rattle.update.specs.Updated.{updatedAt, hierarchyOf}
 use Rattle.update.specs.Updated as updating
 use Rattle.multigrid.specs.UpdatingCall.{updatedOf, UpdateCall}
 use Rattle.multigrid.specs.SolvingCall.{solvedOf, recordsOf, SolveCall}
-use Rattle.multigrid.specs.Scratch.{valueAt, scratchFloat, Agree, Unread}
-use Rattle.multigrid.proofs.ScratchWords.{sound-told, view-told, image-end-told}
-use Rattle.multigrid.proofs.ScratchFloats.{neither-r, view-agrees, agrees-view}
+use Rattle.call_theorem.specs.Scratch.{valueAt, scratchFloat, Agree, Unread}
+use Rattle.call_theorem.proofs.ScratchWords.{sound-told, view-told, image-end-told}
+use Rattle.call_theorem.proofs.ScratchFloats.{neither-r, view-agrees, agrees-view}
 
 -- Lists of one length whose elements below p are the same are kept below p.
 kept-each : {A : Type 0} (d : A) (p : ℕ) {F G : List A} → length G ≡ length F → ((i : ℕ) → i < p → getD G i d ≡ getD F i d) → Kept p F G

@@ -26,11 +26,11 @@ use Rattle.index_check.proofs.sound.Facts.{passed}
 use Rattle.iterations.specs.Iterate.{Solution, answerOf}
 use Rattle.iterations.specs.System.{systemAt}
 use Rattle.solve.specs.Solved.{solvedAt}
-use Rattle.solve.specs.Work.{visitsPer, preOf, postOf, afterIterations, sweepsOf, smoothingSweepsOf}
+use Rattle.call_theorem.specs.Work.{visitsPer, preOf, postOf, afterIterations, sweepsOf, smoothingSweepsOf}
 use Rattle.solve.proofs.Solving.{opened-of, levels-long}
-use Rattle.solve.proofs.Work.{solve-work, sweeps-together}
+use Rattle.call_theorem.proofs.SolveWork.{solve-work, sweeps-together}
 use Rattle.multigrid.specs.SolvingCall.{solvedOf, recordsOf, SolveCall}
 use Rattle.multigrid.proofs.solving.Counting.{counted-here}
 
 -- Of levels that the index check passed the last alone is terminal.
 walk-ending : (more : ℕ) (w : List ℕ) (F : List Float) (level a b : ℕ) → walkOf (suc more) w level a ≡ Walk.Sound → Ending (levelsAt (suc more) w F a b)

@@ -1,0 +1,3 @@
+pub mod Scratch
+pub mod Trace
+pub mod Work
