@@ -12,13 +12,13 @@ use Rattle.refusal.specs.Outcome.{Outcome, accepted, refused}
 use Rattle.refusal.specs.declared.Verdict.{Verdict}
 use Rattle.store.specs.Region.{Wrote}
 use Rattle.store.proofs.store.Each.{both-l, both-r}
+use Rattle.options.specs.declared.options.MultigridOptions.{MultigridOptions}
 use Rattle.options.specs.declared.options.MultigridSmoother.{MultigridSmoother}
 use Rattle.options.specs.declared.options.MultigridResidualNorm.{MultigridResidualNorm}
 use Rattle.options.specs.declared.options.MultigridCoarseSolver.{MultigridCoarseSolver}
 use Rattle.export.specs.Flat.{smootherOf, residualNormOf, coarseSolverOf}
 use Rattle.solver.specs.declared.solver.LinearSolverOptions.{LinearSolverOptions}
 use Rattle.record_format.specs.declared.marks.Mark.{Mark}
-use Rattle.record_format.specs.declared.controls.Controls.{Controls}
 use Rattle.record_format.specs.declared.controls.ControlsRead.{ControlsRead}
 use Rattle.record_format.specs.declared.matrix.MatrixRead.{MatrixRead}
 use Rattle.record_format.specs.declared.problem.ProblemRead.{ProblemRead}
@@ -34,19 +34,21 @@ pub controls-is : (b : List ℕ) {s norm solver flag p₁ p₂ p₃ p₄ p₅ p�
     → p₁ ≡ u64At b 4 → p₂ ≡ u64At b 12 → p₃ ≡ u64At b 20 → p₄ ≡ u64At b 28 → p₅ ≡ u64At b 36 → p₆ ≡ u64At b 44 → p₇ ≡ u64At b 52 → p₈ ≡ u64At b 60 → p₉ ≡ u64At b 68
     → ByteIs b 76 solver → coarse ≡ coarseSolverOf solver → x ≡ floatAt b 77 → y ≡ floatAt b 85 → limit ≡ u64At b 93 → ByteIs b 101 flag → cap ≡ u64At b 102
     → (record {
-      options = record {
-        smoother = smoother; «residual_norm» = measure;
-        «pre_sweeps» = p₁; «post_sweeps» = p₂; «finest_sweeps» = p₃; «sweep_level_multiplier» = p₄; «max_sweeps» = p₅;
-        «coarsest_cells» = p₆; «max_levels» = p₇; «merge_levels» = p₈; «krylov_dimension» = p₉;
-        «coarse_solver» = coarse; «coarse_absolute_tolerance» = x; «coarse_relative_tolerance» = y; «coarse_max_iterations» = limit;
-        «scale_correction» = eqb flag 1;
-      };
-      «max_aggregate_cells» = cap;
+      smoother = smoother; «residual_norm» = measure;
+      «pre_sweeps» = p₁; «post_sweeps» = p₂; «finest_sweeps» = p₃; «sweep_level_multiplier» = p₄; «max_sweeps» = p₅;
+      «coarsest_cells» = p₆; «max_levels» = p₇; «merge_levels» = p₈; «krylov_dimension» = p₉;
+      «coarse_solver» = coarse; «coarse_absolute_tolerance» = x; «coarse_relative_tolerance» = y; «coarse_max_iterations» = limit;
+      «scale_correction» = eqb flag 1; «max_aggregate_cells» = cap;
     }) ≡ controlsAt b
 controls-is b i e j f a₁ a₂ a₃ a₄ a₅ a₆ a₇ a₈ a₉ k g h₁ h₂ u l v =
     rw (e, i .is, f, j .is, a₁, a₂, a₃, a₄, a₅, a₆, a₇, a₈, a₉, g, k .is, h₁, h₂, u, l .is, v)
 
-pub controls-yes : (b : List ℕ) {t : Bool} {c : Controls} → t ≡ controlsOk b → t ≡ true → c ≡ controlsAt b → ControlsRead.Read c ≡ controlsAnswer (readControls b)
+-- Bytes that pass are the controls at their places.
+pub controls-accepts : (b : List ℕ) {t : Bool} → t ≡ controlsOk b → t ≡ true → readControls b ≡ accepted (controlsAt b)
+unfolding readControls
+controls-accepts b told e = rw (sym told ∙ e)
+
+pub controls-yes : (b : List ℕ) {t : Bool} {c : MultigridOptions} → t ≡ controlsOk b → t ≡ true → c ≡ controlsAt b → ControlsRead.Read c ≡ controlsAnswer (readControls b)
 unfolding readControls
 controls-yes b told e f = rw (sym told ∙ e, f)
 
@@ -105,7 +107,8 @@ pub values-few : (m : Mark) (entries : ℕ) (b : List ℕ) {t : Bool} → t ≡ 
 unfolding valuesOk
 values-few m entries b told e = leb-true entries 320 (both-l _ (marked m b) (both-l _ (eqb (length b) (2 + 8 * entries)) (sym told ∙ e)))
 
-values-accepts : (m : Mark) (entries : ℕ) (b : List ℕ) {t : Bool} → t ≡ valuesOk m entries b → t ≡ true → readValues m entries b ≡ accepted (floatsAt b 2 entries)
+-- Bytes that pass are the floats behind the mark.
+pub values-accepts : (m : Mark) (entries : ℕ) (b : List ℕ) {t : Bool} → t ≡ valuesOk m entries b → t ≡ true → readValues m entries b ≡ accepted (floatsAt b 2 entries)
 unfolding readValues
 values-accepts m entries b told e = rw (sym told ∙ e)
 
@@ -138,7 +141,8 @@ pub solve-few : (rows : ℕ) (b : List ℕ) {t : Bool} → t ≡ solveOk rows b 
 unfolding solveOk
 solve-few rows b told e = leb-true rows 64 (both-l _ (marked Mark.Solve b) (both-l _ (eqb (length b) (26 + 16 * rows)) (sym told ∙ e)))
 
-solve-accepts : (rows : ℕ) (b : List ℕ) {t : Bool} → t ≡ solveOk rows b → t ≡ true → readSolve rows b ≡ accepted (problemAt rows b)
+-- Bytes that pass are the solve at its places.
+pub solve-accepts : (rows : ℕ) (b : List ℕ) {t : Bool} → t ≡ solveOk rows b → t ≡ true → readSolve rows b ≡ accepted (problemAt rows b)
 unfolding readSolve
 solve-accepts rows b told e = rw (sym told ∙ e)
 

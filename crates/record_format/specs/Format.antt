@@ -14,7 +14,6 @@ use Rattle.solver.specs.declared.solver.LinearSolverOptions.{LinearSolverOption
 use Rattle.export.specs.Flat.{smootherOf, residualNormOf, coarseSolverOf}
 use Rattle.export.specs.Structs.{smootherNumber, residualNormNumber, coarseSolverNumber}
 use Rattle.record_format.specs.declared.marks.Mark.{Mark}
-use Rattle.record_format.specs.declared.controls.Controls.{Controls}
 use Rattle.record_format.specs.Bytes.{byteAt, u32At, u64At, floatAt, wordsAt, floatsAt, bytes4, bytes8, floatBytes, flat}
 
 -- a record of a problem file is unknown, repeated, out of place, out of range, too short, too large or missing
@@ -41,9 +40,9 @@ marked m b = eqb (byteAt b 0) (byteAt (lettersOf m) 0) && eqb (byteAt b 1) (byte
 abbrev pub flagNumber : Bool → ℕ
 flagNumber b = cond b 1 0
 
--- the options at their places
-abbrev pub optionsAt : List ℕ → MultigridOptions
-optionsAt b = record {
+-- the controls at their places
+abbrev pub controlsAt : List ℕ → MultigridOptions
+controlsAt b = record {
   smoother = smootherOf (byteAt b 2);
   «residual_norm» = residualNormOf (byteAt b 3);
   «pre_sweeps» = u64At b 4;
@@ -60,11 +59,8 @@ optionsAt b = record {
   «coarse_relative_tolerance» = floatAt b 85;
   «coarse_max_iterations» = u64At b 93;
   «scale_correction» = eqb (byteAt b 101) 1;
+  «max_aggregate_cells» = u64At b 102;
 }
-
--- the options, and last the cap on the rows of an aggregate
-abbrev pub controlsAt : List ℕ → Controls
-controlsAt b = record { options = optionsAt b; «max_aggregate_cells» = u64At b 102 }
 
 -- whether bytes are a CO record: 110 of them, and each enum and the yes or no in its range
 unfoldable pub controlsOk : List ℕ → Bool
@@ -72,7 +68,7 @@ controlsOk b =
     eqb (length b) 110 && marked Mark.Controls b && ltb (byteAt b 2) 3 && ltb (byteAt b 3) 2 && ltb (byteAt b 76) 2 && ltb (byteAt b 101) 2
 
 -- the controls of a CO record
-unfoldable pub readControls : List ℕ → Outcome Controls
+unfoldable pub readControls : List ℕ → Outcome MultigridOptions
 readControls b = ask (controlsOk b) badRecord (accepted (controlsAt b))
 
 -- the nine counts of controls that stand together
@@ -82,17 +78,17 @@ countsOf o =
     ∷ o .«max_levels» ∷ o .«merge_levels» ∷ o .«krylov_dimension» ∷ []
 
 -- the bytes of controls
-unfoldable pub controlsBytes : Controls → List ℕ
-controlsBytes c =
-    let o = c .options in
+unfoldable pub controlsBytes : MultigridOptions → List ℕ
+controlsBytes o =
     lettersOf Mark.Controls
     ++ (smootherNumber (o .smoother) ∷ residualNormNumber (o .«residual_norm») ∷ [])
     ++ flat bytes8 (countsOf o)
     ++ (coarseSolverNumber (o .«coarse_solver») ∷ [])
-    ++ flat floatBytes (o .«coarse_absolute_tolerance» ∷ o .«coarse_relative_tolerance» ∷ [])
+    ++ floatBytes (o .«coarse_absolute_tolerance»)
+    ++ floatBytes (o .«coarse_relative_tolerance»)
     ++ bytes8 (o .«coarse_max_iterations»)
     ++ (flagNumber (o .«scale_correction») ∷ [])
-    ++ bytes8 (c .«max_aggregate_cells»)
+    ++ bytes8 (o .«max_aggregate_cells»)
 
 -- ---- MX: rows, entries, offsets, columns, values
 
@@ -189,7 +185,8 @@ readSolve rows b = ask (solveOk rows b) badRecord (accepted (problemAt rows b))
 unfoldable pub solveBytes : Problem → List ℕ
 solveBytes p =
     lettersOf Mark.Solve
-    ++ flat floatBytes (p .limits .«absolute_tolerance» ∷ p .limits .«relative_tolerance» ∷ [])
+    ++ floatBytes (p .limits .«absolute_tolerance»)
+    ++ floatBytes (p .limits .«relative_tolerance»)
     ++ bytes8 (p .limits .«max_iterations»)
     ++ flat floatBytes (p .rhs)
     ++ flat floatBytes (p .start)

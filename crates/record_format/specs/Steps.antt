@@ -8,7 +8,7 @@ use lib.Ieee.{Float}
 use Rattle.refusal.specs.Outcome.{Outcome, accepted, refused, verdictOf}
 use Rattle.refusal.specs.declared.Verdict.{Verdict}
 use Rattle.store.specs.Region.{splice}
-use Rattle.record_format.specs.declared.controls.Controls.{Controls}
+use Rattle.options.specs.declared.options.MultigridOptions.{MultigridOptions}
 use Rattle.record_format.specs.declared.controls.ControlsRead.{ControlsRead}
 use Rattle.record_format.specs.declared.matrix.MatrixRead.{MatrixRead}
 use Rattle.record_format.specs.declared.problem.ProblemRead.{ProblemRead}
@@ -53,7 +53,7 @@ leavesOf part (accepted a) F = splice 0 (part a) F
 leavesOf part (refused q) F = F
 
 -- what reading controls answers
-abbrev pub controlsAnswer : Outcome Controls → ControlsRead
+abbrev pub controlsAnswer : Outcome MultigridOptions → ControlsRead
 controlsAnswer (accepted c) = ControlsRead.Read c
 controlsAnswer (refused q) = ControlsRead.Refused q
 

@@ -13,15 +13,9 @@ use export::controls::smoother_of;
 use options::MultigridOptions;
 use refusal::Refusal;
 
-// The options, and the cap on the rows of an aggregate.
-pub struct Controls {
-    pub options: MultigridOptions,
-    pub max_aggregate_cells: u64,
-}
-
 // The controls of a record, or the refusal of its bytes.
 pub enum ControlsRead {
-    Read(Controls),
+    Read(MultigridOptions),
     Refused(Refusal),
 }
 
@@ -38,10 +32,10 @@ fn controls_ok(b: &[u8]) -> bool
 }
 
 // The controls at their places.
-fn controls_at(b: &[u8]) -> Controls
+fn controls_at(b: &[u8]) -> MultigridOptions
     ensures { λ r. ⌜ r ≡ controlsAt (now (b .entry)) ⌝ }
 {
-    let options = MultigridOptions {
+    MultigridOptions {
         smoother: smoother_of(byte_at(b, 2)),
         residual_norm: residual_norm_of(byte_at(b, 3)),
         pre_sweeps: u64_at(b, 4),
@@ -58,9 +52,6 @@ fn controls_at(b: &[u8]) -> Controls
         coarse_relative_tolerance: float_at(b, 85),
         coarse_max_iterations: u64_at(b, 93),
         scale_correction: byte_at(b, 101) == 1,
-    };
-    Controls {
-        options: options,
         max_aggregate_cells: u64_at(b, 102),
     }
 }

@@ -7,7 +7,6 @@ pub mod matrix;
 pub mod problem;
 pub mod values;
 
-pub use controls::Controls;
 pub use controls::ControlsRead;
 pub use controls::read_controls;
 pub use marks::Mark;

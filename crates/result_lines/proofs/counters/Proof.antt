@@ -2,8 +2,8 @@
 -- Assumes nothing.
 use Prim.Native.Nat.{_-_}
 use borrow.Author.Needs.{needs}
-use Rattle.smallpress.proofs.counters.Statement.{statement}
-use Rattle.smallpress.proofs.counters.Tie as tie
+use Rattle.result_lines.proofs.counters.Statement.{statement}
+use Rattle.result_lines.proofs.counters.Tie as tie
 
 abbrev Inv-loop : tie.InvT-loop
 Inv-loop statistics levels level₀ level = Unit {0}

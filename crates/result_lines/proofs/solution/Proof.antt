@@ -2,8 +2,8 @@
 -- Assumes nothing.
 use Prim.Native.Nat.{_-_}
 use borrow.Author.Needs.{needs}
-use Rattle.smallpress.proofs.solution.Statement.{statement}
-use Rattle.smallpress.proofs.solution.Tie as tie
+use Rattle.result_lines.proofs.solution.Statement.{statement}
+use Rattle.result_lines.proofs.solution.Tie as tie
 
 abbrev Inv-loop : tie.InvT-loop
 Inv-loop x rows row₀ row = Unit {0}
