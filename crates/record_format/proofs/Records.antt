@@ -24,7 +24,8 @@ use Rattle.record_format.specs.declared.matrix.MatrixRead.{MatrixRead}
 use Rattle.record_format.specs.declared.problem.ProblemRead.{ProblemRead}
 use Rattle.record_format.specs.Bytes.{u32At, u64At, floatAt, wordsAt, floatsAt}
 use Rattle.record_format.specs.Format.{badRecord, marked, Matrix, Problem, controlsOk, controlsAt, readControls, sizesOk, matrixLength, matrixOk, matrixAt, readMatrix, valuesOk, readValues, limitsAt, problemAt, solveOk, readSolve}
-use Rattle.record_format.specs.Steps.{ByteIs, WordIs, Sizes, MatrixLaid, VectorsLaid, controlsAnswer, MatrixIs, ValuesAre, ProblemIs}
+use Rattle.record_format.specs.Answers.{controlsAnswer, MatrixIs, ValuesAre, ProblemIs}
+use Rattle.record_format.specs.Steps.{ByteIs, WordIs, Sizes, MatrixLaid, VectorsLaid}
 
 -- ---- CO
 

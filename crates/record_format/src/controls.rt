@@ -1,7 +1,7 @@
 // CO: the controls.
 ghost use mathlib.Core.Path.{_≡_};
 ghost use Rattle.record_format.specs.Format.{controlsOk, controlsAt, readControls};
-ghost use Rattle.record_format.specs.Steps.{controlsAnswer};
+ghost use Rattle.record_format.specs.Answers.{controlsAnswer};
 use crate::bytes::byte_at;
 use crate::bytes::float_at;
 use crate::bytes::u64_at;

@@ -1,7 +1,8 @@
 // MX: a matrix in compressed rows.
 ghost use mathlib.Core.Path.{_≡_};
 ghost use Rattle.record_format.specs.Format.{matrixOk, readMatrix};
-ghost use Rattle.record_format.specs.Steps.{Sizes, MatrixLaid, MatrixIs};
+ghost use Rattle.record_format.specs.Answers.{MatrixIs};
+ghost use Rattle.record_format.specs.Steps.{Sizes, MatrixLaid};
 use crate::bytes::read_floats;
 use crate::bytes::read_words;
 use crate::bytes::u32_at;

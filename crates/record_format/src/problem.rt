@@ -2,7 +2,8 @@
 ghost use mathlib.Core.Path.{_≡_};
 ghost use Prim.Native.Nat.{_≤_};
 ghost use Rattle.record_format.specs.Format.{limitsAt, solveOk, readSolve};
-ghost use Rattle.record_format.specs.Steps.{VectorsLaid, ProblemIs};
+ghost use Rattle.record_format.specs.Answers.{ProblemIs};
+ghost use Rattle.record_format.specs.Steps.{VectorsLaid};
 use crate::bytes::float_at;
 use crate::bytes::read_floats;
 use crate::bytes::u64_at;

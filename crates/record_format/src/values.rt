@@ -1,7 +1,7 @@
 // FW and UP: a float for each entry of the matrix.
 ghost use mathlib.Core.Path.{_≡_};
 ghost use Rattle.record_format.specs.Format.{valuesOk, readValues};
-ghost use Rattle.record_format.specs.Steps.{ValuesAre};
+ghost use Rattle.record_format.specs.Answers.{ValuesAre};
 use crate::bytes::read_floats;
 use crate::marks::Mark;
 use crate::marks::is_marked;
