@@ -151,8 +151,8 @@ module _ (m : Matrix) (fit : MatrixFits m) where
   unfolding matrixOk
   matrix-passes =
       let mark : marked Mark.Matrix whole ≡ true =
-          ap (marked Mark.Matrix) (let e : whole ≡ lettersOf Mark.Matrix ++ (bytes4 (m .rows) ++ (bytes4 (m .entries) ++ (flat bytes4 (m .offsets) ++ (flat bytes4 (m .columns) ++ flat floatBytes (m .values))))) = simp append-assoc in e)
-          ∙ letters-marked Mark.Matrix (bytes4 (m .rows) ++ (bytes4 (m .entries) ++ (flat bytes4 (m .offsets) ++ (flat bytes4 (m .columns) ++ flat floatBytes (m .values))))) in
+      ap (marked Mark.Matrix) (let e : whole ≡ lettersOf Mark.Matrix ++ (bytes4 (m .rows) ++ (bytes4 (m .entries) ++ (flat bytes4 (m .offsets) ++ (flat bytes4 (m .columns) ++ flat floatBytes (m .values))))) = simp append-assoc in e)
+      ∙ letters-marked Mark.Matrix (bytes4 (m .rows) ++ (bytes4 (m .entries) ++ (flat bytes4 (m .offsets) ++ (flat bytes4 (m .columns) ++ flat floatBytes (m .values))))) in
       rw (mark, rows-back, entries-back, le-leb (m .rows) 64 (fit .few), le-leb (m .entries) 320 (fit .small), eq-eqb (length whole) (14 + 4 * m .rows + 12 * m .entries) length-whole)
 
   matrix-at-back : matrixAt whole ≡ m
@@ -231,8 +231,8 @@ module _ (rows : ℕ) (p : Problem) (fit : ProblemFits rows p) where
   unfolding solveOk
   solve-passes =
       let mark : marked Mark.Solve all ≡ true =
-          ap (marked Mark.Solve) (let e : all ≡ lettersOf Mark.Solve ++ (floatBytes (p .limits .«absolute_tolerance») ++ (floatBytes (p .limits .«relative_tolerance») ++ (bytes8 (p .limits .«max_iterations») ++ vectors))) = simp append-assoc in e)
-          ∙ letters-marked Mark.Solve (floatBytes (p .limits .«absolute_tolerance») ++ (floatBytes (p .limits .«relative_tolerance») ++ (bytes8 (p .limits .«max_iterations») ++ vectors))) in
+      ap (marked Mark.Solve) (let e : all ≡ lettersOf Mark.Solve ++ (floatBytes (p .limits .«absolute_tolerance») ++ (floatBytes (p .limits .«relative_tolerance») ++ (bytes8 (p .limits .«max_iterations») ++ vectors))) = simp append-assoc in e)
+      ∙ letters-marked Mark.Solve (floatBytes (p .limits .«absolute_tolerance») ++ (floatBytes (p .limits .«relative_tolerance») ++ (bytes8 (p .limits .«max_iterations») ++ vectors))) in
       rw (le-leb rows 64 (fit .few), mark, eq-eqb (length all) (26 + 16 * rows) length-all)
 
   problem-at-back : problemAt rows all ≡ p
@@ -288,14 +288,25 @@ controls-passes o =
 controls-at-back : (o : MultigridOptions) → ControlsFit o → controlsAt (controlsBytes o) ≡ o
 unfolding controlsBytes flat bytes8 bytes4 u64At u32At
 controls-at-back o fit =
-    rw (smoother-back (o .smoother), norm-back (o .«residual_norm»),
-    long-back (o .«pre_sweeps») [] (fit .counts 0 (omega arith)), long-back (o .«post_sweeps») [] (fit .counts 1 (omega arith)),
-    long-back (o .«finest_sweeps») [] (fit .counts 2 (omega arith)), long-back (o .«sweep_level_multiplier») [] (fit .counts 3 (omega arith)),
-    long-back (o .«max_sweeps») [] (fit .counts 4 (omega arith)), long-back (o .«coarsest_cells») [] (fit .counts 5 (omega arith)),
-    long-back (o .«max_levels») [] (fit .counts 6 (omega arith)), long-back (o .«merge_levels») [] (fit .counts 7 (omega arith)),
-    long-back (o .«krylov_dimension») [] (fit .counts 8 (omega arith)), coarse-back (o .«coarse_solver»),
-    float-back (o .«coarse_absolute_tolerance») [] (fit .absolute), float-back (o .«coarse_relative_tolerance») [] (fit .relative),
-    long-back (o .«coarse_max_iterations») [] (fit .limit), flag-back (o .«scale_correction»), long-back (o .«max_aggregate_cells») [] (fit .cap))
+    rw (
+      smoother-back (o .smoother),
+      norm-back (o .«residual_norm»),
+      long-back (o .«pre_sweeps») [] (fit .counts 0 (omega arith)),
+      long-back (o .«post_sweeps») [] (fit .counts 1 (omega arith)),
+      long-back (o .«finest_sweeps») [] (fit .counts 2 (omega arith)),
+      long-back (o .«sweep_level_multiplier») [] (fit .counts 3 (omega arith)),
+      long-back (o .«max_sweeps») [] (fit .counts 4 (omega arith)),
+      long-back (o .«coarsest_cells») [] (fit .counts 5 (omega arith)),
+      long-back (o .«max_levels») [] (fit .counts 6 (omega arith)),
+      long-back (o .«merge_levels») [] (fit .counts 7 (omega arith)),
+      long-back (o .«krylov_dimension») [] (fit .counts 8 (omega arith)),
+      coarse-back (o .«coarse_solver»),
+      float-back (o .«coarse_absolute_tolerance») [] (fit .absolute),
+      float-back (o .«coarse_relative_tolerance») [] (fit .relative),
+      long-back (o .«coarse_max_iterations») [] (fit .limit),
+      flag-back (o .«scale_correction»),
+      long-back (o .«max_aggregate_cells») [] (fit .cap),
+    )
 
 -- All controls are accepted, and are those that were written.
 pub controls-back : (o : MultigridOptions) → ControlsFit o → readControls (controlsBytes o) ≡ accepted o

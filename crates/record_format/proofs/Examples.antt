@@ -37,11 +37,22 @@ controls =
     1 ∷ 0 ∷ 0 ∷ 0 ∷ 0 ∷ 0 ∷ 0 ∷ 0 ∷ 0 ∷ []
 
 controls-read : readControls controls ≡ accepted (record {
-  smoother = MultigridSmoother.DicGaussSeidel; «residual_norm» = MultigridResidualNorm.AbsoluteL2;
-  «pre_sweeps» = 0; «post_sweeps» = 2; «finest_sweeps» = 1; «sweep_level_multiplier» = 1; «max_sweeps» = 4; «coarsest_cells» = 10;
-  «max_levels» = 64; «merge_levels» = 2; «krylov_dimension» = 0;
-  «coarse_solver» = MultigridCoarseSolver.Cholesky; «coarse_absolute_tolerance» = ofBits binary64 0x3d719799812dea11;
-  «coarse_relative_tolerance» = ofBits binary64 0x3f847ae147ae147b; «coarse_max_iterations» = 500; «scale_correction» = true;
+  smoother = MultigridSmoother.DicGaussSeidel;
+  «residual_norm» = MultigridResidualNorm.AbsoluteL2;
+  «pre_sweeps» = 0;
+  «post_sweeps» = 2;
+  «finest_sweeps» = 1;
+  «sweep_level_multiplier» = 1;
+  «max_sweeps» = 4;
+  «coarsest_cells» = 10;
+  «max_levels» = 64;
+  «merge_levels» = 2;
+  «krylov_dimension» = 0;
+  «coarse_solver» = MultigridCoarseSolver.Cholesky;
+  «coarse_absolute_tolerance» = ofBits binary64 0x3d719799812dea11;
+  «coarse_relative_tolerance» = ofBits binary64 0x3f847ae147ae147b;
+  «coarse_max_iterations» = 500;
+  «scale_correction» = true;
   «max_aggregate_cells» = 0;
 })
 unfolding readControls controlsOk marked u64At u32At controls

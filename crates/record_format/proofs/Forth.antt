@@ -210,12 +210,12 @@ unfolding controlsBytes tab
 controls-laid b all told absolute relative =
     let long : length b ≡ 110 = told .long in
     let kinds : smootherNumber (smootherOf (byteAt b 2)) ∷ residualNormNumber (residualNormOf (byteAt b 3)) ∷ [] ≡ part 2 2 b =
-        ap (λ (n : ℕ). n ∷ residualNormNumber (residualNormOf (byteAt b 3)) ∷ []) (smoother-forth (byteAt b 2) (told .smoother))
-        ∙ ap (λ (n : ℕ). byteAt b 2 ∷ n ∷ []) (norm-forth (byteAt b 3) (told .norm)) ∙ sym (part-tab 2 2 b (omega arith)) in
+    ap (λ (n : ℕ). n ∷ residualNormNumber (residualNormOf (byteAt b 3)) ∷ []) (smoother-forth (byteAt b 2) (told .smoother))
+    ∙ ap (λ (n : ℕ). byteAt b 2 ∷ n ∷ []) (norm-forth (byteAt b 3) (told .norm)) ∙ sym (part-tab 2 2 b (omega arith)) in
     let coarse : coarseSolverNumber (coarseSolverOf (byteAt b 76)) ∷ [] ≡ part 76 1 b =
-        ap (λ (n : ℕ). n ∷ []) (coarse-forth (byteAt b 76) (told .coarse)) ∙ sym (part-tab 76 1 b (omega arith)) in
+    ap (λ (n : ℕ). n ∷ []) (coarse-forth (byteAt b 76) (told .coarse)) ∙ sym (part-tab 76 1 b (omega arith)) in
     let flag : flagNumber (eqb (byteAt b 101) 1) ∷ [] ≡ part 101 1 b =
-        ap (λ (n : ℕ). n ∷ []) (flag-forth (byteAt b 101) (told .flag)) ∙ sym (part-tab 101 1 b (omega arith)) in
+    ap (λ (n : ℕ). n ∷ []) (flag-forth (byteAt b 101) (told .flag)) ∙ sym (part-tab 101 1 b (omega arith)) in
     both (both (both (both (both (both (both (both (letters-forth Mark.Controls b (told .mark) (omega arith)) kinds) (counts-forth b all long)) coarse) (float-forth b 77 all (omega arith) absolute))
     (float-forth b 85 all (omega arith) relative)) (long-forth b 93 all (omega arith))) flag) (long-forth b 102 all (omega arith))
     ∙ controls-joined b long

@@ -33,14 +33,14 @@ pub word-after : (xs ys : List ℕ) (i : ℕ) → u32At (xs ++ ys) (length xs + 
 unfolding u32At
 word-after xs ys i =
     let e : (j : ℕ) → byteAt (xs ++ ys) (length xs + i + j) ≡ byteAt ys (i + j) =
-        λ j. ap (λ (n : ℕ). byteAt (xs ++ ys) n) (let z : length xs + i + j ≡ length xs + (i + j) = omega arith in z) ∙ getD-append-add xs ys (i + j) 0 in
+    λ j. ap (λ (n : ℕ). byteAt (xs ++ ys) n) (let z : length xs + i + j ≡ length xs + (i + j) = omega arith in z) ∙ getD-append-add xs ys (i + j) 0 in
     omega (arith, getD-append-add xs ys i 0, e 1, e 2, e 3)
 
 pub long-after : (xs ys : List ℕ) (i : ℕ) → u64At (xs ++ ys) (length xs + i) ≡ u64At ys i
 unfolding u64At
 long-after xs ys i =
     let e : u32At (xs ++ ys) (length xs + i + 4) ≡ u32At ys (i + 4) =
-        ap (λ (n : ℕ). u32At (xs ++ ys) n) (let z : length xs + i + 4 ≡ length xs + (i + 4) = omega arith in z) ∙ word-after xs ys (i + 4) in
+    ap (λ (n : ℕ). u32At (xs ++ ys) n) (let z : length xs + i + 4 ≡ length xs + (i + 4) = omega arith in z) ∙ word-after xs ys (i + 4) in
     omega (arith, word-after xs ys i, e)
 
 pub float-after : (xs ys : List ℕ) (i : ℕ) → floatAt (xs ++ ys) (length xs + i) ≡ floatAt ys i
@@ -66,11 +66,11 @@ long-back v rest h =
     let d : 4294967296 * (v / 4294967296) + v % 4294967296 ≡ v = div-add-mod v 4294967296 in
     let small : v % 4294967296 < 4294967296 = mod-lt v (omega arith) in
     let first : u32At (bytes4 (v % 4294967296) ++ bytes4 (v / 4294967296) ++ rest) 0 ≡ v % 4294967296 =
-        rw append-assoc (word-back (v % 4294967296) (bytes4 (v / 4294967296) ++ rest) small) in
+    rw append-assoc (word-back (v % 4294967296) (bytes4 (v / 4294967296) ++ rest) small) in
     let e : u32At (bytes4 (v % 4294967296) ++ (bytes4 (v / 4294967296) ++ rest)) 4 ≡ u32At (bytes4 (v / 4294967296) ++ rest) 0 =
-        rw length-bytes4 at (word-after (bytes4 (v % 4294967296)) (bytes4 (v / 4294967296) ++ rest) 0) in
+    rw length-bytes4 at (word-after (bytes4 (v % 4294967296)) (bytes4 (v / 4294967296) ++ rest) 0) in
     let second : u32At (bytes4 (v % 4294967296) ++ bytes4 (v / 4294967296) ++ rest) 4 ≡ v / 4294967296 =
-        rw append-assoc (e ∙ word-back (v / 4294967296) rest (omega arith)) in
+    rw append-assoc (e ∙ word-back (v / 4294967296) rest (omega arith)) in
     omega arith
 
 pub float-back : (x : Float) (rest : List ℕ) → Double x → floatAt (floatBytes x ++ rest) 0 ≡ x

@@ -35,11 +35,23 @@ pub controls-is : (b : List ℕ) {s norm solver flag p₁ p₂ p₃ p₄ p₅ p�
     → p₁ ≡ u64At b 4 → p₂ ≡ u64At b 12 → p₃ ≡ u64At b 20 → p₄ ≡ u64At b 28 → p₅ ≡ u64At b 36 → p₆ ≡ u64At b 44 → p₇ ≡ u64At b 52 → p₈ ≡ u64At b 60 → p₉ ≡ u64At b 68
     → ByteIs b 76 solver → coarse ≡ coarseSolverOf solver → x ≡ floatAt b 77 → y ≡ floatAt b 85 → limit ≡ u64At b 93 → ByteIs b 101 flag → cap ≡ u64At b 102
     → (record {
-      smoother = smoother; «residual_norm» = measure;
-      «pre_sweeps» = p₁; «post_sweeps» = p₂; «finest_sweeps» = p₃; «sweep_level_multiplier» = p₄; «max_sweeps» = p₅;
-      «coarsest_cells» = p₆; «max_levels» = p₇; «merge_levels» = p₈; «krylov_dimension» = p₉;
-      «coarse_solver» = coarse; «coarse_absolute_tolerance» = x; «coarse_relative_tolerance» = y; «coarse_max_iterations» = limit;
-      «scale_correction» = eqb flag 1; «max_aggregate_cells» = cap;
+      smoother = smoother;
+      «residual_norm» = measure;
+      «pre_sweeps» = p₁;
+      «post_sweeps» = p₂;
+      «finest_sweeps» = p₃;
+      «sweep_level_multiplier» = p₄;
+      «max_sweeps» = p₅;
+      «coarsest_cells» = p₆;
+      «max_levels» = p₇;
+      «merge_levels» = p₈;
+      «krylov_dimension» = p₉;
+      «coarse_solver» = coarse;
+      «coarse_absolute_tolerance» = x;
+      «coarse_relative_tolerance» = y;
+      «coarse_max_iterations» = limit;
+      «scale_correction» = eqb flag 1;
+      «max_aggregate_cells» = cap;
     }) ≡ controlsAt b
 controls-is b i e j f a₁ a₂ a₃ a₄ a₅ a₆ a₇ a₈ a₉ k g h₁ h₂ u l v =
     rw (e, i .is, f, j .is, a₁, a₂, a₃, a₄, a₅, a₆, a₇, a₈, a₉, g, k .is, h₁, h₂, u, l .is, v)

@@ -16,8 +16,8 @@ pub use matrix::MatrixSizes;
 pub use matrix::read_matrix;
 pub use problem::ProblemRead;
 pub use problem::read_solve;
-pub use values::read_values;
 use refusal::Refusal;
+pub use values::read_values;
 
 pub const BAD_RECORD: Refusal = Refusal {
     number: 32,

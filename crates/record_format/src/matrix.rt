@@ -62,14 +62,7 @@ pub fn read_matrix(
     let rows = u32_at(b, 2);
     let entries = u32_at(b, 6);
     if matrix_ok(b) {
-        lay_matrix(
-            b,
-            rows as usize,
-            entries as usize,
-            offsets,
-            columns,
-            values,
-        );
+        lay_matrix(b, rows as usize, entries as usize, offsets, columns, values);
         MatrixRead::Read(MatrixSizes {
             rows: rows,
             entries: entries,

@@ -50,12 +50,7 @@ fn limits_at(b: &[u8]) -> LinearSolverOptions
 }
 
 // The solve of an SO record: its vectors to the starts of two slices.
-pub fn read_solve(
-    b: &[u8],
-    rows: usize,
-    rhs: &mut [f64; 64],
-    start: &mut [f64; 64],
-) -> ProblemRead
+pub fn read_solve(b: &[u8], rows: usize, rhs: &mut [f64; 64], start: &mut [f64; 64]) -> ProblemRead
     ensures { λ r. ⌜ ProblemIs (readSolve rows (now (b .entry))) (now (rhs .entry)) (now (rhs .exit)) (now (start .entry)) (now (start .exit)) r ⌝ }
 {
     if solve_ok(b, rows) {

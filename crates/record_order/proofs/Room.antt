@@ -14,7 +14,7 @@ use Rattle.record_format.specs.declared.marks.Mark.{Mark}
 use Rattle.record_order.specs.declared.Came.{Came}
 use Rattle.record_order.specs.declared.Named.{Named}
 use Rattle.record_order.specs.declared.Next.{Next}
-use Rattle.record_order.specs.Order.{allowed, headOf, sizeOf, namedOf, untilOf, sizedOf, judgedOf, nextOf, WithinRoom}
+use Rattle.record_order.specs.Order.{allowed, headLength, recordSize, namedOf, untilOf, sizedOf, judgedOf, whatNext, WithinRoom}
 
 -- a choice has room where each way that is taken has
 room-if : (t : Bool) (x y : Next) (h : ℕ) → (t ≡ true → WithinRoom h x) → (t ≡ false → WithinRoom h y) → WithinRoom h (cond t x y)
@@ -26,8 +26,8 @@ small-if true n p = p refl
 small-if false n p = omega arith
 
 -- the size of a record
-pub size-small : (c : Came) (b : List ℕ) (m : Mark) → sizeOf c b m ≤ 4110
-unfolding sizeOf
+pub size-small : (c : Came) (b : List ℕ) (m : Mark) → recordSize c b m ≤ 4110
+unfolding recordSize
 size-small c b Mark.Controls = omega arith
 size-small c b Mark.Matrix =
     small-if (sizesOk (u32At b 2) (u32At b 6)) (matrixLength (u32At b 2) (u32At b 6))
@@ -37,8 +37,8 @@ size-small c b Mark.Weights = small-if (leb (c .entries) 320) (valuesLength (c .
 size-small c b Mark.Update = small-if (leb (c .entries) 320) (valuesLength (c .entries)) (λ e. omega (arith, leb-true (c .entries) 320 e))
 size-small c b Mark.Solve = small-if (leb (c .rows) 64) (solveLength (c .rows)) (λ e. omega (arith, leb-true (c .rows) 64 e))
 
-head-small : (m : Mark) → headOf m ≤ 4110
-unfolding headOf
+head-small : (m : Mark) → headLength m ≤ 4110
+unfolding headLength
 head-small Mark.Controls = omega arith
 head-small Mark.Matrix = omega arith
 head-small Mark.Weights = omega arith
@@ -48,18 +48,18 @@ head-small Mark.Solve = omega arith
 sized-room : (c : Came) (b : List ℕ) (m : Mark) → WithinRoom (length b) (sizedOf c b m)
 unfolding sizedOf untilOf
 sized-room c b m =
-    room-if (ltb (length b) (headOf m)) (Next.Read (headOf m - length b)) (cond (eqb (sizeOf c b m) 0) (Next.Refused badRecord) (untilOf m (sizeOf c b m) (length b))) (length b)
-    (λ e. omega (arith, ltb-true (length b) (headOf m) e, head-small m))
-    (λ _. room-if (eqb (sizeOf c b m) 0) (Next.Refused badRecord) (untilOf m (sizeOf c b m) (length b)) (length b) (λ _. tt)
-    (λ _. room-if (ltb (length b) (sizeOf c b m)) (Next.Read (sizeOf c b m - length b)) (Next.Whole m) (length b)
-    (λ e. omega (arith, ltb-true (length b) (sizeOf c b m) e, size-small c b m)) (λ _. tt)))
+    room-if (ltb (length b) (headLength m)) (Next.Read (headLength m - length b)) (cond (eqb (recordSize c b m) 0) (Next.Refused badRecord) (untilOf m (recordSize c b m) (length b))) (length b)
+    (λ e. omega (arith, ltb-true (length b) (headLength m) e, head-small m))
+    (λ _. room-if (eqb (recordSize c b m) 0) (Next.Refused badRecord) (untilOf m (recordSize c b m) (length b)) (length b) (λ _. tt)
+    (λ _. room-if (ltb (length b) (recordSize c b m)) (Next.Read (recordSize c b m - length b)) (Next.Whole m) (length b)
+    (λ e. omega (arith, ltb-true (length b) (recordSize c b m) e, size-small c b m)) (λ _. tt)))
 
 judged-room : (c : Came) (b : List ℕ) (n : Named) → WithinRoom (length b) (judgedOf c b n)
 judged-room c b (Named.Known m) = room-if (allowed c m) (sizedOf c b m) (Next.Refused badRecord) (length b) (λ _. sized-room c b m) (λ _. tt)
 judged-room c b Named.Unknown = tt
 
 -- Whatever has come and whatever has been read, what is to be read next ends by byte 4,110.
-pub next-room : (c : Came) (b : List ℕ) → WithinRoom (length b) (nextOf c b)
-unfolding nextOf
+pub next-room : (c : Came) (b : List ℕ) → WithinRoom (length b) (whatNext c b)
+unfolding whatNext
 next-room c b =
     room-if (ltb (length b) 2) (Next.Read (2 - length b)) (judgedOf c b (namedOf b)) (length b) (λ e. omega (arith, ltb-true (length b) 2 e)) (λ _. judged-room c b (namedOf b))

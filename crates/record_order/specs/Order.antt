@@ -52,20 +52,20 @@ namedOf b =
     (cond (marked Mark.Solve b) (Named.Known Mark.Solve) Named.Unknown))))
 
 -- how many bytes of a record tell its size: of MX the rows and entries too, of the others the mark alone
-unfoldable pub headOf : Mark → ℕ
-headOf Mark.Controls = 2
-headOf Mark.Matrix = 10
-headOf Mark.Weights = 2
-headOf Mark.Update = 2
-headOf Mark.Solve = 2
+unfoldable pub headLength : Mark → ℕ
+headLength Mark.Controls = 2
+headLength Mark.Matrix = 10
+headLength Mark.Weights = 2
+headLength Mark.Update = 2
+headLength Mark.Solve = 2
 
 -- how many bytes a record has that starts with these bytes; 0 where it would be larger than a problem file allows
-unfoldable pub sizeOf : Came → List ℕ → Mark → ℕ
-sizeOf c b Mark.Controls = 110
-sizeOf c b Mark.Matrix = cond (sizesOk (u32At b 2) (u32At b 6)) (matrixLength (u32At b 2) (u32At b 6)) 0
-sizeOf c b Mark.Weights = cond (leb (c .entries) 320) (valuesLength (c .entries)) 0
-sizeOf c b Mark.Update = cond (leb (c .entries) 320) (valuesLength (c .entries)) 0
-sizeOf c b Mark.Solve = cond (leb (c .rows) 64) (solveLength (c .rows)) 0
+unfoldable pub recordSize : Came → List ℕ → Mark → ℕ
+recordSize c b Mark.Controls = 110
+recordSize c b Mark.Matrix = cond (sizesOk (u32At b 2) (u32At b 6)) (matrixLength (u32At b 2) (u32At b 6)) 0
+recordSize c b Mark.Weights = cond (leb (c .entries) 320) (valuesLength (c .entries)) 0
+recordSize c b Mark.Update = cond (leb (c .entries) 320) (valuesLength (c .entries)) 0
+recordSize c b Mark.Solve = cond (leb (c .rows) 64) (solveLength (c .rows)) 0
 
 -- so many bytes in all: what is missing is read, then the record is whole
 unfoldable pub untilOf : Mark → ℕ → ℕ → Next
@@ -74,8 +74,8 @@ untilOf m size had = cond (ltb had size) (Next.Read (size - had)) (Next.Whole m)
 -- a record of that mark: what tells its size is read, the size is judged, and the rest is read
 unfoldable pub sizedOf : Came → List ℕ → Mark → Next
 sizedOf c b m =
-    cond (ltb (length b) (headOf m)) (Next.Read (headOf m - length b))
-    (cond (eqb (sizeOf c b m) 0) (Next.Refused badRecord) (untilOf m (sizeOf c b m) (length b)))
+    cond (ltb (length b) (headLength m)) (Next.Read (headLength m - length b))
+    (cond (eqb (recordSize c b m) 0) (Next.Refused badRecord) (untilOf m (recordSize c b m) (length b)))
 
 -- a mark is judged when it is read
 abbrev pub judgedOf : Came → List ℕ → Named → Next
@@ -83,8 +83,8 @@ judgedOf c b (Named.Known m) = cond (allowed c m) (sizedOf c b m) (Next.Refused 
 judgedOf c b Named.Unknown = Next.Refused badRecord
 
 -- what is to be done next, with so many bytes of a record read: the mark first, then the rest, then the record is whole; or it is refused
-unfoldable pub nextOf : Came → List ℕ → Next
-nextOf c b = cond (ltb (length b) 2) (Next.Read (2 - length b)) (judgedOf c b (namedOf b))
+unfoldable pub whatNext : Came → List ℕ → Next
+whatNext c b = cond (ltb (length b) 2) (Next.Read (2 - length b)) (judgedOf c b (namedOf b))
 
 -- ---- the end of the input
 

@@ -5,7 +5,7 @@ ghost use mathlib.Core.Bool.{cond};
 ghost use lib.Dec.{leb};
 ghost use Rattle.record_format.specs.Bytes.{u32At};
 ghost use Rattle.record_format.specs.Format.{sizesOk, matrixLength, valuesLength, solveLength};
-ghost use Rattle.record_order.specs.Order.{nothing, allowed, afterOf, headOf, sizeOf, namedOf, untilOf, sizedOf, judgedOf, nextOf, endingOf};
+ghost use Rattle.record_order.specs.Order.{nothing, allowed, afterOf, headLength, recordSize, namedOf, untilOf, sizedOf, judgedOf, whatNext, endingOf};
 use record_format::Mark;
 use record_format::bytes::u32_at;
 use record_format::is_marked;
@@ -139,7 +139,7 @@ fn mark_of(b: &[u8]) -> Named
 
 // How many bytes of a record tell its size.
 fn head(mark: Mark) -> usize
-    ensures { λ r. ⌜ r ≡ headOf mark ⌝ }
+    ensures { λ r. ⌜ r ≡ headLength mark ⌝ }
 {
     match mark {
         Mark::Controls => 2,
@@ -179,7 +179,7 @@ fn solve_size(rows: u64) -> u64
 
 // The size of a record that starts with these bytes; 0 where it would be too large.
 fn size(c: Came, b: &[u8], mark: Mark) -> u64
-    ensures { λ r. ⌜ r ≡ sizeOf c (now (b .entry)) mark ⌝ }
+    ensures { λ r. ⌜ r ≡ recordSize c (now (b .entry)) mark ⌝ }
 {
     match mark {
         Mark::Controls => 110,
@@ -219,7 +219,7 @@ fn sized(c: Came, b: &[u8], mark: Mark) -> Next
 
 // What is to be done next, with these bytes of a record read. A mark is judged when it is there.
 pub fn judge(c: Came, b: &[u8]) -> Next
-    ensures { λ r. ⌜ r ≡ nextOf c (now (b .entry)) ⌝ }
+    ensures { λ r. ⌜ r ≡ whatNext c (now (b .entry)) ⌝ }
 {
     if b.len() < 2 {
         return Next::Read(2 - b.len());

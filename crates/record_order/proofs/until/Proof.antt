@@ -1,25 +1,17 @@
--- Assumes nothing.
+-- `until` meets its contract. Assumes nothing.
 use borrow.Author.Tests.{lt-ltb, le-ltb}
 use Rattle.record_order.specs.Order.{untilOf}
 use borrow.Author.Needs.{needs}
 use Rattle.record_order.proofs.until.Statement.{statement}
 use Rattle.record_order.proofs.until.Tie as tie
-use Rattle.record_order.proofs.until.Reads as reads
-use Rattle.record_order.proofs.until.Lts as lts
 
--- src/lib.rt:198:20
-sub-t6 : tie.Need-sub-t6
-sub-t6 c = search needs
-
--- src/lib.rt:194:1
 returns : tie.Need-returns
 unfolding untilOf
 returns c = rw (lt-ltb _ _ (c .if1 .taken))
 
--- src/lib.rt:194:1
 returns-2 : tie.Need-returns-2
 unfolding untilOf
 returns-2 c = rw (le-ltb _ _ (c .if1 .left))
 
 pub until-spec : {M : Type 1} → statement M
-until-spec = tie.close (tie.spec sub-t6 returns returns-2)
+until-spec = tie.close (tie.spec (λ c. search needs) returns returns-2)

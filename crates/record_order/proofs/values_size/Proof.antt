@@ -1,26 +1,14 @@
--- Assumes nothing.
+-- `values_size` meets its contract. Assumes nothing.
 use borrow.Author.Tests.{le-leb, lt-leb}
 use borrow.Author.Needs.{needs}
 use Rattle.record_order.proofs.values_size.Statement.{statement}
 use Rattle.record_order.proofs.values_size.Tie as tie
-use Rattle.record_order.proofs.values_size.Reads as reads
-use Rattle.record_order.proofs.values_size.Lts as lts
 
--- src/lib.rt:170:29
-mul-result : tie.Need-mul-result
-mul-result c = search needs
-
--- src/lib.rt:170:25
-add-result : tie.Need-add-result
-add-result c = search needs
-
--- src/lib.rt:167:1
 returns : tie.Need-returns
 returns c = rw (le-leb _ 320 (c .if1 .taken))
 
--- src/lib.rt:167:1
 returns-2 : tie.Need-returns-2
 returns-2 c = rw (lt-leb _ 320 (c .if1 .left))
 
 pub values-size-spec : {M : Type 1} → statement M
-values-size-spec = tie.close (tie.spec mul-result add-result returns returns-2)
+values-size-spec = tie.close (tie.spec (λ c. search needs) (λ c. search needs) returns returns-2)
