@@ -1,0 +1,2 @@
+// Matrix Market text: its lines and fields.
+pub mod lines;
