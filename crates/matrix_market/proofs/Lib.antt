@@ -1,3 +1,4 @@
 pub mod Pieces
 pub mod Fields
 pub mod Data
+pub mod Entry

@@ -1,2 +1,3 @@
-// Matrix Market text: its lines and fields.
+// Matrix Market text: its lines and fields, and its entries.
+pub mod entries;
 pub mod lines;
