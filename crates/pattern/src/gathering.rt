@@ -1,27 +1,41 @@
 // The columns of each coarse row (`galerkin` of aggregation.rs), not yet in order: `gather` walks over the entries of each
 // aggregate's rows and puts each column that is new in a coarse row into the next slot.
 ghost use Prim.Native.Nat.{_+_};
-ghost use Rattle.pattern.specs.Steps.{Linked, GatheringAt, Gathered, MeetOk, EntriesOk, RowOk};
+ghost use lib.ListN.{length};
+ghost use Rattle.pattern.specs.Steps.{Linked, GatheringAt, Gathered, SlotOk, Slotted, MeetOk, EntriesOk, RowOk};
 use crate::pattern::Coarsening;
 use store::fill_words;
 use store::index_at;
 use store::wide;
 
-// Entry e, of a row of aggregate a: the aggregate of its column, if coarse row a has not met it, goes into slot r.
+// b in slot r, if it is one of the m slots.
+fn fill_slot(w: &mut [u32], slots: usize, m: usize, r: usize, b: usize)
+    requires { ⌜ SlotOk (length (now w)) slots m b ⌝ }
+    ensures { λ _. ⌜ Slotted (now (w .entry)) (now (w .exit)) slots m r b ⌝ }
+{
+    if r < m {
+        w[slots + r] = b as u32;
+        return;
+    }
+}
+
+// Entry e, of a row of aggregate a: the aggregate of its column, if coarse row a has not met it, goes into slot r. It is written there in
+// any case, since whether it is new is hard to foretell, and then no branch depends on it: what stands behind the slots that are
+// counted says nothing.
 fn meet(w: &mut [u32], c: Coarsening, a: usize, e: usize, r: usize) -> usize
     requires { ⌜ MeetOk (now w) c a e r ⌝ }
     ensures { λ z. ⌜ Gathered (now (w .entry)) (now (w .exit)) c a (e + 1) z ⌝ }
 {
-    let positions = c.positions;
     let marks = c.scratch + c.count + c.rows;
     let j = index_at(w, c.columns, e, c.rows);
     let b = index_at(w, c.map, j, c.count);
     let stamp = (a + 1) as u32;
-    if w[marks + b] == stamp {
+    let last = w[marks + b];
+    w[marks + b] = stamp;
+    fill_slot(w, c.positions, c.entries, r, b);
+    if last == stamp {
         return r;
     }
-    w[marks + b] = stamp;
-    w[positions + r] = b as u32;
     r + 1
 }
 

@@ -1,24 +1,24 @@
 -- The first walk: each coarse row's columns, as its entries are met, one row after the other.
 -- Assumes nothing.
 use mathlib.Core.Path.{_≡_, refl, sym, ap, _∙_, subst, fun-ext}
-use mathlib.Core.Bool.{Bool, true, false, _&&_, _||_, or-true, or-false}
+use mathlib.Core.Bool.{Bool, true, false, cond, _&&_, _||_, or-true, or-false}
 use mathlib.Core.List.{List}
 use mathlib.Core.Logic.{⊎-elim}
 use Prim.Native.Nat.{ℕ, zero, suc, _+_, _≤_, _<_}
 use native.Mathlib.Numerals.{add-one}
 use native.Mathlib.Nat.{add-assoc, add-zero}
 use native.Mathlib.Omega.{arith}
-use lib.Dec.{eqb, leb}
+use lib.Dec.{eqb, leb, ltb}
 use lib.ListN.{length, set, length-set}
-use lib.Seq.{getD-set-same, getD-set-other}
-use borrow.Author.Tests.{eq-eqb, ne-eqb, le-leb, lt-leb}
+use lib.Seq.{getD-set-same, getD-set-other, set-getD}
+use borrow.Author.Tests.{eq-eqb, ne-eqb, le-leb, lt-leb, lt-ltb, ltb-true}
 use Rattle.store.specs.Region.{idx, Wrote, Kept}
 use Rattle.store.specs.Vector.{filled}
 use Rattle.store.proofs.store.Region.{le-or-lt, getD-splice-in, getD-splice-below, kept-wrote, kept-on, kept-self, kept-get}
 use Rattle.store.proofs.store.Vector.{getD-tab}
 use Rattle.pattern.specs.declared.pattern.Coarsening.{Coarsening}
 use Rattle.pattern.specs.Pattern.{some, Pattern, columnOf, rowOf, joins}
-use Rattle.pattern.specs.Steps.{joinsBy, start, marks, Listed, joinsTo, Gathering, GatheringAt, Gathered, MeetOk, EntriesOk, RowOk, Linked}
+use Rattle.pattern.specs.Steps.{joinsBy, start, marks, Listed, joinsTo, Gathering, GatheringAt, Gathered, SlotOk, Slotted, MeetOk, EntriesOk, RowOk, Linked}
 use Rattle.pattern.specs.Coarsening.{fineAt, mapAt}
 use Rattle.pattern.proofs.pattern.Number.{bool?, not-both, same?, some-at, some-which, some-same, some-skip, some-none, many-none, many-sub, many-more}
 use Rattle.pattern.proofs.pattern.Place.{start-zero, start-step, start-mono}
@@ -73,6 +73,27 @@ module _ {w : List ℕ} {c : Coarsening} {p : Pattern} {map : List ℕ} {a r b :
   -- A column that was met before changes nothing.
   gather-old : t b ≡ true → Gathering w c p map a (λ d. t d || eqb b d) r
   gather-old f = subst (λ (u : ℕ → Bool). Gathering w c p map a u r) (sym (more t b f)) s
+
+  -- A word in the first slot that is not counted changes nothing.
+  gather-slot : b < c .count → r < c .entries → Gathering (set w (c .positions + r) b) c p map a t r
+  gather-slot h room =
+      let l = s .standing .layout in
+      let lo : start c p map a ≤ r = omega (arith, s .many) in
+      record {
+        standing = standing-on (s .standing) (kept-set w (c .positions + r) b (omega arith));
+        chained = chained-on (s .chained) (λ k i j. other k (λ q. omega arith));
+        inside = s .inside;
+        starts = λ k i. let m = s .inside in other (c .«coarse_offsets» + k) (λ q. omega arith) ∙ s .starts k i;
+        listed = λ k i. let m = start-mono (c .count) (joins p map) (suc k) a i in
+            listed-on (s .listed k i) (λ u j. other (c .positions + u) (λ q. omega arith));
+        here = listed-on (s .here) (λ u j. other (c .positions + u) (λ q. omega arith));
+        many = s .many;
+        stamps = λ d i. rw (other (marks c + d) (λ q. omega arith)) (s .stamps d i);
+        older = λ d i. rw (other (marks c + d) (λ q. omega arith)) (s .older d i);
+      }
+    where
+      other : (k : ℕ) → (k ≡ c .positions + r → ⊥) → idx (set w (c .positions + r) b) k ≡ idx w k
+      other k n = getD-set-other w (c .positions + r) k b 0 n
 
   -- A column that is new is put where the next one stands.
   gather-new : b < c .count → t b ≡ false → r < c .entries
@@ -194,26 +215,47 @@ module _ {w : List ℕ} {c : Coarsening} {a e r : ℕ} (ok : MeetOk w c a e r) w
           (λ d q. joined-sub (fineAt w c) (mapAt w c) a (e + 1) d (omega arith)
           (sym (ap (λ (t : ℕ → Bool). t d) after) ∙ q))
 
-      -- An aggregate that was met in this row.
-      pub meet-old : idx w (marks c + b) ≡ a + 1 → Gathered w w c a (e + 1) r
-      meet-old old =
+      -- Its mark is written, and then a slot.
+      pub meet-slot : SlotOk (length (set w (marks c + b) (a + 1))) (c .positions) (c .entries) b
+      meet-slot =
+          let l = ok .state .standing .layout in
+          let n = small in
+          record { room = rw (length-set w (marks c + b) (a + 1)) (omega arith); small = omega arith }
+
+      -- An aggregate that was met in this row: its mark was that already.
+      pub meet-old : {z : List ℕ} → Slotted (set w (marks c + b) (a + 1)) z (c .positions) (c .entries) r b
+          → idx w (marks c + b) ≡ a + 1 → Gathered w z c a (e + 1) r
+      meet-old {z} put old =
           let s = ok .state in
-          record {
-            state = subst (λ (t : ℕ → Bool). Gathering w c (fineAt w c) (mapAt w c) a t r) after
-                (gather-old s (sym (s .stamps b small) ∙ eq-eqb (idx w (marks c + b)) (a + 1) old));
-            kept = kept-self;
-          }
+          let l = s .standing .layout in
+          let y : set w (marks c + b) (a + 1) ≡ w = ap (set w (marks c + b)) (sym old) ∙ set-getD w (marks c + b) 0 in
+          let is : z ≡ cond (ltb r (c .entries)) (set w (c .positions + r) b) w = rw y at (put .is) in
+          let known : Gathering w c (fineAt w c) (mapAt w c) a (joinsTo (fineAt w c) (mapAt w c) (e + 1) a) r =
+          subst (λ (t : ℕ → Bool). Gathering w c (fineAt w c) (mapAt w c) a t r) after
+          (gather-old s (sym (s .stamps b small) ∙ eq-eqb (idx w (marks c + b)) (a + 1) old)) in
+          ⊎-elim
+          (λ (t : ltb r (c .entries) ≡ true).
+          let k : Kept (c .positions) w (set w (c .positions + r) b) = kept-set w (c .positions + r) b (omega arith) in
+          let to : z ≡ set w (c .positions + r) b = rw t at is in
+          rw to (record {
+            state = settle (λ p map. Gathering (set w (c .positions + r) b) c p map a (joinsTo p map (e + 1) a) r) l k
+                (gather-slot known small (ltb-true r (c .entries) t));
+            kept = k;
+          }))
+          (λ (f : ltb r (c .entries) ≡ false). let to : z ≡ w = rw f at is in rw to (record { state = known; kept = kept-self }))
+          (bool? (ltb r (c .entries)))
 
       -- An aggregate that is new in this row.
-      pub meet-new : (idx w (marks c + b) ≡ a + 1 → ⊥) → Gathered w
-          (set (set w (marks c + b) (a + 1)) (c .positions + r) b) c a (e + 1) (r + 1)
-      meet-new new =
+      pub meet-new : {z : List ℕ} → Slotted (set w (marks c + b) (a + 1)) z (c .positions) (c .entries) r b
+          → (idx w (marks c + b) ≡ a + 1 → ⊥) → Gathered w z c a (e + 1) (r + 1)
+      meet-new {z} put new =
           let s = ok .state in
           let l = s .standing .layout in
           let k : Kept (c .positions) w (set (set w (marks c + b) (a + 1)) (c .positions + r) b) =
           kept-on (kept-set w (marks c + b) (a + 1) (omega arith))
           (kept-set (set w (marks c + b) (a + 1)) (c .positions + r) b (omega arith)) in
-          record {
+          let to : z ≡ set (set w (marks c + b) (a + 1)) (c .positions + r) b = rw (lt-ltb r (c .entries) (meet-room new)) at (put .is) in
+          rw to (record {
             state = settle (λ p map. Gathering (set (set w (marks c + b) (a + 1)) (c .positions + r) b) c p map a
                 (joinsTo p map (e + 1) a) (r + 1)) l k
                 (subst (λ (t : ℕ → Bool). Gathering (set (set w (marks c + b) (a + 1)) (c .positions + r) b) c
@@ -221,7 +263,7 @@ module _ {w : List ℕ} {c : Coarsening} {a e r : ℕ} (ok : MeetOk w c a e r) w
                 (gather-new s small (sym (s .stamps b small) ∙ ne-eqb (idx w (marks c + b)) (a + 1) new)
                 (meet-room new)));
             kept = k;
-          }
+          })
 
 -- ---- the entries of a fine row
 

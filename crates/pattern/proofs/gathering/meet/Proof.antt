@@ -1,6 +1,7 @@
 -- `gathering::meet` meets its contract: the aggregate is new in this row or not.
 -- Assumes nothing.
-use Rattle.pattern.proofs.pattern.Gathering.{meet-column, meet-aggregate, meet-room, meet-old, meet-new}
+use mathlib.Core.Path.{_∙_}
+use Rattle.pattern.proofs.pattern.Gathering.{meet-column, meet-aggregate, meet-room, meet-slot, meet-old, meet-new}
 use lib.ListN.{length-set}
 use native.Mathlib.Omega.{arith}
 use borrow.Author.Needs.{needs}
@@ -11,73 +12,45 @@ index-at-requires : tie.Need-index-at-requires
 index-at-requires c κs = meet-column (c .before .before .before .before .pre)
 
 index-at-requires-2 : tie.Need-index-at-requires-2
-index-at-requires-2 c κs = meet-aggregate (c .before .before .before .before .before .before .pre)
-    (c .before .index-at .ensures .0)
+index-at-requires-2 c κs = meet-aggregate (c .before .before .before .before .before .before .pre) (c .before .index-at .ensures .0)
+
+fill-slot-requires : tie.Need-fill-slot-requires
+fill-slot-requires c κs = meet-slot (c .before .before .before .before .before .before .before .before .before .pre) (c .before .before .before .before .index-at .ensures .0) (c .before .before .index-at2 .ensures .0)
+
+same-length : tie.Need-same-length
+same-length c = c .before .before .before .fill-slot .ensures .size ∙ simp length-set
 
 returns : tie.Need-returns
-returns c = meet-old (c .before .before .before .before .before .before .before .before .before .pre)
-    (c .before .before .before .before .index-at .ensures .0) (c .before .before .index-at2 .ensures .0) (c .if1 .taken)
-
-add-w-2 : tie.Need-add-w-2
-add-w-2 c = omega (
-  arith,
-  meet-room (c .before .before .before .before .before .before .before .before .before .pre)
-      (c .before .before .before .before .index-at .ensures .0) (c .before .before .index-at2 .ensures .0)
-      (c .if1 .left),
-)
-
-mul-w-2 : tie.Need-mul-w-2
-mul-w-2 c = omega (
-  arith,
-  meet-room (c .before .before .before .before .before .before .before .before .before .pre)
-      (c .before .before .before .before .index-at .ensures .0) (c .before .before .index-at2 .ensures .0)
-      (c .if1 .left),
-)
-
-slice-write-w-2 : tie.Need-slice-write-w-2
-slice-write-w-2 c = simp length-set (omega (
-  arith,
-  meet-room
-      (c .before .before .before .before .before .before .before .before .before .pre)
-      (c .before .before .before .before .index-at .ensures .0) (c .before .before .index-at2 .ensures .0)
-      (c .if1 .left),
-  c .before .before .before .before .before .before .before .before .before .pre .state .standing .layout,
-))
+returns c = meet-old (c .before .before .before .before .before .before .before .before .before .before .before .before .before .pre) (c .before .before .before .before .before .before .before .before .index-at .ensures .0) (c .before .before .before .before .before .before .index-at2 .ensures .0) (c .before .before .before .fill-slot .ensures) (c .if1 .taken)
 
 add-result : tie.Need-add-result
-add-result c = omega (
-  arith,
-  meet-room (c .before .before .before .before .before .before .before .before .before .pre)
-      (c .before .before .before .before .index-at .ensures .0) (c .before .before .index-at2 .ensures .0)
-      (c .if1 .left),
-)
+add-result c = omega (arith, meet-room (c .before .before .before .before .before .before .before .before .before .before .before .before .before .pre) (c .before .before .before .before .before .before .before .before .index-at .ensures .0) (c .before .before .before .before .before .before .index-at2 .ensures .0) (c .if1 .left))
+
+same-length-2 : tie.Need-same-length-2
+same-length-2 c = c .before .before .before .fill-slot .ensures .size ∙ simp length-set
 
 returns-2 : tie.Need-returns-2
-returns-2 c = meet-new (c .before .before .before .before .before .before .before .before .before .pre)
-    (c .before .before .before .before .index-at .ensures .0) (c .before .before .index-at2 .ensures .0) (c .if1 .left)
+returns-2 c = meet-new (c .before .before .before .before .before .before .before .before .before .before .before .before .before .pre) (c .before .before .before .before .before .before .before .before .index-at .ensures .0) (c .before .before .before .before .before .before .index-at2 .ensures .0) (c .before .before .before .fill-slot .ensures) (c .if1 .left)
 
 pub meet-spec : {M : Type 1} → statement M
 meet-spec =
     tie.close
     (tie.spec
-    (λ c. omega arith)
-    (λ c. omega arith)
+    (λ c. search needs)
+    (λ c. search needs)
     index-at-requires
     index-at-requires-2
-    (λ c. omega arith)
-    (λ c. omega arith)
-    (λ c. omega arith)
-    (λ c. omega arith)
-    (λ c. omega arith)
     (λ c. search needs)
+    (λ c. search needs)
+    (λ c. search needs)
+    (λ c. search needs)
+    (λ c. search needs)
+    (λ c. search needs)
+    (λ c. search needs)
+    (λ c. search needs)
+    fill-slot-requires
+    same-length
     returns
-    (λ c. omega arith)
-    (λ c. omega arith)
-    (λ c. omega arith)
-    (λ c. omega arith)
-    add-w-2
-    mul-w-2
-    slice-write-w-2
     add-result
-    (λ c. search needs)
+    same-length-2
     returns-2)
