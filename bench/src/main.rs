@@ -11,6 +11,7 @@ mod level;
 mod load;
 mod measure;
 mod pairs;
+mod shapes;
 mod solve;
 mod stack;
 mod sweeps;
@@ -213,21 +214,28 @@ const NARROW_ROWS: &[Row] = &[
     },
 ];
 
-/// What the words of the command ask for: the rounds, the rows whose names start so, and the sides of the grids; or the stack.
+/// What the words of the command ask for: the rounds, the rows whose names start so, and the sides of the squares, those alone where one is named; or
+/// the stack, or the time by the row.
 struct Asked {
     rounds: usize,
     only: String,
     sides: Vec<usize>,
+    squares_alone: bool,
     stack: bool,
+    scaling: bool,
 }
 
 fn main() -> ExitCode {
     match asked() {
         Ok(asked) if asked.stack => status(stack::run()),
+        Ok(asked) if asked.scaling => {
+            shapes::scaling(asked.rounds);
+            status(true)
+        }
         Ok(asked) => run(&asked),
         Err(sentence) => {
             eprintln!(
-                "bench: {sentence}\nusage: bench [--rounds NUMBER] [--only NAME] [--side NUMBER] [--stack]"
+                "bench: {sentence}\nusage: bench [--rounds NUMBER] [--only NAME] [--side NUMBER] [--stack] [--scaling]"
             );
             ExitCode::from(2)
         }
@@ -239,7 +247,9 @@ fn asked() -> Result<Asked, String> {
         rounds: ROUNDS,
         only: String::new(),
         sides: SIDES.to_vec(),
+        squares_alone: false,
         stack: false,
+        scaling: false,
     };
     let mut words = std::env::args().skip(1);
     while let Some(word) = words.next() {
@@ -247,9 +257,16 @@ fn asked() -> Result<Asked, String> {
             asked.stack = true;
             continue;
         }
+        if word == "--scaling" {
+            asked.scaling = true;
+            continue;
+        }
         match (word.as_str(), words.next()) {
             ("--rounds", Some(word)) => asked.rounds = number(&word)?,
-            ("--side", Some(word)) => asked.sides = vec![number(&word)?],
+            ("--side", Some(word)) => {
+                asked.sides = vec![number(&word)?];
+                asked.squares_alone = true;
+            }
             ("--only", Some(name)) => asked.only = name,
             _ => return Err(format!("{word:?} is not understood")),
         }
@@ -260,8 +277,9 @@ fn asked() -> Result<Asked, String> {
             asked.rounds
         ));
     }
-    let mut rows = ROWS.iter().chain(NARROW_ROWS);
-    if !rows.any(|row| row.name.starts_with(&asked.only)) {
+    let names = ROWS.iter().chain(NARROW_ROWS).map(|row| row.name);
+    let mut names = names.chain(shapes::ROWS.iter().map(|row| row.name));
+    if !names.any(|name| name.starts_with(&asked.only)) {
         return Err(format!("no row starts with {:?}", asked.only));
     }
     if !asked.sides.iter().all(|side| SIDES.contains(side)) {
@@ -293,9 +311,17 @@ fn run(asked: &Asked) -> ExitCode {
         let rows = rows.iter().filter(|row| row.sides.contains(&side));
         for row in rows.filter(|row| row.name.starts_with(&asked.only)) {
             let medians = measure((row.kernel)(&grid).as_mut(), asked.rounds);
-            print(row, side, extents, &medians);
+            print(
+                row.name,
+                &format!("{}x{}", extents[0], extents[1]),
+                &medians,
+                row.wanted(side),
+            );
             missed |= row.wanted(side).is_some_and(|most| medians.ratio() > most);
         }
+    }
+    if !asked.squares_alone {
+        shapes::run(asked.rounds, &asked.only);
     }
     status(!missed)
 }
@@ -308,14 +334,10 @@ fn status(good: bool) -> ExitCode {
     }
 }
 
-fn print(row: &Row, side: usize, [wide, high]: [usize; 2], medians: &Medians) {
-    let wanted = row
-        .wanted(side)
-        .map_or(String::new(), |most| format!("{most:.3}"));
+fn print(name: &str, grid: &str, medians: &Medians, wanted: Option<f64>) {
+    let wanted = wanted.map_or(String::new(), |most| format!("{most:.3}"));
     println!(
-        "{:<28} {:>9} {:>11.2} {:>11.2} {:>10.3} {wanted:>7}",
-        row.name,
-        format!("{wide}x{high}"),
+        "{name:<28} {grid:>9} {:>11.2} {:>11.2} {:>10.3} {wanted:>7}",
         medians.rust,
         medians.ours,
         medians.ratio()

@@ -60,6 +60,28 @@ impl Built {
     }
 }
 
+impl Built {
+    fn refresh_theirs(&mut self) {
+        let Built { matrix, theirs, .. } = self;
+        theirs
+            .update_values(matrix)
+            .expect("a grid has a hierarchy");
+    }
+
+    fn refresh_own(&mut self) {
+        let Built {
+            matrix,
+            offsets,
+            columns,
+            handle,
+            stores,
+            ..
+        } = self;
+        lent::update_values(handle, offsets, columns, matrix.values(), stores)
+            .expect("a grid has a hierarchy");
+    }
+}
+
 /// Down to 1e-8 of the first residual.
 const ASKED: LinearSolverOptions = LinearSolverOptions {
     absolute_tolerance: 0.0,
@@ -153,6 +175,11 @@ impl Kernel for Solve {
     }
 }
 
+/// How many iterations a solve makes, on either side.
+pub fn iterations(grid: &Grid) -> u64 {
+    Solve(Built::new(grid, cholesky())).own()
+}
+
 /// The index check beside a whole solve of the Rust: the share that it takes.
 struct Check(Solve);
 
@@ -183,22 +210,31 @@ impl Kernel for Update {
     fn clear(&mut self) {}
 
     fn rust(&mut self) {
-        let Built { matrix, theirs, .. } = &mut self.0;
-        theirs
-            .update_values(matrix)
-            .expect("a grid has a hierarchy");
+        self.0.refresh_theirs();
     }
 
     fn ours(&mut self) {
-        let Built {
-            matrix,
-            offsets,
-            columns,
-            handle,
-            stores,
-            ..
-        } = &mut self.0;
-        lent::update_values(handle, offsets, columns, matrix.values(), stores)
-            .expect("a grid has a hierarchy");
+        self.0.refresh_own();
+    }
+}
+
+/// An update, and then a solve: what a step of a simulation costs whose pattern stays.
+struct Step(Solve);
+
+pub fn refresh_and_solve(grid: &Grid) -> Box<dyn Kernel> {
+    Box::new(Step(Solve(Built::new(grid, cholesky()))))
+}
+
+impl Kernel for Step {
+    fn clear(&mut self) {}
+
+    fn rust(&mut self) {
+        self.0.0.refresh_theirs();
+        self.0.rust();
+    }
+
+    fn ours(&mut self) {
+        self.0.0.refresh_own();
+        self.0.ours();
     }
 }
