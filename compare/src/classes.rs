@@ -71,6 +71,13 @@ const KINDS: &Names = &[
     ("options", "validate validate/cap"),
     ("oracle", "worked-examples"),
     (
+        "press",
+        "program hand examples model-says-what-was-said examples-say-what-stands-beside-them as-drawn in-pieces \
+        hand/smallpress hand/swapped hand/weights-after-solve hand/empty-input hand/one-stray-byte hand/bad-byte-in-short-controls \
+        hand/64-rows hand/65-rows hand/64-rows-320-entries hand/320-entries hand/321-entries hand/nan-value hand/nan-start \
+        hand/limit-0 hand/limit hand/refused-update-then-solve hand/bad-build hand/cap-1 hand/cap-65535 hand/star-cap-2 hand/no-rows-solve",
+    ),
+    (
         "sequence",
         "with-weights without-weights shaken-mirrors/with-weights shaken-mirrors/without-weights weeks large/AbsoluteL2/plain large/AbsoluteL2/gcr large/NormalizedL1/plain \
         large/NormalizedL1/gcr hand-13-on-level-1 hand-16-on-level-1 hand-17 hand-17-on-level-1 hand-18 hand-27 hand-one-level \
@@ -180,6 +187,20 @@ const DRAWN: &Names = &[
         "one floor finite refused-22 blocks-would-show",
     ),
     ("options/validate", "passes refuses"),
+    (
+        "press/build",
+        "levels-01 levels-02 levels-03 refused-06 refused-09 refused-10 refused-12 refused-14",
+    ),
+    (
+        "press/refused-32",
+        "misplaced-mark short-record unknown-mark",
+    ),
+    (
+        "press/solve",
+        "converged converged-at-once limit refused-21",
+    ),
+    ("press/update", "accepted refused-10 refused-12"),
+    ("press/end", "accepted"),
     ("sequence/fresh", "build-accepted"),
     (
         "sequence/solve",
@@ -224,6 +245,19 @@ const BY_HAND: &Names = &[
     ("build/accepted", "levels-08"),
     ("build", "refused-13/below-finest refused-17/below-finest"),
     ("capped/pairs", "alone weaker-taken second-of-equals-taken"),
+    (
+        "press/build",
+        "a-cap-counts levels-01 levels-02 refused-02 refused-03 refused-05 refused-06 refused-09 refused-10 refused-11 refused-12",
+    ),
+    (
+        "press/refused-32",
+        "byte-out-of-range misplaced-mark missing-record repeated-mark short-record stray-byte too-large unknown-mark",
+    ),
+    (
+        "press/solve",
+        "converged converged-at-once limit refused-21",
+    ),
+    ("press/update", "accepted refused-10 refused-12 refused-15"),
     ("sequence/solve", "refused-27"),
     (
         "sequence/sweeps",
@@ -237,6 +271,19 @@ const BY_HAND: &Names = &[
 
 /// Those that are so rare that cases which are drawn meet them in the long form alone.
 const LONG: &Names = &[
+    (
+        "press/build",
+        "a-cap-counts levels-04 levels-05 refused-02 refused-03 refused-05 refused-11 refused-13 refused-15 refused-16 refused-17 refused-18",
+    ),
+    (
+        "press/refused-32",
+        "byte-out-of-range missing-record repeated-mark stray-byte too-large",
+    ),
+    (
+        "press/solve",
+        "refused-22 refused-23 refused-24 refused-25 refused-26 refused-28 refused-29 refused-30",
+    ),
+    ("press/update", "refused-13 refused-15 refused-16"),
     ("damage/update", "refused-18"),
     ("sequence/fresh", "build-refused"),
     ("sequence/update", "refused-16/below-finest refused-18"),

@@ -18,6 +18,7 @@ mod matrix;
 mod measure;
 mod numbers;
 mod options;
+mod press;
 mod report;
 mod sequence;
 mod smoother;
@@ -74,6 +75,7 @@ const COMPARISONS: &[(&str, Comparison)] = &[
     ("unscaled", sequence::compare_unscaled),
     ("capped", capped::compare),
     ("empty", sequence::empty::compare),
+    ("press", press::compare),
 ];
 
 struct Arguments {
@@ -85,6 +87,8 @@ struct Arguments {
     list: Option<u64>,
     /// The same of sequences.
     sequences: Option<u64>,
+    /// Nothing is compared, but what the program `press` must print for standard input is printed.
+    press: bool,
 }
 
 fn main() -> ExitCode {
@@ -107,10 +111,17 @@ fn main() -> ExitCode {
             print!("{}", sequence::list::write(&mut Random::new(seed), each));
             ExitCode::SUCCESS
         }
+        Ok(Arguments { press: true, .. }) => match press::printed() {
+            Some(text) => {
+                print!("{text}");
+                ExitCode::SUCCESS
+            }
+            None => ExitCode::FAILURE,
+        },
         Ok(arguments) => run(&arguments),
         Err(sentence) => {
             eprintln!(
-                "compare: {sentence}\nusage: compare [--long] [--seed NUMBER] [--only NAME] [--list NUMBER] [--list-sequences NUMBER]"
+                "compare: {sentence}\nusage: compare [--long] [--seed NUMBER] [--only NAME] [--list NUMBER] [--list-sequences NUMBER] [--press]"
             );
             ExitCode::from(2)
         }
@@ -124,6 +135,7 @@ fn arguments() -> Result<Arguments, String> {
         only: None,
         list: None,
         sequences: None,
+        press: false,
     };
     let mut words = std::env::args().skip(1);
     while let Some(word) = words.next() {
@@ -134,6 +146,7 @@ fn arguments() -> Result<Arguments, String> {
             "--list-sequences" => {
                 arguments.sequences = Some(number(&words.next().unwrap_or_default())?);
             }
+            "--press" => arguments.press = true,
             "--only" => arguments.only = Some(known(words.next().unwrap_or_default())?),
             _ => return Err(format!("{word} is not understood")),
         }

@@ -4,7 +4,7 @@
 
 pub mod damage;
 pub mod empty;
-mod expected;
+pub mod expected;
 mod hand;
 pub mod list;
 
@@ -195,7 +195,7 @@ pub fn draw_calls(random: &mut Random, problem: &Problem) -> Vec<Call> {
 }
 
 /// The pattern of the build, mostly, with new values.
-fn draw_values(random: &mut Random, problem: &Problem) -> Arrays {
+pub fn draw_values(random: &mut Random, problem: &Problem) -> Arrays {
     let mut arrays = spoiled_values(random, problem);
     // An update is not told the rows.
     arrays.rows = problem.arrays.rows;
@@ -253,7 +253,7 @@ fn mirror(arrays: &mut Arrays) {
     }
 }
 
-fn draw_solve(random: &mut Random, rows: usize) -> Call {
+pub fn draw_solve(random: &mut Random, rows: usize) -> Call {
     let scale = random.pick(&[1.0, 1.0, 1.0, 1.0, 1e-12, 1e-160, 1e-310, 1e150, 1e300]);
     let vector = |random: &mut Random, zeros: u64| -> Vec<f64> {
         let zero = random.below(zeros) == 0;
@@ -371,7 +371,7 @@ fn all_sweeps(statistics: &[MultigridLevelStatistics]) -> Vec<u64> {
 }
 
 /// The Rust's hierarchy of the problem with those values.
-fn theirs(problem: &Problem, arrays: &Arrays) -> Option<AlgebraicMultigrid> {
+pub fn theirs(problem: &Problem, arrays: &Arrays) -> Option<AlgebraicMultigrid> {
     let matrix = arrays.container().ok()?;
     let built = during_build(|| match &problem.weights {
         Some(weights) => {
