@@ -344,7 +344,7 @@ impl Press {
             lent: LENT,
         };
         let built = match building::build(&problem).answer {
-            Err((8, ..)) if EMPTY_DRUM => self.empty(&problem)?,
+            Ok(hierarchy) if hierarchy.levels.is_empty() => self.empty(&problem)?,
             Err((number, ..)) => return Err(End::Refused(number)),
             Ok(hierarchy) => Built::Levels(Box::new(Levels {
                 theirs: sequence::theirs(&problem, &problem.arrays),
