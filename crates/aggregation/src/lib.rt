@@ -1,4 +1,6 @@
 // aggregation.rs: `pairs`, connected strength-based aggregation, with the pattern and the map as regions of one store.
+#![tactic(auto)]
+
 ghost use Rattle.std.specs.Prelude.{◌≡◌, ◌<◌, ◌+◌, ◌≤◌, length};
 ghost use Rattle.store.specs.Vector.{filled};
 ghost use Rattle.aggregation.specs.Pairs.{consider_of, strongest_of, pairing, pair_row_of, pairs_of};

@@ -1,4 +1,6 @@
 // What question 9 asks for so many levels of a matrix, each counted as large as the finest.
+#![tactic(auto)]
+
 ghost use Rattle.std.specs.Prelude.{◌+◌, ◌*◌, ◌≡◌};
 ghost use Rattle.charge.specs.Charge.{capped, words_for, floats_for, sizes_for};
 

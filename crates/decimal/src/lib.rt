@@ -1,4 +1,6 @@
 // Decimal numbers as f64: at most 15 digits, and a power of ten from -22 to 22.
+#![tactic(auto)]
+
 ghost use Rattle.std.specs.Prelude.{◌≡◌, false, ◌<◌, ◌≤◌, ◌^◌};
 ghost use Rattle.std.specs.Float.Ieee.Exact.{HasValue};
 ghost use Rattle.decimal.specs.Contract.{Reached};

@@ -1,4 +1,6 @@
 // smoother.rs: one Gauss-Seidel sweep over regions of the store.
+#![tactic(auto)]
+
 ghost use Rattle.std.specs.Prelude.{◌≡◌, ◌+◌, ◌/◌, ◌<◌, ◌≤◌, leb, length};
 ghost use Rattle.float.specs.Float.{sub64};
 ghost use Rattle.store.specs.Region.{at, part};

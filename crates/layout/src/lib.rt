@@ -1,4 +1,6 @@
 // Where a level stands in the two stores. All arithmetic of positions is here.
+#![tactic(auto)]
+
 ghost use Rattle.std.specs.Prelude.{◌≡◌, ◌+◌, ◌*◌, ◌≤◌, length};
 ghost use Rattle.layout.specs.Layout.{place_of, locate, words_end};
 ghost use Rattle.layout.specs.PlaceContract.{PlaceOk};

@@ -1,5 +1,7 @@
 // The order of records in a problem file, as a state by value: what has come, what may come next, and what is to be done with the bytes
 // that have been read of a record.
+#![tactic(auto)]
+
 ghost use Rattle.std.specs.Prelude.{◌≡◌, cond, leb};
 ghost use Rattle.record_format.specs.Bytes.{u32_at};
 ghost use Rattle.record_format.specs.Format.{sizes_ok, matrix_length, values_length, solve_length};

@@ -1,4 +1,5 @@
 // What a call answers where it refuses: the first of document 01's questions that failed, and where it failed.
+#![tactic(auto)]
 
 ghost use Rattle.std.specs.Prelude.{◌≡◌};
 ghost use Rattle.refusal.specs.Outcome.{is_refused};

@@ -1,4 +1,6 @@
 // `smooth` of smoother.rs: the sweeps of a smoother, and question 25.
+#![tactic(auto)]
+
 ghost use Rattle.std.specs.Prelude.{◌≡◌, ◌+◌, ◌*◌, ◌≤◌, length};
 ghost use Rattle.store.specs.Region.{part};
 ghost use Rattle.matrix.specs.Kernel.{kernel_at};
