@@ -9,7 +9,7 @@ use options::MultigridOptions;
 
 // Elements of the stores: u32 words, f64 floats, records of statistics.
 #[repr(C)]
-#[derive(Drop)]
+#[derive(Clone, Copy)]
 pub struct StoreSizes {
     pub words: u64,
     pub floats: u64,

@@ -21,7 +21,7 @@ pub use packed::triangle;
 pub use triangular::solve_factor;
 
 // The terminal level in the stores: its matrix of `rows` rows and `entries` entries, its `size` coupled rows, the factor.
-#[derive(Drop)]
+#[derive(Clone, Copy)]
 pub struct Terminal {
     pub rows: usize,
     pub entries: usize,

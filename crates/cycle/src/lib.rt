@@ -14,7 +14,7 @@ use visit::Inner;
 pub mod visit;
 
 // Which way a cycle goes at a level: the last is solved, another is left downward and entered again upward.
-#[derive(Drop)]
+#[derive(Clone, Copy)]
 pub enum Way {
     Last,
     Down,

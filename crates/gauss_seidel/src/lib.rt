@@ -14,7 +14,7 @@ ghost use Rattle.gauss_seidel.specs.Turns.{Stored, Watched, Handed, cast_turn, f
 use matrix::SymmetricMatrix;
 
 // What a sweep carries over to the next row in a register: a sweep that is near holds what stands at `watched`.
-#[derive(Drop)]
+#[derive(Clone, Copy)]
 pub struct Carried {
     pub near: bool,
     pub watched: usize,

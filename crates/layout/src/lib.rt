@@ -19,7 +19,7 @@ pub use sums::row_sums;
 pub use terminal::{factor, terminal_in};
 
 // A level's sizes, its regions in the words, and its regions in the floats.
-#[derive(Drop)]
+#[derive(Clone, Copy)]
 pub struct Place {
     pub rows: usize,
     pub entries: usize,

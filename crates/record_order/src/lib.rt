@@ -12,7 +12,7 @@ use record_format::{Mark, is_marked};
 use refusal::Refusal;
 
 // Which records have come, and the sizes of the matrix among them. `calls` says that an UP or an SO has come, so that the build is made.
-#[derive(Drop)]
+#[derive(Clone, Copy)]
 pub struct Came {
     pub controls: bool,
     pub matrix: bool,
@@ -23,14 +23,14 @@ pub struct Came {
 }
 
 // The mark that bytes start with.
-#[derive(Drop)]
+#[derive(Clone, Copy)]
 pub enum Named {
     Known(Mark),
     Unknown,
 }
 
 // What is to be done next: read so many bytes more, act on a whole record, or refuse.
-#[derive(Drop)]
+#[derive(Clone, Copy)]
 pub enum Next {
     Read(usize),
     Whole(Mark),
@@ -38,7 +38,7 @@ pub enum Next {
 }
 
 // What the end of the input asks for.
-#[derive(Drop)]
+#[derive(Clone, Copy)]
 pub enum Ending {
     Build,
     Done,

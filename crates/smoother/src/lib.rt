@@ -13,7 +13,7 @@ use options::MultigridSmoother;
 use refusal::Verdict;
 
 // Where the vectors of a level stand in the floats: right-hand side, x, work, which also holds the residual, correction and product.
-#[derive(Drop)]
+#[derive(Clone, Copy)]
 pub struct LevelScratch {
     pub rhs: usize,
     pub x: usize,
