@@ -4,8 +4,8 @@ use Rattle.matrix.proofs.matrix.add_face.Goals as goal
 
 pub index_at-neighbor-requires : goal.index_at-neighbor-requires
 index_at-neighbor-requires c =
-    let h = neighbor_in _ c.requires.vectors_ok.kernel c.requires.face_bound in
-    record { k_in_bounds = h.0; k_bound = h.1 }
+    let pair = neighbor_in _ c.requires.vectors_ok.kernel c.requires.face_bound in
+    record { k_in_bounds = pair.0; k_bound = pair.1 }
 
 pub returns : goal.returns
 returns c = faced_one c.index_at-neighbor.ensures.value

@@ -5,11 +5,7 @@ use Rattle.matrix.proofs.matrix.add_row.Goals as goal
 pub add_faces-owner-requires : goal.add_faces-owner-requires
 add_faces-owner-requires c =
     let start = c in
-    record {
-      vectors_ok = start.requires.vectors_ok;
-      row_lt_rows = start.requires.row_lt_rows;
-      hi_bound = row_faces_lem start.requires.vectors_ok.kernel start.requires.row_lt_rows c.wide-hi.ensures;
-    }
+    record { vectors_ok = start.requires.vectors_ok; row_lt_rows = start.requires.row_lt_rows; hi_bound = row_faces_lem start.requires.vectors_ok.kernel start.requires.row_lt_rows c.wide-hi.ensures }
 
 pub returns : goal.returns
 returns c =

@@ -1,4 +1,5 @@
 -- `matrix::add_rows` meets its contract.
+use Prim.Native.Nat.{◌-◌}
 use Rattle.matrix.proofs.matrix.Turns.{vectors_resize, spreading_start, spreading_on, spreading_end}
 use borrow.Author.Rules.{rules}
 use Rattle.matrix.proofs.matrix.add_rows.Goals as goal
@@ -10,11 +11,7 @@ pub add_row-lo-requires : goal.add_row-lo-requires
 add_row-lo-requires c =
     let at-loop = c in
     let start = at-loop in
-    record {
-      vectors_ok = vectors_resize start.requires at-loop.loop-row.invariant.size;
-      row_lt_rows = c.loop-row-test.true;
-      lo_value = at-loop.loop-row.invariant.from;
-    }
+    record { vectors_ok = vectors_resize start.requires at-loop.loop-row.invariant.size; row_lt_rows = c.loop-row-test.true; lo_value = at-loop.loop-row.invariant.from }
 
 pub loop-row-preserved : goal.loop-row-preserved
 loop-row-preserved c =

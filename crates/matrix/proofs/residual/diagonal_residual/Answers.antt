@@ -1,6 +1,7 @@
 -- `residual::diagonal_residual` meets its contract. The loop's invariant: what is left to do from here gives what the whole gives.
 use mathlib.Core.Path.{refl}
-use lib.ListN.{length-set}
+use Prim.Native.Nat.{◌-◌}
+use lib.ListN.{length, length-set}
 use Rattle.store.proofs.store.Loop.{left_start, left_on, left_end}
 use Rattle.matrix.specs.Turns.{less_turn}
 use native.Mathlib.Omega.{arith}

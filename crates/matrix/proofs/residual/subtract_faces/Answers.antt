@@ -1,4 +1,6 @@
 -- `residual::subtract_faces` meets its contract.
+use Prim.Native.Nat.{◌-◌}
+use Rattle.store.specs.Region.{at}
 use Rattle.matrix.proofs.matrix.Turns.{neighbor_in, faced_one, facing_start, facing_on, facing_end}
 use native.Mathlib.Omega.{arith}
 use Rattle.matrix.proofs.residual.subtract_faces.Goals as goal
@@ -8,8 +10,8 @@ loop-face-init c = facing_start
 
 pub index_at-neighbor-requires : goal.index_at-neighbor-requires
 index_at-neighbor-requires c =
-    let h = neighbor_in _ c.requires.vectors_ok.kernel (omega arith) in
-    record { k_in_bounds = h.0; k_bound = h.1 }
+    let pair = neighbor_in _ c.requires.vectors_ok.kernel (omega arith) in
+    record { k_in_bounds = pair.0; k_bound = pair.1 }
 
 pub loop-face-preserved : goal.loop-face-preserved
 loop-face-preserved c =

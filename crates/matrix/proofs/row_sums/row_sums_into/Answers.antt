@@ -7,10 +7,7 @@ pub sum_rows-requires : goal.sum_rows-requires
 sum_rows-requires c =
     let at_copy = c in
     let start = at_copy in
-    record {
-      kernel_ok = start.requires.kernel_ok;
-      rows_in_bounds = omega (arith, at_copy.copy.ensures.size, start.requires.rows_in_bounds);
-    }
+    record { kernel_ok = start.requires.kernel_ok; rows_in_bounds = omega (arith, at_copy.copy.ensures.size, start.requires.rows_in_bounds) }
 
 pub returns : goal.returns
 returns c =

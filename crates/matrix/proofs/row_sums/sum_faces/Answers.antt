@@ -1,4 +1,5 @@
 -- `row_sums::sum_faces` meets its contract.
+use Prim.Native.Nat.{◌-◌}
 use Rattle.matrix.proofs.row_sums.Sums.{holding_start, holding_on, holding_done}
 use native.Mathlib.Omega.{arith}
 use Rattle.matrix.proofs.row_sums.sum_faces.Goals as goal
@@ -9,12 +10,7 @@ loop-face-init c = holding_start _ _ _ _ _ _ _
 pub sum_face-own-requires : goal.sum_face-own-requires
 sum_face-own-requires c =
     let start = c in
-    record {
-      kernel_ok = start.requires.kernel_ok;
-      rows_in_bounds = omega arith;
-      row_lt_rows = start.requires.row_lt_rows;
-      face_bound = omega arith;
-    }
+    record { kernel_ok = start.requires.kernel_ok; rows_in_bounds = omega arith; row_lt_rows = start.requires.row_lt_rows; face_bound = omega arith }
 
 pub loop-face-preserved : goal.loop-face-preserved
 loop-face-preserved c =

@@ -5,12 +5,7 @@ use Rattle.matrix.proofs.row_sums.sum_row.Goals as goal
 pub sum_faces-requires : goal.sum_faces-requires
 sum_faces-requires c =
     let start = c in
-    record {
-      kernel_ok = start.requires.kernel_ok;
-      rows_in_bounds = start.requires.rows_in_bounds;
-      row_lt_rows = start.requires.row_lt_rows;
-      hi_bound = row_faces_lem start.requires.kernel_ok start.requires.row_lt_rows c.wide-hi.ensures;
-    }
+    record { kernel_ok = start.requires.kernel_ok; rows_in_bounds = start.requires.rows_in_bounds; row_lt_rows = start.requires.row_lt_rows; hi_bound = row_faces_lem start.requires.kernel_ok start.requires.row_lt_rows c.wide-hi.ensures }
 
 pub returns : goal.returns
 returns c =
