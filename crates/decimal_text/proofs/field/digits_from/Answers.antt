@@ -8,26 +8,20 @@ use Prim.Native.Nat.{◌-◌, ◌^◌}
 use mathlib.Core.Path.{refl, ap, ◌∙◌}
 use Rattle.decimal_text.proofs.field.digits_from.Goals as goal
 
--- src/field.rt:99:5
 pub loop-i-init : goal.loop-i-init
 loop-i-init c = (omega arith, omega arith, refl)
 
--- src/field.rt:102:13
 pub returns-then-b-lt48 : goal.returns-then-b-lt48
 returns-then-b-lt48 c = digits_bad c.args.n c.loop-i.number c.args.s.now c.loop-i.i c.loop-i.invariant.2 (omega arith) (low_no_digit (get_or c.args.s.now c.loop-i.i 0) (omega (arith, c.wide-b.ensures)))
 
--- src/field.rt:105:13
 pub returns-then-b-gt57 : goal.returns-then-b-gt57
 returns-then-b-gt57 c = digits_bad c.args.n c.loop-i.number c.args.s.now c.loop-i.i c.loop-i.invariant.2 (omega arith) (high_no_digit (get_or c.args.s.now c.loop-i.i 0) (omega (arith, c.wide-b.ensures)))
 
--- src/field.rt:107:9
 pub appended-number-requires : goal.appended-number-requires
 appended-number-requires c = omega (arith, c.wide-b.ensures)
 
--- src/field.rt:99:5
 pub loop-i-preserved : goal.loop-i-preserved
 loop-i-preserved c = (omega arith, omega (arith, c.appended-number.ensures), digits_on c.args.n c.loop-i.number c.args.s.now c.loop-i.i c.loop-i.invariant.2 (omega arith) (is_digit_lem (get_or c.args.s.now c.loop-i.i 0) (omega (arith, c.wide-b.ensures)) (omega (arith, c.wide-b.ensures))) (c.appended-number.ensures ∙ ap (λ (x : ℕ). min (c.loop-i.number * 10 + (x - 48)) (10 ^ 19)) c.wide-b.ensures))
 
--- src/field.rt:93:1
 pub returns : goal.returns
 returns c = digits_end c.args.n c.loop-i.number c.args.s.now c.loop-i.i c.loop-i.invariant.2 (omega arith) (omega arith)

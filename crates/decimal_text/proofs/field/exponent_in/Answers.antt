@@ -7,18 +7,14 @@ use Rattle.decimal_text.proofs.Digits.{sign_within}
 use native.Mathlib.Omega.{arith}
 use Rattle.decimal_text.proofs.field.exponent_in.Goals as goal
 
--- src/field.rt:165:27
 pub slice_bounds-number_in-count : goal.slice_bounds-number_in-count
 slice_bounds-number_in-count c = omega (arith, c.sign_length-sign.ensures, sign_within c.args.s.now)
 
--- src/field.rt:165:27
 pub slice_bounds-number_in-start : goal.slice_bounds-number_in-start
 slice_bounds-number_in-start c = omega (arith, c.sign_length-sign.ensures, sign_within c.args.s.now)
 
--- src/field.rt:160:1
 pub returns-in-Other : goal.returns-in-Other
 returns-in-Other c = exponent_none c.args.s.now c.sign_length-sign.ensures (c.number_in-power.ensures ∙ ap number_in (tail_part c.sign_length-sign.result c.args.s.now)) c.in-Other.is
 
--- src/field.rt:160:1
 pub returns-in-Number : goal.returns-in-Number
 returns-in-Number c = exponent_some c.args.s.now c.sign_length-sign.ensures (c.number_in-power.ensures ∙ ap number_in (tail_part c.sign_length-sign.result c.args.s.now)) c.starts_minus-negative.ensures c.in-Number.is

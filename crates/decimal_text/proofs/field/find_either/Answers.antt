@@ -4,14 +4,11 @@ use borrow.Author.Rules.{rules}
 use native.Mathlib.Omega.{arith}
 use Rattle.decimal_text.proofs.field.find_either.Goals as goal
 
--- src/field.rt:50:13
 pub returns-then-x-a : goal.returns-then-x-a
 returns-then-x-a c = search (place_here, rules)
 
--- src/field.rt:47:5
 pub loop-i-preserved : goal.loop-i-preserved
 loop-i-preserved c = (omega arith, search (place_on, rules))
 
--- src/field.rt:43:1
 pub returns : goal.returns
 returns c = search (place_none, rules)

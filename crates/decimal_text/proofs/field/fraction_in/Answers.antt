@@ -3,14 +3,11 @@ use Rattle.decimal_text.proofs.Value.{fraction_empty, fraction_none, fraction_so
 use lib.ListN.{length}
 use Rattle.decimal_text.proofs.field.fraction_in.Goals as goal
 
--- src/field.rt:136:9
 pub returns-then-whole-s : goal.returns-then-whole-s
 returns-then-whole-s c = fraction_empty c.args.n c.args.whole c.args.s.now c.if-whole-s.true
 
--- src/field.rt:131:1
 pub returns-in-Other : goal.returns-in-Other
 returns-in-Other c = fraction_none c.args.n c.args.whole c.args.s.now c.digits_from-all.ensures c.in-Other.is
 
--- src/field.rt:131:1
 pub returns-in-Number : goal.returns-in-Number
 returns-in-Number c = fraction_some c.args.n c.args.whole c.args.s.now (some_left c.args.whole (length c.args.s.now) c.if-whole-s.false) c.digits_from-all.ensures c.in-Number.is

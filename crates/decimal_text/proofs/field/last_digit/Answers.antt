@@ -6,14 +6,11 @@ use Prim.Native.Nat.{ℕ, ◌-◌}
 use mathlib.Core.Path.{ap}
 use Rattle.decimal_text.proofs.field.last_digit.Goals as goal
 
--- src/field.rt:258:9
 pub returns-then-n-eq0 : goal.returns-then-n-eq0
 returns-then-n-eq0 c = last_none c.args.s.now c.args.n c.if-n-eq0.true
 
--- src/field.rt:261:5
 pub overflow_sub-result : goal.overflow_sub-result
 overflow_sub-result c = omega (arith, c.wide-b.ensures, digit_low (get_or c.args.s.now (c.args.n - 1) 0) (digit_at c.args.s.now (c.args.n - 1) c.requires.digits (omega arith)))
 
--- src/field.rt:253:1
 pub returns : goal.returns
 returns c = last_some c.args.s.now c.args.n c.if-n-eq0.false c.requires (ap (λ (x : ℕ). x - 48) c.wide-b.ensures)

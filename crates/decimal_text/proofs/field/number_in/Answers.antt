@@ -2,10 +2,8 @@
 use Rattle.decimal_text.proofs.Value.{number_none, number_some}
 use Rattle.decimal_text.proofs.field.number_in.Goals as goal
 
--- src/field.rt:118:9
 pub returns-then-s-eq0 : goal.returns-then-s-eq0
 returns-then-s-eq0 c = number_none c.args.s.now c.if-s-eq0.true
 
--- src/field.rt:114:1
 pub returns : goal.returns
 returns c = number_some c.args.s.now c.if-s-eq0.false c.digits_from.ensures

@@ -6,10 +6,8 @@ use mathlib.Core.Path.{ap, ◌∙◌}
 use Rattle.decimal_text.proofs.Value.{power_some, power_none}
 use Rattle.decimal_text.proofs.field.power_at.Goals as goal
 
--- src/field.rt:213:1
 pub returns-then-mark-s : goal.returns-then-mark-s
 returns-then-mark-s c = power_some c.args.s.now c.args.mark c.if-mark-s.true (c.exponent_in.ensures ∙ ap exponent_in (tail_part (c.args.mark + 1) c.args.s.now))
 
--- src/field.rt:213:1
 pub returns-else-mark-s : goal.returns-else-mark-s
 returns-else-mark-s c = power_none c.args.s.now c.args.mark c.if-mark-s.false

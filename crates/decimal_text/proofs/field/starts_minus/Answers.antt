@@ -4,6 +4,5 @@ use Prim.Native.Nat.{ℕ}
 use mathlib.Core.Path.{ap}
 use Rattle.decimal_text.proofs.field.starts_minus.Goals as goal
 
--- src/field.rt:73:1
 pub returns : goal.returns
 returns c = ap (λ (b : ℕ). eqb b 45) c.first_byte-b.ensures

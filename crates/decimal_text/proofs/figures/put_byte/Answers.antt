@@ -2,10 +2,8 @@
 use Rattle.decimal_text.proofs.Writing.{laid_byte, laid_past}
 use Rattle.decimal_text.proofs.figures.put_byte.Goals as goal
 
--- src/figures.rt:16:1
 pub returns-then-at-out : goal.returns-then-at-out
 returns-then-at-out c = laid_byte _
 
--- src/figures.rt:16:1
 pub returns-else-at-out : goal.returns-else-at-out
 returns-else-at-out c = laid_past _ c.if-at-out.false

@@ -3,14 +3,11 @@ use Rattle.decimal_text.proofs.Writing.{power_off, power_on, sign_length}
 use native.Mathlib.Omega.{arith}
 use Rattle.decimal_text.proofs.figures.put_power.Goals as goal
 
--- src/figures.rt:63:9
 pub returns-then-power-eq0 : goal.returns-then-power-eq0
 returns-then-power-eq0 c = power_off c.args.negative c.args.power c.if-power-eq0.true
 
--- src/figures.rt:67:5
 pub put_number-requires : goal.put_number-requires
 put_number-requires c = omega (arith, c.put_byte-mark.ensures.next, c.put_minus-sign.ensures.next, sign_length c.args.negative)
 
--- src/figures.rt:58:1
 pub returns : goal.returns
 returns c = power_on c.args.negative c.args.power c.if-power-eq0.false c.put_byte-mark.ensures c.put_minus-sign.ensures c.put_number.ensures
