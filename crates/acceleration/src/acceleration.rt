@@ -12,7 +12,7 @@ use crate::normalize::normalize;
 use refusal::{Refusal, Verdict};
 
 // How many pairs are stored after a correction, or why there is none.
-#[derive(Drop)]
+#[derive(Clone, Copy)]
 pub enum Corrected {
     Used(usize),
     Refused(Refusal),

@@ -1,4 +1,6 @@
 // Restarted flexible GCR: a new direction made orthogonal to the stored ones, over its norm, and the step along it.
+#![tactic(auto)]
+
 pub mod acceleration;
 pub mod advance;
 pub mod directions;

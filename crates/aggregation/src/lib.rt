@@ -1,4 +1,6 @@
 // aggregation.rs: `pairs`, connected strength-based aggregation, with the pattern and the map as regions of one store.
+#![tactic(auto)]
+
 ghost use Rattle.std.specs.Prelude.{◌≡◌, ◌<◌, ◌+◌, ◌≤◌, length};
 ghost use Rattle.store.specs.Vector.{filled};
 ghost use Rattle.aggregation.specs.Pairs.{consider_of, strongest_of, pairing, pair_row_of, pairs_of};
@@ -8,7 +10,7 @@ ghost use Rattle.aggregation.specs.Layout.{map_at, weighted_at, GraphOk, ChoiceO
 // Where a matrix stands in the stores: row offsets (rows + 1 words), columns (`entries` words) and the map to be written
 // (`rows` words, above both, and as many behind it for the sizes of the aggregates); the weights (`entries` floats), or, where
 // `absolute` is set, the matrix's values. An aggregate of `cap` rows is full; a cap of 0 is none.
-#[derive(Drop)]
+#[derive(Clone, Copy)]
 pub struct Graph {
     pub rows: usize,
     pub entries: usize,
@@ -21,7 +23,7 @@ pub struct Graph {
 }
 
 // A row's strongest free neighbour and the aggregate of its strongest assigned one; the number of rows stands for none.
-#[derive(Drop)]
+#[derive(Clone, Copy)]
 struct Choice {
     free: u32,
     adjacent: u32,

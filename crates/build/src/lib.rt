@@ -1,4 +1,6 @@
 // `build` of hierarchy.rs, in lent stores: the questions on the input, and the levels from the finest on.
+#![tactic(auto)]
+
 ghost use Rattle.std.specs.Prelude.{◌≡◌, length};
 ghost use Rattle.build.specs.Built.{BuildDone};
 ghost use Rattle.build.specs.Asking.{input_of};

@@ -13,7 +13,7 @@ use options::MultigridOptions;
 use refusal::{Refusal, Verdict};
 
 // The levels made, and where the floats of the last one end; or a refusal.
-#[derive(Drop)]
+#[derive(Clone, Copy)]
 pub enum Growth {
     Made { levels: u64, end: usize },
     Refused(Refusal),

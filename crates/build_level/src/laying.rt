@@ -14,7 +14,7 @@ use refusal::{Refusal, Verdict};
 
 // Where the build has come to: the level to be laid, of so many rows and entries, its matrix in the temporaries; where its words and
 // floats start; the charge so far, its own among them; its number; the pairings made so far; how many levels may follow it.
-#[derive(Drop)]
+#[derive(Clone, Copy)]
 pub struct Frontier {
     pub rows: usize,
     pub entries: usize,
@@ -28,7 +28,7 @@ pub struct Frontier {
 }
 
 // The faces of a level that is laid, or a refusal.
-#[derive(Drop)]
+#[derive(Clone, Copy)]
 pub enum Laying {
     Done(usize),
     Refused(Refusal),

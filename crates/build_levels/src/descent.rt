@@ -12,7 +12,7 @@ use options::MultigridOptions;
 use refusal::{Refusal, Verdict};
 
 // The rows and entries of the next level's matrix, and the pairings made so far; or a refusal.
-#[derive(Drop)]
+#[derive(Clone, Copy)]
 pub enum Descending {
     Done {
         count: usize,

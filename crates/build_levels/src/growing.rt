@@ -12,7 +12,7 @@ use layout::Place;
 use options::MultigridOptions;
 
 // Where a level leads: the levels end with it, or there is a next one.
-#[derive(Drop)]
+#[derive(Clone, Copy)]
 pub enum Onward {
     Ended(Growth),
     Next(Frontier),

@@ -1,4 +1,6 @@
 // What question 9 asks for so many levels of a matrix, each counted as large as the finest.
+#![tactic(auto)]
+
 ghost use Rattle.std.specs.Prelude.{◌+◌, ◌*◌, ◌≡◌};
 ghost use Rattle.charge.specs.Charge.{capped, words_for, floats_for, sizes_for};
 
@@ -7,7 +9,7 @@ use options::MultigridOptions;
 
 // Elements of the stores: u32 words, f64 floats, records of statistics.
 #[repr(C)]
-#[derive(Drop)]
+#[derive(Clone, Copy)]
 pub struct StoreSizes {
     pub words: u64,
     pub floats: u64,

@@ -1,5 +1,7 @@
 // `cholesky` of hierarchy.rs over the compact matrix of coarse.rs. Rows without connections never enter the factor, which is
 // a lower triangle packed by rows, so that two of them fit the store.
+#![tactic(auto)]
+
 ghost use Rattle.std.specs.Prelude.{◌≡◌, ◌-◌, ◌<◌, ◌≤◌, length};
 ghost use Rattle.store.specs.Region.{idx, Wrote};
 ghost use Rattle.cholesky.specs.Triangle.{tri};
@@ -19,7 +21,7 @@ pub use packed::triangle;
 pub use triangular::solve_factor;
 
 // The terminal level in the stores: its matrix of `rows` rows and `entries` entries, its `size` coupled rows, the factor.
-#[derive(Drop)]
+#[derive(Clone, Copy)]
 pub struct Terminal {
     pub rows: usize,
     pub entries: usize,

@@ -1,4 +1,6 @@
 // coarse.rs: the terminal solve, every row by its diagonal and the coupled ones by the packed factor.
+#![tactic(auto)]
+
 ghost use Rattle.std.specs.Prelude.{length};
 ghost use Rattle.store.specs.Region.{part, Wrote};
 ghost use Rattle.coarse.specs.Turns.{diagonal_of, gather_of, scatter_of};

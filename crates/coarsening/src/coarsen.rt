@@ -13,7 +13,7 @@ use store::{copy, copy_words};
 use vector::all_finite;
 
 // A matrix in the stores: its pattern in the words, its values and weights in the floats.
-#[derive(Drop)]
+#[derive(Clone, Copy)]
 pub struct Held {
     pub rows: usize,
     pub entries: usize,
@@ -25,7 +25,7 @@ pub struct Held {
 
 // The temporaries, each with room for `rows` rows or `entries` entries: the next level's matrix, the one that merged steps made
 // last with the aggregates of a merged step, and the one that is being formed with the positions of its entries and its faces.
-#[derive(Drop)]
+#[derive(Clone, Copy)]
 pub struct Workspace {
     pub rows: usize,
     pub entries: usize,
@@ -52,7 +52,7 @@ pub struct Workspace {
 }
 
 // The entries of a coarse matrix, and whether all its values are finite: question 18.
-#[derive(Drop)]
+#[derive(Clone, Copy)]
 pub struct Formation {
     pub entries: usize,
     pub finite: bool,

@@ -1,4 +1,6 @@
 // The coarse matrix of a step of the build, and merged steps.
+#![tactic(auto)]
+
 pub mod coarsen;
 pub mod merging;
 

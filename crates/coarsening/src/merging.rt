@@ -14,7 +14,7 @@ use options::MultigridOptions;
 use refusal::{Refusal, Verdict};
 
 // The matrix that merged steps ended with, and the pairings made so far; or a refusal.
-#[derive(Drop)]
+#[derive(Clone, Copy)]
 pub enum Merging {
     Done {
         count: usize,
@@ -25,7 +25,7 @@ pub enum Merging {
 }
 
 // What a step comes to: a refusal, few coupled rows, or a pairing into so many aggregates.
-#[derive(Drop)]
+#[derive(Clone, Copy)]
 enum Attempt {
     Refused(Refusal),
     Few,

@@ -1,4 +1,6 @@
 // The values of a matrix, taken from the entries of an image, and question 10: those of mirrored entries agree.
+#![tactic(auto)]
+
 pub mod mirrors;
 pub mod values;
 

@@ -1,4 +1,6 @@
 // What a cycle does with residuals and corrections: down to the aggregates, up from them, scaled and added.
+#![tactic(auto)]
+
 pub mod correction;
 pub mod scaled;
 pub mod scaling;

@@ -6,14 +6,14 @@ ghost use Rattle.correction.specs.Scaling.{ProductsOk, products_of, quotient_of,
 use refusal::Refusal;
 
 // A correction's product with the residual, and with its own image.
-#[derive(Drop)]
+#[derive(Clone, Copy)]
 pub struct Products {
     pub numerator: f64,
     pub denominator: f64,
 }
 
 // The factor by which a correction is scaled, or the refusal of one that is not finite.
-#[derive(Drop)]
+#[derive(Clone, Copy)]
 pub enum Factor {
     Factor(f64),
     Refused(Refusal),

@@ -1,4 +1,6 @@
 // cycle.rs: one visit of each level. A level's vectors stand one after the other in its scratch; after them come those of the next level.
+#![tactic(auto)]
+
 ghost use Rattle.std.specs.Prelude.{◌≡◌, ◌+◌, ◌*◌, ◌<◌, length};
 ghost use Rattle.layout.specs.Layout.{rows_at};
 ghost use Rattle.cycle.specs.Cycle.{count_of};
@@ -12,7 +14,7 @@ use visit::Inner;
 pub mod visit;
 
 // Which way a cycle goes at a level: the last is solved, another is left downward and entered again upward.
-#[derive(Drop)]
+#[derive(Clone, Copy)]
 pub enum Way {
     Last,
     Down,

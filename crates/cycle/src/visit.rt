@@ -11,7 +11,7 @@ use smoother::LevelScratch;
 
 // A level that is not the last: its matrix, its DIC reciprocals, the aggregate of each row, its vectors, and those of the next level with
 // its rows.
-#[derive(Drop)]
+#[derive(Clone, Copy)]
 pub struct Inner {
     pub matrix: SymmetricMatrix,
     pub dic: usize,

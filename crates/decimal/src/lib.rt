@@ -1,17 +1,19 @@
 // Decimal numbers as f64: at most 15 digits, and a power of ten from -22 to 22.
+#![tactic(auto)]
+
 ghost use Rattle.std.specs.Prelude.{◌≡◌, false, ◌<◌, ◌≤◌, ◌^◌};
 ghost use Rattle.std.specs.Float.Ieee.Exact.{HasValue};
 ghost use Rattle.decimal.specs.Contract.{Reached};
 ghost use Rattle.decimal.specs.Decimal.{value_of, find_of, attempt_of, write_of, magnitude_of, signed_of};
 
-#[derive(Drop)]
+#[derive(Clone, Copy)]
 pub enum Found {
     At(u64),
     Nothing,
 }
 
 // The digits, whether the power of ten is below zero, and its size.
-#[derive(Drop)]
+#[derive(Clone, Copy)]
 pub enum Written {
     Number(u64, bool, u64),
     Refused,

@@ -25,28 +25,28 @@ ghost use Rattle.decimal_text.specs.Contract.{DigitsTo, LastDigit};
 use decimal::read_signed;
 
 // A number up to 10^19, which stands for all that are not below it; or a byte was no digit.
-#[derive(Drop)]
+#[derive(Clone, Copy)]
 pub enum Digits {
     Number(u64),
     Other,
 }
 
 // The digits around the point as such a number, and how many stand after the point; or there is no digit, or another byte.
-#[derive(Drop)]
+#[derive(Clone, Copy)]
 pub enum Mantissa {
     Digits(u64, u64),
     Other,
 }
 
 // Whether a power of ten is below zero, and its digits as such a number; or there is no digit, or another byte.
-#[derive(Drop)]
+#[derive(Clone, Copy)]
 pub enum Exponent {
     Power(bool, u64),
     Other,
 }
 
 // The value of a field, or it is no number of at most 15 digits with a power of ten from -22 to 22.
-#[derive(Drop)]
+#[derive(Clone, Copy)]
 pub enum Reading {
     Value(f64),
     Outside,

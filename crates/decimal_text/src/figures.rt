@@ -7,7 +7,7 @@ ghost use Rattle.decimal_text.specs.Contract.{Laid, PlacedValue};
 use decimal::Written;
 
 // Where the next byte goes; or the value is none that 15 digits and a power of ten from -22 to 22 write.
-#[derive(Drop)]
+#[derive(Clone, Copy)]
 pub enum Placed {
     At(usize),
     Outside,

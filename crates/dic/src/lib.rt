@@ -1,4 +1,6 @@
 // The diagonal of the incomplete factor, and one DIC sweep.
+#![tactic(auto)]
+
 pub mod dic;
 pub mod sweep;
 

@@ -1,4 +1,6 @@
 // Controls and answers as they cross to C, as structs by value; and controls as numbers, for programs.
+#![tactic(auto)]
+
 pub mod controls;
 pub mod reading;
 pub mod structs;

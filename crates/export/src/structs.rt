@@ -3,7 +3,7 @@
 
 // The controls: enums by their place in the source from 0, yes as 1 and no as 0.
 #[repr(C)]
-#[derive(Drop)]
+#[derive(Clone, Copy)]
 pub struct OptionsForC {
     pub smoother: u64,
     pub residual_norm: u64,
@@ -26,7 +26,7 @@ pub struct OptionsForC {
 
 // The handle, with the controls as they were given to the build.
 #[repr(C)]
-#[derive(Drop)]
+#[derive(Clone, Copy)]
 pub struct HierarchyForC {
     pub options: OptionsForC,
     pub levels: u64,
@@ -36,7 +36,7 @@ pub struct HierarchyForC {
 
 // Zero or the number of the question that refused, and where.
 #[repr(C)]
-#[derive(Drop)]
+#[derive(Clone, Copy)]
 pub struct AnswerForC {
     pub question: u64,
     pub level: u64,
@@ -45,7 +45,7 @@ pub struct AnswerForC {
 
 // The answer of a build.
 #[repr(C)]
-#[derive(Drop)]
+#[derive(Clone, Copy)]
 pub struct BuiltForC {
     pub answer: AnswerForC,
     pub hierarchy: HierarchyForC,
@@ -53,7 +53,7 @@ pub struct BuiltForC {
 
 // The answer of a solve.
 #[repr(C)]
-#[derive(Drop)]
+#[derive(Clone, Copy)]
 pub struct ReportForC {
     pub answer: AnswerForC,
     pub converged: u64,
@@ -65,7 +65,7 @@ pub struct ReportForC {
 
 // The answer of `statistics`.
 #[repr(C)]
-#[derive(Drop)]
+#[derive(Clone, Copy)]
 pub struct CountForC {
     pub answer: AnswerForC,
     pub levels: u64,

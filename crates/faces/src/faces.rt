@@ -8,7 +8,7 @@ use store::{index_at, wide};
 
 // Where everything stands in the store, and the sizes: the pattern, then from `starts` on what is written, rows + 1 words at
 // `starts`, rows at `diagonals`, and `faces` at each of the last three.
-#[derive(Drop)]
+#[derive(Clone, Copy)]
 pub struct Faces {
     pub rows: usize,
     pub entries: usize,

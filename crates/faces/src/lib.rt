@@ -1,4 +1,6 @@
 // The pattern part of a face-addressed matrix: its faces, mirrors and diagonal entries, and its coupled rows.
+#![tactic(auto)]
+
 pub mod coupled;
 pub mod diagonals;
 pub mod faces;

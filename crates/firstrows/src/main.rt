@@ -2,6 +2,8 @@
 // line for each of its first eight rows: of every entry the column and the value.
 //
 // With four numbers as arguments, seed, width, height and depth, it shows that load; else three: a flat one of two cells by two, one with depth, and one of 64 cells by 64.
+#![tactic(auto)]
+
 use libc::STDOUT_FILENO;
 use load::loading::{Loaded, Size, load};
 use store::wide;

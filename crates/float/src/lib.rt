@@ -1,4 +1,6 @@
 // The methods of f64 and u64 that the solver calls, as functions: finiteness, extremes, saturating sums and products, the square root.
+#![tactic(auto)]
+
 pub mod float;
 pub mod root;
 pub mod saturating;

@@ -1,4 +1,6 @@
 // The values of the Galerkin product and the weights of the next level; and the product over whole numbers, exactly.
+#![tactic(auto)]
+
 pub mod exact;
 pub mod galerkin;
 pub mod weights;

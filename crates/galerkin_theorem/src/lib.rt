@@ -1,2 +1,3 @@
 // What the coarse values are: half plus half, and the Galerkin theorem: definitions (specs/) and laws (proofs/).
 // There is no code here.
+#![tactic(auto)]

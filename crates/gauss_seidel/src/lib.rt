@@ -1,4 +1,6 @@
 // smoother.rs: one Gauss-Seidel sweep over regions of the store.
+#![tactic(auto)]
+
 ghost use Rattle.std.specs.Prelude.{◌≡◌, ◌+◌, ◌/◌, ◌<◌, ◌≤◌, leb, length};
 ghost use Rattle.float.specs.Float.{sub64};
 ghost use Rattle.store.specs.Region.{at, part};
@@ -12,7 +14,7 @@ ghost use Rattle.gauss_seidel.specs.Turns.{Stored, Watched, Handed, cast_turn, f
 use matrix::SymmetricMatrix;
 
 // What a sweep carries over to the next row in a register: a sweep that is near holds what stands at `watched`.
-#[derive(Drop)]
+#[derive(Clone, Copy)]
 pub struct Carried {
     pub near: bool,
     pub watched: usize,

@@ -1,4 +1,6 @@
 // Question 19, the index check that solve, update and statistics make before they read a store.
+#![tactic(auto)]
+
 pub mod check;
 pub mod head;
 pub mod row;

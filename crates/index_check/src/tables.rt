@@ -10,7 +10,7 @@ use layout::Place;
 
 // What the links and positions of a level are asked against: whether it is the last, how many links it has, and the rows and entries
 // that they lead to.
-#[derive(Drop)]
+#[derive(Clone, Copy)]
 pub struct Targets {
     pub last: bool,
     pub links: usize,

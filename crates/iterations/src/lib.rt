@@ -1,4 +1,6 @@
 // The iterations of a solve, and one of them.
+#![tactic(auto)]
+
 pub mod iterating;
 pub mod stepping;
 

@@ -6,7 +6,7 @@ pub mod iteration;
 pub mod places;
 
 // Where the finest matrix and the vectors of a solve stand, and their length.
-#[derive(Drop)]
+#[derive(Clone, Copy)]
 pub struct Regions {
     pub matrix: SymmetricMatrix,
     pub rows: usize,
@@ -21,7 +21,7 @@ pub struct Regions {
 }
 
 // An iteration: the pairs stored now and the norm of the residual, or a refusal.
-#[derive(Drop)]
+#[derive(Clone, Copy)]
 pub enum Step {
     Done { used: usize, last: f64 },
     Refused(Refusal),

@@ -1,4 +1,6 @@
 // Where a level stands in the two stores. All arithmetic of positions is here.
+#![tactic(auto)]
+
 ghost use Rattle.std.specs.Prelude.{◌≡◌, ◌+◌, ◌*◌, ◌≤◌, length};
 ghost use Rattle.layout.specs.Layout.{place_of, locate, words_end};
 ghost use Rattle.layout.specs.PlaceContract.{PlaceOk};
@@ -17,7 +19,7 @@ pub use sums::row_sums;
 pub use terminal::{factor, terminal_in};
 
 // A level's sizes, its regions in the words, and its regions in the floats.
-#[derive(Drop)]
+#[derive(Clone, Copy)]
 pub struct Place {
     pub rows: usize,
     pub entries: usize,

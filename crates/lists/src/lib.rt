@@ -1,5 +1,7 @@
 // What programs share that replay lists of calls: numbers out of the input, answers counted by their kinds, and checksums of what
 // calls leave in the stores.
+#![tactic(auto)]
+
 ghost use Rattle.std.specs.Prelude.{◌≡◌, ◌≤◌, min};
 
 pub mod calls;

@@ -2,7 +2,7 @@
 use libc::STDIN_FILENO;
 
 // A number, and where the next one starts.
-#[derive(Drop)]
+#[derive(Clone, Copy)]
 pub struct Numeral {
     pub value: u64,
     pub next: usize,

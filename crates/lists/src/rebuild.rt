@@ -4,7 +4,7 @@ use options::MultigridOptions;
 use solver::Built;
 
 // How much of each array and store the build gets, its controls, and where the text goes on after these arguments.
-#[derive(Drop)]
+#[derive(Clone, Copy)]
 pub struct Problem {
     pub rows: usize,
     pub offsets: usize,
@@ -47,7 +47,7 @@ fn controls(c: &[u64; 17]) -> MultigridOptions {
 }
 
 // The sizes of the arrays as the text has them, and where the arrays start.
-#[derive(Drop)]
+#[derive(Clone, Copy)]
 struct Sizes {
     rows: usize,
     offsets: usize,
@@ -171,7 +171,7 @@ fn run(
 }
 
 // A build that has run: its arguments and its answer.
-#[derive(Drop)]
+#[derive(Clone, Copy)]
 pub struct Rebuilt {
     pub problem: Problem,
     pub built: Built,

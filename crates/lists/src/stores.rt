@@ -4,7 +4,7 @@ ghost use Rattle.std.specs.Prelude.{◌≤◌};
 use crate::least;
 
 // The sum of the numbers so far and the sum of these sums, modulo 2^64: it tells numbers that have changed places apart.
-#[derive(Drop)]
+#[derive(Clone, Copy)]
 pub struct Sums {
     pub sum: u64,
     pub total: u64,
@@ -47,7 +47,7 @@ fn add_floats(c: Sums, f: &[f64], count: usize) -> Sums {
 }
 
 // How much of the two stores is meant: so many words and so many floats.
-#[derive(Drop)]
+#[derive(Clone, Copy)]
 pub struct Extent {
     pub words: usize,
     pub floats: usize,

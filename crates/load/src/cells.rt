@@ -3,7 +3,7 @@ ghost use Rattle.std.specs.Prelude.{◌≡◌, ◌+◌, ◌<◌};
 ghost use Rattle.load.specs.Steps.{Few, Placed, FacesAre};
 
 // How many cells stand along each axis.
-#[derive(Drop)]
+#[derive(Clone, Copy)]
 pub struct Extents {
     pub width: usize,
     pub height: usize,
@@ -11,7 +11,7 @@ pub struct Extents {
 }
 
 // A cell: its number, and where it stands along each axis.
-#[derive(Drop)]
+#[derive(Clone, Copy)]
 pub struct Cell {
     pub number: usize,
     pub x: usize,
@@ -20,7 +20,7 @@ pub struct Cell {
 }
 
 // Which faces a cell has: behind it along each axis, and ahead.
-#[derive(Drop)]
+#[derive(Clone, Copy)]
 pub struct Faces {
     pub left: bool,
     pub up: bool,

@@ -6,7 +6,7 @@ ghost use Rattle.load.specs.Steps.{Drew, DrewAll};
 use crate::cells::Faces;
 
 // The state after a draw, and the conductance of its face; 0 where there is no face.
-#[derive(Drop)]
+#[derive(Clone, Copy)]
 pub struct Drawn {
     pub state: u64,
     pub conductance: u32,
@@ -41,7 +41,7 @@ pub fn draw(face: bool, seed: u64, s: u64) -> Drawn
 }
 
 // The state after the draws of a cell, and the conductances of its faces ahead.
-#[derive(Drop)]
+#[derive(Clone, Copy)]
 pub struct Draws {
     pub state: u64,
     pub right: u32,

@@ -8,7 +8,7 @@ use crate::drawing::{Draws, draw_all};
 use store::wide;
 
 // The entries of a row behind the diagonal, along each axis; zero where there is no face.
-#[derive(Drop)]
+#[derive(Clone, Copy)]
 pub struct Mirrors {
     pub left: f64,
     pub up: f64,
@@ -176,7 +176,7 @@ fn push_row(
 }
 
 // How far the rows are laid: where they end, and the state after their draws.
-#[derive(Drop)]
+#[derive(Clone, Copy)]
 pub struct Reached {
     pub end: usize,
     pub state: u64,

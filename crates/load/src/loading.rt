@@ -9,21 +9,21 @@ use crate::laying::{entries_of, lay_cells};
 use refusal::{BAD_LOAD, Refusal};
 
 // The size of a load.
-#[derive(Drop)]
+#[derive(Clone, Copy)]
 pub struct Size {
     pub rows: u64,
     pub entries: u64,
 }
 
 // What a call answers.
-#[derive(Drop)]
+#[derive(Clone, Copy)]
 pub enum Loaded {
     Made(Size),
     Refused(Refusal),
 }
 
 // Whether there is a load, and then its cells and entries.
-#[derive(Drop)]
+#[derive(Clone, Copy)]
 pub struct Asked {
     pub ok: bool,
     pub cells: usize,

@@ -1,4 +1,6 @@
 // The symmetric face-addressed matrix of a level: its product, its residual and its row sums.
+#![tactic(auto)]
+
 pub mod matrix;
 pub mod residual;
 pub mod row_sums;

@@ -8,7 +8,7 @@ ghost use Rattle.matrix.specs.Kernel.{kernel_at, apply_of};
 ghost use Rattle.matrix.specs.Turns.{faces_of, start_of, VectorsOk, product_turn, Faced, Rowed, Spread};
 
 // Where a matrix lies: offsets and neighbors in the words, the others in the floats. Each coefficient is stored once.
-#[derive(Drop)]
+#[derive(Clone, Copy)]
 pub struct SymmetricMatrix {
     pub rows: usize,
     pub diagonal: usize,

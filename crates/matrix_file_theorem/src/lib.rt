@@ -1,1 +1,2 @@
 // Reading a matrix file that was written gives the matrix: theorems over definitions, in proofs/. There is no code.
+#![tactic(auto)]

@@ -7,7 +7,7 @@ use crate::lines::three_fields;
 use decimal_text::field::{Digits, Reading, number_in, value_in};
 
 // An entry with its row and column from 0; or its line has not three fields or a bad place; or its value is outside the form.
-#[derive(Drop)]
+#[derive(Clone, Copy)]
 pub enum Parsed {
     Entry(u64, u64, f64),
     Malformed,

@@ -6,14 +6,14 @@ ghost use Rattle.matrix_market.specs.Walk.{blanks_of, NextField, ThreeFields, Fi
 use decimal_text::field::find_either;
 
 // Where a field stands in its line: from `from` up to `to`. Where there is none, both are the line's end.
-#[derive(Drop)]
+#[derive(Clone, Copy)]
 pub struct Field {
     pub from: usize,
     pub to: usize,
 }
 
 // Whether a line has three fields, and where they stand then.
-#[derive(Drop)]
+#[derive(Clone, Copy)]
 pub struct Three {
     pub ok: bool,
     pub first: Field,
@@ -22,7 +22,7 @@ pub struct Three {
 }
 
 // Where a line stands in the text, and where the next one starts.
-#[derive(Drop)]
+#[derive(Clone, Copy)]
 pub struct Line {
     pub found: bool,
     pub from: usize,

@@ -9,7 +9,7 @@ use decimal_text::field::{Reading, value_in};
 
 // An entry with its row and column from 0; or its line has not three fields or a bad place; or its value is outside the form, and only its
 // places are known.
-#[derive(Drop)]
+#[derive(Clone, Copy)]
 pub enum Placed {
     Entry(u64, u64, f64),
     Malformed,

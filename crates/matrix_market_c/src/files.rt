@@ -12,7 +12,7 @@ use matrix_writer::{FileWritten, write_matrix_file};
 
 // The answer of a conversion: how many bytes of the output it has. Every field has eight bytes.
 #[repr(C)]
-#[derive(Drop)]
+#[derive(Clone, Copy)]
 pub struct ConvertedForC {
     pub answer: AnswerForC,
     pub length: u64,

@@ -8,7 +8,7 @@ use matrix_market::lines::next_line;
 use matrix_market::placed::{Placed, entry_in};
 
 // What a line has: an entry; or it is malformed; or it has places and a bad value.
-#[derive(Drop)]
+#[derive(Clone, Copy)]
 pub enum LineRead {
     Entry,
     Malformed,
@@ -16,7 +16,7 @@ pub enum LineRead {
 }
 
 // What the lines of a file have: so many entries; or, behind some, a line that is malformed or surplus; or, behind so many, one with a bad value.
-#[derive(Drop)]
+#[derive(Clone, Copy)]
 pub enum LinesRead {
     Entries(usize),
     Malformed,

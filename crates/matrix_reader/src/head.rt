@@ -10,28 +10,28 @@ use matrix_market::lines::{first_line, next_line, three_fields};
 use refusal::Refusal;
 
 // Whether a file is symmetric, or the refusal of its header.
-#[derive(Drop)]
+#[derive(Clone, Copy)]
 pub enum KindRead {
     Read(bool),
     Refused(Refusal),
 }
 
 // The rows and the entries that a file states.
-#[derive(Drop)]
+#[derive(Clone, Copy)]
 pub struct FileSizes {
     pub rows: u64,
     pub entries: u64,
 }
 
 // The sizes, or the refusal of their line.
-#[derive(Drop)]
+#[derive(Clone, Copy)]
 pub enum SizesRead {
     Read(FileSizes),
     Refused(Refusal),
 }
 
 // What header and size line state, and where the line behind them starts.
-#[derive(Drop)]
+#[derive(Clone, Copy)]
 pub struct Head {
     pub symmetric: bool,
     pub rows: u64,
@@ -40,7 +40,7 @@ pub struct Head {
 }
 
 // What header and size line state, or the refusal of one of them.
-#[derive(Drop)]
+#[derive(Clone, Copy)]
 pub enum HeadRead {
     Read(Head),
     Refused(Refusal),

@@ -13,7 +13,7 @@ use refusal::Refusal;
 use store::wide;
 
 // How many bytes a record has that was written, or the refusal of the text.
-#[derive(Drop)]
+#[derive(Clone, Copy)]
 pub enum Converted {
     Wrote(usize),
     Refused(Refusal),

@@ -7,7 +7,7 @@ ghost use Rattle.matrix_writer.specs.Contract.{sized_matrix, SizesFit, WordOf, R
 use record_format::bytes::byte_at;
 
 // The entries of a row: from `first` up to `last`.
-#[derive(Drop)]
+#[derive(Clone, Copy)]
 pub struct RowRange {
     pub first: usize,
     pub last: usize,

@@ -1,4 +1,6 @@
 // An MX record to the text of a Matrix Market file, symmetric or general (specs/Writing.antt, specs/Text.antt).
+#![tactic(auto)]
+
 pub mod arrays;
 pub mod lines;
 pub mod questions;

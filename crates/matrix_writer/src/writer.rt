@@ -9,7 +9,7 @@ use crate::questions::check_record;
 use refusal::{Refusal, Verdict};
 
 // How many bytes the text has, or the refusal of the record or of the output.
-#[derive(Drop)]
+#[derive(Clone, Copy)]
 pub enum FileWritten {
     Wrote(usize),
     Refused(Refusal),

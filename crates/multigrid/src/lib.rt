@@ -1,4 +1,6 @@
 // mod.rs: the calls of the solver.
+#![tactic(auto)]
+
 pub mod building;
 pub mod counting;
 pub mod solving;

@@ -9,7 +9,7 @@ use load::loading::{Loaded, load};
 
 // The answer of a load. Every field has eight bytes.
 #[repr(C)]
-#[derive(Drop)]
+#[derive(Clone, Copy)]
 pub struct LoadedForC {
     pub answer: AnswerForC,
     pub rows: u64,

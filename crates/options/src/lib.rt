@@ -1,4 +1,6 @@
 // The controls of the solver, the handle that a build answers with, and how often a level is smoothed.
+#![tactic(auto)]
+
 pub mod options;
 pub mod sweep_counts;
 

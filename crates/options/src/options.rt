@@ -6,7 +6,7 @@ ghost use Rattle.refusal.specs.Outcome.{verdict_of};
 use refusal::Verdict;
 
 // What damps the rough part of an error on a level.
-#[derive(Drop)]
+#[derive(Clone, Copy)]
 pub enum MultigridSmoother {
     GaussSeidel,
     SymmetricGaussSeidel,
@@ -14,21 +14,21 @@ pub enum MultigridSmoother {
 }
 
 // How a solve measures its residual.
-#[derive(Drop)]
+#[derive(Clone, Copy)]
 pub enum MultigridResidualNorm {
     AbsoluteL2,
     NormalizedL1,
 }
 
 // Terminal-level solve. Dense factorization is bounded by coarsest_cells.
-#[derive(Drop)]
+#[derive(Clone, Copy)]
 pub enum MultigridCoarseSolver {
     PcgDic,
     Cholesky,
 }
 
 // Controls for a standalone algebraic multigrid solve, not a PCG preconditioner.
-#[derive(Drop)]
+#[derive(Clone, Copy)]
 pub struct MultigridOptions {
     pub smoother: MultigridSmoother,
     pub residual_norm: MultigridResidualNorm,
@@ -55,7 +55,7 @@ pub struct MultigridOptions {
 }
 
 // A build's answer: its controls, the levels stored, and the finest matrix's rows and entries.
-#[derive(Drop)]
+#[derive(Clone, Copy)]
 pub struct Handle {
     pub options: MultigridOptions,
     pub levels: u64,

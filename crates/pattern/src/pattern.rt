@@ -8,7 +8,7 @@ ghost use Rattle.pattern.specs.Steps.{Linked, Links};
 use store::{fill_words, index_at};
 
 // Where everything stands in the store of words, and the sizes: what is read, then what is written, one after the other.
-#[derive(Drop)]
+#[derive(Clone, Copy)]
 pub struct Coarsening {
     pub rows: usize,
     pub entries: usize,

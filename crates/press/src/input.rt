@@ -4,7 +4,7 @@ use record_format::Mark;
 use record_order::{Came, Next};
 
 // What the input brings next: a record of so many bytes, its end, or bytes that are no record.
-#[derive(Drop)]
+#[derive(Clone, Copy)]
 pub enum Arrived {
     Record(Mark, usize),
     End,

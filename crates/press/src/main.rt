@@ -1,6 +1,8 @@
 // A problem file from standard input: controls, a matrix, weights, then updates and solves (record_format, record_order). It writes document
 // 01's lines for each solve, "updated" for each update, and "refused" with the number of a question. What is decided is decided in the
 // libraries under it; here records are read and answers are written.
+#![tactic(auto)]
+
 mod input;
 mod running;
 

@@ -1,6 +1,8 @@
 // What the records of a problem file do, once they are read: the build of its matrix, an update, a solve, each one call of the library on
 // the arrays that were read; and what each record and each answer makes of a run. Arrays have the largest sizes of a problem file, and a call
 // sees as much of them as the matrix has.
+#![tactic(auto)]
+
 ghost use Rattle.press_run.specs.Acting.{RunBuild, RunUpdate, RunSolve};
 
 pub mod run;

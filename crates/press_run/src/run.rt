@@ -9,7 +9,7 @@ use refusal::Verdict;
 use solver::{Built, Solved, Updated};
 
 // What has come, the controls, and once it is built the handle. A run that is over reads nothing more.
-#[derive(Drop)]
+#[derive(Clone, Copy)]
 pub struct Run {
     pub over: bool,
     pub came: Came,

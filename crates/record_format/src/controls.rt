@@ -10,7 +10,7 @@ use options::MultigridOptions;
 use refusal::Refusal;
 
 // The controls of a record, or the refusal of its bytes.
-#[derive(Drop)]
+#[derive(Clone, Copy)]
 pub enum ControlsRead {
     Read(MultigridOptions),
     Refused(Refusal),

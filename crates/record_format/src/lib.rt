@@ -1,5 +1,7 @@
 // The records of a problem file: from bytes to numbers and back. A record is a mark of two letters and what follows it, all numbers with
 // their least byte first (specs/Format.antt). Bytes that are no such record are refused by 32, and nothing is written. An output that is too short for a record is refused by 9 (specs/Writing.antt).
+#![tactic(auto)]
+
 pub mod bytes;
 pub mod controls;
 pub mod marks;

@@ -6,7 +6,7 @@ ghost use Rattle.record_format.specs.Format.{marked};
 use crate::bytes::byte_at;
 
 // CO, MX, FW, UP, SO.
-#[derive(Drop)]
+#[derive(Clone, Copy)]
 pub enum Mark {
     Controls,
     Matrix,

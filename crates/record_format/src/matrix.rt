@@ -9,14 +9,14 @@ use crate::marks::{Mark, is_marked};
 use refusal::Refusal;
 
 // The rows and entries of a matrix.
-#[derive(Drop)]
+#[derive(Clone, Copy)]
 pub struct MatrixSizes {
     pub rows: u64,
     pub entries: u64,
 }
 
 // The sizes of a matrix that was read, or the refusal of its bytes.
-#[derive(Drop)]
+#[derive(Clone, Copy)]
 pub enum MatrixRead {
     Read(MatrixSizes),
     Refused(Refusal),

@@ -10,7 +10,7 @@ use refusal::Refusal;
 use solver::LinearSolverOptions;
 
 // The tolerances and the limit of a solve that was read, or the refusal of its bytes.
-#[derive(Drop)]
+#[derive(Clone, Copy)]
 pub enum ProblemRead {
     Read(LinearSolverOptions),
     Refused(Refusal),

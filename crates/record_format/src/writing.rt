@@ -15,7 +15,7 @@ use refusal::{Refusal, Verdict};
 use solver::LinearSolverOptions;
 
 // How many bytes a record has that was written, or its refusal.
-#[derive(Drop)]
+#[derive(Clone, Copy)]
 pub enum RecordWritten {
     Bytes(usize),
     Refused(Refusal),

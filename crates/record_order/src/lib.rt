@@ -1,5 +1,7 @@
 // The order of records in a problem file, as a state by value: what has come, what may come next, and what is to be done with the bytes
 // that have been read of a record.
+#![tactic(auto)]
+
 ghost use Rattle.std.specs.Prelude.{◌≡◌, cond, leb};
 ghost use Rattle.record_format.specs.Bytes.{u32_at};
 ghost use Rattle.record_format.specs.Format.{sizes_ok, matrix_length, values_length, solve_length};
@@ -10,7 +12,7 @@ use record_format::{Mark, is_marked};
 use refusal::Refusal;
 
 // Which records have come, and the sizes of the matrix among them. `calls` says that an UP or an SO has come, so that the build is made.
-#[derive(Drop)]
+#[derive(Clone, Copy)]
 pub struct Came {
     pub controls: bool,
     pub matrix: bool,
@@ -21,14 +23,14 @@ pub struct Came {
 }
 
 // The mark that bytes start with.
-#[derive(Drop)]
+#[derive(Clone, Copy)]
 pub enum Named {
     Known(Mark),
     Unknown,
 }
 
 // What is to be done next: read so many bytes more, act on a whole record, or refuse.
-#[derive(Drop)]
+#[derive(Clone, Copy)]
 pub enum Next {
     Read(usize),
     Whole(Mark),
@@ -36,7 +38,7 @@ pub enum Next {
 }
 
 // What the end of the input asks for.
-#[derive(Drop)]
+#[derive(Clone, Copy)]
 pub enum Ending {
     Build,
     Done,

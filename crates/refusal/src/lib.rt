@@ -1,10 +1,11 @@
 // What a call answers where it refuses: the first of document 01's questions that failed, and where it failed.
+#![tactic(auto)]
 
 ghost use Rattle.std.specs.Prelude.{◌≡◌};
 ghost use Rattle.refusal.specs.Outcome.{is_refused};
 
 // The question's number, and the level and row where it failed; both are zero where the question names no place.
-#[derive(Drop)]
+#[derive(Clone, Copy)]
 pub struct Refusal {
     pub number: u64,
     pub level: u64,
@@ -12,7 +13,7 @@ pub struct Refusal {
 }
 
 // The answer of a function that only asks questions.
-#[derive(Drop)]
+#[derive(Clone, Copy)]
 pub enum Verdict {
     Passed,
     Refused(Refusal),

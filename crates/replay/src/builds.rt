@@ -23,7 +23,7 @@ fn told(built: Built) -> Answer {
 }
 
 // Whether something is as the list has it, and where the next number stands.
-#[derive(Drop)]
+#[derive(Clone, Copy)]
 struct Agreed {
     same: bool,
     next: usize,

@@ -2,6 +2,8 @@
 //
 // `stdin` is the list of builds that `compare/run --list 8` writes: compare/README.md says what it draws, and
 // compare/src/build/list.rs what stands where.
+#![tactic(auto)]
+
 mod builds;
 
 fn main() {

@@ -1,5 +1,7 @@
 // The lines in which document 01 tells a solve: levels and rows, the report, the solution, the statistics; and the refusal of a call.
 // Floats are written by their bits. Statistics are numbers, five to a record.
+#![tactic(auto)]
+
 use libc::STDOUT_FILENO;
 use options::Handle;
 use refusal::Refusal;

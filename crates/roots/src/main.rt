@@ -5,6 +5,8 @@
 // agree with the machine's own square root. First come the three roots that are also proved below; then special values
 // and boundaries; subnormals with each count of leading zeros; squares; 110 arguments whose roots are nearest of all to
 // half-way between two f64 (E with r * r = E * 2^54 + c, for an odd r of 54 digits and the smallest c); random values.
+#![tactic(auto)]
+
 ghost use Rattle.std.specs.Prelude.{◌≡◌, ◌+◌, ◌/◌, ◌≤◌, length};
 ghost use Rattle.roots.specs.Replay.{digit_of, word_of, differs_of, differences_of};
 

@@ -3,6 +3,8 @@
 //
 // `stdin` is the list of sequences that `compare/run --list-sequences 8` writes: compare/README.md says what it draws, and
 // compare/src/sequence/list.rs what stands where.
+#![tactic(auto)]
+
 mod outcomes;
 mod recall;
 mod sequence;

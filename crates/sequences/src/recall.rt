@@ -8,7 +8,7 @@ mod updating;
 // Whether a call answers as the list has it, where the next one stands, and the kind of its answer. Kinds below 64 are updates: each
 // question has two, on the finest level and below it, and no question is accepted. Then come solves: 64 converged at once, 65
 // converged, 66 the iterations used up, and more by the question's number.
-#[derive(Drop)]
+#[derive(Clone, Copy)]
 pub struct Agreed {
     pub same: bool,
     pub next: usize,

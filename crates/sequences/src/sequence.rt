@@ -5,7 +5,7 @@ use options::Handle;
 use solver::Built;
 
 // How many calls were made, and how often something differs.
-#[derive(Drop)]
+#[derive(Clone, Copy)]
 struct Tally {
     calls: u64,
     differences: u64,

@@ -1,5 +1,7 @@
 // Document 01's small press: the matrix 4, -2; -2, 2 with the right-hand side 2, 0, solved from zero. It writes the levels and rows, the
 // report, the solution and the statistics, floats by their bits. The statistics are held as numbers, five to a record.
+#![tactic(auto)]
+
 use lists::calls;
 use options::{
     Handle, MultigridCoarseSolver, MultigridOptions, MultigridResidualNorm, MultigridSmoother,

@@ -1,4 +1,6 @@
 // `smooth` of smoother.rs: the sweeps of a smoother, and question 25.
+#![tactic(auto)]
+
 ghost use Rattle.std.specs.Prelude.{◌≡◌, ◌+◌, ◌*◌, ◌≤◌, length};
 ghost use Rattle.store.specs.Region.{part};
 ghost use Rattle.matrix.specs.Kernel.{kernel_at};
@@ -11,7 +13,7 @@ use options::MultigridSmoother;
 use refusal::Verdict;
 
 // Where the vectors of a level stand in the floats: right-hand side, x, work, which also holds the residual, correction and product.
-#[derive(Drop)]
+#[derive(Clone, Copy)]
 pub struct LevelScratch {
     pub rhs: usize,
     pub x: usize,

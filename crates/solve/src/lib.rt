@@ -1,4 +1,6 @@
 // mod.rs: the solve in lent stores: its input, its iterations on copies, and what it leaves.
+#![tactic(auto)]
+
 ghost use Rattle.std.specs.Prelude.{◌≡◌, length};
 ghost use Rattle.solve.specs.Solved.{solved_at};
 ghost use Rattle.solve.specs.Contract.{uncounted_run, refused_run, empty_run, SolveDone};

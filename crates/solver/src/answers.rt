@@ -4,35 +4,35 @@ use options::Handle;
 use refusal::Refusal;
 
 // The handle of a hierarchy, or the refusal of its build.
-#[derive(Drop)]
+#[derive(Clone, Copy)]
 pub enum Built {
     Made(Handle),
     Refused(Refusal),
 }
 
 // That an update is done, or its refusal.
-#[derive(Drop)]
+#[derive(Clone, Copy)]
 pub enum Updated {
     Done,
     Refused(Refusal),
 }
 
 // The report of a solve, or its refusal.
-#[derive(Drop)]
+#[derive(Clone, Copy)]
 pub enum Solved {
     Report(LinearSolveReport),
     Refused(Refusal),
 }
 
 // How many levels have statistics, or the refusal.
-#[derive(Drop)]
+#[derive(Clone, Copy)]
 pub enum Counted {
     Levels(u64),
     Refused(Refusal),
 }
 
 // What a build gives its call: its answer, and the rows of each level, zeros behind them and where it is refused.
-#[derive(Drop)]
+#[derive(Clone, Copy)]
 pub struct BuildRun {
     pub answer: Built,
     pub cells: [u64; 128],
@@ -40,7 +40,7 @@ pub struct BuildRun {
 
 // What a solve gives its call: its answer, on how many levels it counted (none where it is refused), and what it counted there, four
 // numbers to a level.
-#[derive(Drop)]
+#[derive(Clone, Copy)]
 pub struct SolveRun {
     pub answer: Solved,
     pub levels: u64,

@@ -1,4 +1,6 @@
 // The types of a solve and what the calls answer: controls, report, and the `Result`s of mod.rs.
+#![tactic(auto)]
+
 pub mod answers;
 pub mod solver;
 pub mod statistics;

@@ -3,7 +3,7 @@ ghost use Rattle.std.specs.Prelude.{◌≡◌};
 ghost use Rattle.solver.specs.Solver.{default_solver, converged_of, threshold_of, relative_of, report_of};
 
 // When a solve stops.
-#[derive(Drop)]
+#[derive(Clone, Copy)]
 pub struct LinearSolverOptions {
     pub absolute_tolerance: f64,
     pub relative_tolerance: f64,
@@ -23,14 +23,14 @@ impl LinearSolverOptions {
 }
 
 // Whether the residual became small enough, or the iterations were used up.
-#[derive(Drop)]
+#[derive(Clone, Copy)]
 pub enum LinearSolverStatus {
     Converged,
     MaxIterations,
 }
 
 // What an accepted solve reports.
-#[derive(Drop)]
+#[derive(Clone, Copy)]
 pub struct LinearSolveReport {
     pub status: LinearSolverStatus,
     pub iterations: u64,

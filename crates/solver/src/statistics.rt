@@ -6,7 +6,7 @@ ghost use Rattle.solver.specs.Updates.{add_visits, add_pre_sweeps, add_post_swee
 // Rows of the level; how often a cycle came to it; the sweeps made on it before the correction of a visit and after it, which the Rust counts
 // in one number; the iterations of its coarse solver.
 #[repr(C)]
-#[derive(Drop)]
+#[derive(Clone, Copy)]
 pub struct MultigridLevelStatistics {
     pub cells: u64,
     pub visits: u64,

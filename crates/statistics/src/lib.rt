@@ -1,4 +1,6 @@
 // The records of statistics that a caller lends: read, written anew by a build, and counted up by a solve.
+#![tactic(auto)]
+
 ghost use Rattle.std.specs.Prelude.{◌≡◌, ◌<◌, length, get_or};
 ghost use Rattle.solver.specs.Statistics.{unvisited};
 ghost use Rattle.statistics.specs.Contract.{PublishDone, CountOk, CountDone};

@@ -1,4 +1,6 @@
 // Lent stores: indices, fills, copies and single floats; and the laws of loops and regions that every other crate cites.
+#![tactic(auto)]
+
 pub mod held;
 pub mod store;
 

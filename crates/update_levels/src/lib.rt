@@ -1,4 +1,6 @@
 // New numbers for each level in turn: question 11, one level, the loop over the levels.
+#![tactic(auto)]
+
 pub mod diagonals;
 pub mod level;
 pub mod levels;

@@ -1,4 +1,6 @@
 // Dot product, norm and finiteness of a region of the store.
+#![tactic(auto)]
+
 pub mod finite;
 pub mod vector;
 

@@ -7,7 +7,7 @@ ghost use Rattle.vector.specs.Dot.{block_of, dot_of, product_of, norm_of};
 ghost use Rattle.vector.specs.Turns.{blocks_of, block_turn};
 
 // What a reduction gives: the source's `Ok(value)`, or its refusal of a value that is not finite.
-#[derive(Drop)]
+#[derive(Clone, Copy)]
 pub enum Product {
     Finite(f64),
     NotFinite,
@@ -47,7 +47,7 @@ fn least(a: usize, b: usize) -> usize
 }
 
 // Two block sums.
-#[derive(Drop)]
+#[derive(Clone, Copy)]
 struct Sums {
     first: f64,
     second: f64,

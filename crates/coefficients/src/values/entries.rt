@@ -9,7 +9,7 @@ use matrix::SymmetricMatrix;
 use refusal::{Refusal, Verdict};
 
 // Where an image lies: its values in the floats; in the words the entry of each row's diagonal and of each face.
-#[derive(Drop)]
+#[derive(Clone, Copy)]
 pub struct Entries {
     pub entries: usize,
     pub diagonals: usize,

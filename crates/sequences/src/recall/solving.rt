@@ -5,7 +5,7 @@ use options::Handle;
 use solver::{LinearSolverOptions, LinearSolverStatus, Solved};
 
 // How much of right-hand side and start a solve gets, its controls, and where its answer starts in the text.
-#[derive(Drop)]
+#[derive(Clone, Copy)]
 struct SolveCall {
     rhs: usize,
     start: usize,
@@ -14,7 +14,7 @@ struct SolveCall {
 }
 
 // The controls of a solve, and where its answer starts.
-#[derive(Drop)]
+#[derive(Clone, Copy)]
 struct Controls {
     options: LinearSolverOptions,
     next: usize,
@@ -52,7 +52,7 @@ fn read_solve(text: &[u8], at: usize, rhs: &mut [f64], x: &mut [f64]) -> SolveCa
 
 // What a solve answers: zero or the number of the question that refuses; then, zeros where it is refused, 0 where it converged and 1
 // where the iterations are used up, the iterations, and the bits of the residuals.
-#[derive(Drop)]
+#[derive(Clone, Copy)]
 struct SolveAnswer {
     number: u64,
     status: u64,
@@ -131,7 +131,7 @@ fn solve_kind(a: SolveAnswer) -> usize {
 }
 
 // The checksums of solution and statistics after a solve.
-#[derive(Drop)]
+#[derive(Clone, Copy)]
 struct After {
     solution: u64,
     statistics: u64,

@@ -5,7 +5,7 @@ use options::Handle;
 use solver::Updated;
 
 // How much of each array an update gets, and where its answer starts in the text.
-#[derive(Drop)]
+#[derive(Clone, Copy)]
 struct UpdateCall {
     offsets: usize,
     columns: usize,
@@ -36,7 +36,7 @@ fn read_update(
 }
 
 // What an update answers: zero or the number of the question that refuses, its level and its row.
-#[derive(Drop)]
+#[derive(Clone, Copy)]
 struct UpdateAnswer {
     number: u64,
     level: u64,

@@ -7,8 +7,8 @@ use Rattle.float.proofs.float.Sign.{abs_is, abs_bits, abs_of_nan}
 use Rattle.float.proofs.float.abs.Goals as goal
 
 -- An argument is a value that an f64 holds.
-held : (c : tie.Start) → T (fits binary64 c.args.x)
-held c = subst T (sym c.well-formed.0.1) tt
+held : (c : goal.Else-x) → T (fits binary64 c.args.x)
+held c = subst T (sym c.well_formed.0.1) tt
 
 pub returns-then-x : goal.returns-then-x
 returns-then-x c = abs_of_nan c.args.x (is_nan_lem c.args.x c.if-x.true)

@@ -1,9 +1,9 @@
 -- `root::root` meets its contract: the loop keeps `Digits`, and the turns left fall.
-use mathlib.Core.Logic.{inl, inr}
-use Prim.Native.Nat.{◌-◌, ◌<◌}
+use Prim.Native.Nat.{◌<◌}
 use native.Mathlib.Omega.{arith}
 use Rattle.float.proofs.root.Digit.{start, bounded, one, none, floor, same}
 use Rattle.float.proofs.root.root.Goals as goal
+use Rattle.float.proofs.root.root.Goals.{then-step-rest, else-step-rest}
 
 pub loop-i-init : goal.loop-i-init
 loop-i-init c = start c.args.m c.requires
@@ -31,8 +31,8 @@ loop-i-preserved c =
     let at = c.loop-i.invariant in
     let on : c.loop-i.i < 54 = omega arith in
     elim c.if-step-rest.branch [
-      | inl w ↦ same w.1 w.2 (one at on w.0.taken)
-      | inr w ↦ same w.1 w.2 (none at on w.0.left)
+      | then-step-rest w ↦ same w.root-is w.rest-is (one at on w.if-step-rest.true)
+      | else-step-rest w ↦ same w.root-is w.rest-is (none at on w.if-step-rest.false)
     ]
 
 pub returns : goal.returns
