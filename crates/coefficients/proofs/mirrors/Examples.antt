@@ -4,8 +4,8 @@ use mathlib.Core.Path.{◌≡◌, refl}
 use mathlib.Core.Bool.{true, false}
 use mathlib.Core.List.{List, [], ◌∷◌, map}
 use Prim.Native.Nat.{ℕ}
-use lib.Ieee.{Float, binary64, of_bits, neg, sub, le}
-use Rattle.float.specs.Float.{zero64, is_finite, abs_of}
+use lib.Ieee.{Float, binary64, of_bits, sub, le}
+use Rattle.float.specs.Float.{is_finite, abs_of}
 use Rattle.store.specs.Vector.{each}
 use Rattle.matrix.proofs.matrix.Examples.{two, minus_two, four}
 use Rattle.coefficients.specs.Mirrors.{pair_agrees, mirrors_agree}

@@ -1,10 +1,10 @@
 -- The first walk: each coarse row's columns, as its entries are met, one row after the other.
 -- Assumes nothing.
 use mathlib.Core.Path.{◌≡◌, refl, sym, ap, ◌∙◌, subst, fun_ext}
-use mathlib.Core.Bool.{Bool, true, false, cond, ◌&&◌, ◌||◌, or-true, or_false}
+use mathlib.Core.Bool.{Bool, true, false, cond, ◌&&◌, ◌||◌, or-true, or-false}
 use mathlib.Core.List.{List}
 use mathlib.Core.Logic.{⊎_elim}
-use Prim.Native.Nat.{ℕ, zero, suc, ◌+◌, ◌≤◌, ◌<◌}
+use Prim.Native.Nat.{ℕ, suc, ◌+◌, ◌≤◌, ◌<◌}
 use native.Mathlib.Numerals.{add-one}
 use native.Mathlib.Nat.{add_assoc, add-zero}
 use native.Mathlib.Omega.{arith}
@@ -65,7 +65,7 @@ module _ {w z : List ℕ} {base n lo hi : ℕ} {t : ℕ → Bool} (l : Listed w 
 more : (t : ℕ → Bool) (b : ℕ) → t b ≡ true → (λ d. t d || eqb b d) ≡ t
 more t b f = fun_ext (λ d. ⊎_elim
     (λ (v : (b ≡ d) × (eqb b d ≡ true)). rw v.1 (or-true (t d) ∙ sym f ∙ ap t v.0))
-    (λ (v : (b ≡ d → ⊥) × (eqb b d ≡ false)). rw v.1 (or_false (t d)))
+    (λ (v : (b ≡ d → ⊥) × (eqb b d ≡ false)). rw v.1 (or-false (t d)))
     (same? b d))
 
 module _ {w : List ℕ} {c : Coarsening} {p : Pattern} {map : List ℕ} {a r b : ℕ} {t : ℕ → Bool}
@@ -122,7 +122,7 @@ module _ {w : List ℕ} {c : Coarsening} {p : Pattern} {map : List ℕ} {a r b :
             (eq-eqb (a + 1) (a + 1) refl ∙ sym (or-true (t b))))
             (λ (v : (b ≡ d → ⊥) × (eqb b d ≡ false)). rw
             (v.1, other (marks c + d) (λ q. v.0 (omega arith)) (λ q. omega arith))
-            (s.stamps d i ∙ sym (or_false (t d))))
+            (s.stamps d i ∙ sym (or-false (t d))))
             (same? b d);
         older = λ d i. ⊎_elim
             (λ (v : (b ≡ d) × (eqb b d ≡ true)). rw (← v.0, marked) (omega arith))

@@ -1,7 +1,7 @@
 -- Laws of numbers below a bound: whether some pass a test, how many do, and sums.
 -- Assumes nothing.
 use mathlib.Core.Path.{◌≡◌, refl, sym, ◌∙◌}
-use mathlib.Core.Bool.{Bool, true, false, cond, ◌||◌, or-true, or_false}
+use mathlib.Core.Bool.{Bool, true, false, cond, ◌||◌, or-true, or-false}
 use mathlib.Core.Logic.{◌⊎◌, inl, inr, ⊎_elim}
 use Prim.Native.Nat.{ℕ, zero, suc, ◌+◌, ◌-◌, ◌≤◌, ◌<◌}
 use native.Mathlib.Omega.{arith}
@@ -180,11 +180,11 @@ many_more p b (suc n) f h = ⊎_elim
     rw (e, f, eq-eqb b b refl) (omega (
       arith,
       many_same (λ d. p d || eqb b d) p b
-          (λ k l. rw (ne_eqb b k (λ q. omega arith)) (or_false (p k))),
+          (λ k l. rw (ne_eqb b k (λ q. omega arith)) (or-false (p k))),
     )))
     (λ (w : b < n).
     let z = many_more p b n f w in
-    rw (ne_eqb b n (λ q. omega arith), or_false (p n)) (omega arith))
+    rw (ne_eqb b n (λ q. omega arith), or-false (p n)) (omega arith))
     (le_or_lt n b)
 
 -- At most one number is a.

@@ -8,4 +8,4 @@ returns-in-Finite c = search (norm_yes)
 pub returns-in-NotFinite : goal.returns-in-NotFinite
 returns-in-NotFinite c =
     let at-dot = c in
-    norm_no _ _ at-dot.dot.ensures c.enum_told-1.given.1
+    norm_no _ _ at-dot.dot.ensures c.in-NotFinite.is

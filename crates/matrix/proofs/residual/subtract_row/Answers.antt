@@ -1,0 +1,14 @@
+-- `residual::subtract_row` meets its contract.
+use Rattle.matrix.proofs.matrix.Turns.{row_faces_lem, rowed}
+use Rattle.matrix.proofs.residual.subtract_row.Goals as goal
+
+pub subtract_faces-owner-requires : goal.subtract_faces-owner-requires
+subtract_faces-owner-requires c =
+    let start = c in
+    record { vectors_ok = start.requires.vectors_ok; row_lt_rows = start.requires.row_lt_rows; hi_bound = row_faces_lem start.requires.vectors_ok.kernel start.requires.row_lt_rows c.wide-hi.ensures }
+
+pub returns : goal.returns
+returns c =
+    let at_wide = c in
+    let start = at_wide in
+    rowed start.requires.lo_value at_wide.wide-hi.ensures c.subtract_faces-owner.ensures
