@@ -1,12 +1,11 @@
 -- Fields as document 02 has them, read by the definition. Assumes nothing.
 use mathlib.Core.Bool.{Bool, true, false, ◌&&◌}
-use mathlib.Core.List.{List, [], ◌∷◌}
+use mathlib.Core.List.{[], ◌∷◌}
 use Prim.Native.Nat.{ℕ}
 use lib.Dec.{T, eqb}
 use lib.Ieee.{binary64, to_bits, round, neg}
 use Rattle.decimal_text.specs.declared.field.Reading.{Reading}
 use Rattle.decimal_text.specs.Field.{all_digits, number_from, place_of, value_in}
-use Rattle.decimal_text.specs.Figures.{figures_of, number_text}
 
 abbrev is_value : Reading → ℕ → Bool
 is_value (Reading.Value x) bits = eqb (to_bits binary64 x) bits

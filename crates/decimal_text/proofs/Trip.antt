@@ -1,45 +1,24 @@
 -- What is written is read as it was: digits, a number with its sign and power, and a value. Assumes nothing.
-use mathlib.Core.Path.{◌≡◌, refl, sym, ap, ◌∙◌, subst}
+use mathlib.Core.Path.{◌≡◌, refl, sym, ap, ◌∙◌}
 use mathlib.Core.Bool.{Bool, true, false, not, cond, ◌&&◌, ◌||◌, false≢true}
 use mathlib.Core.List.{List, [], ◌∷◌, ◌++◌, append-nil}
 use mathlib.Core.Logic.{◌⊎◌, inl, inr, ⊎_elim}
 use Prim.Native.Nat.{ℕ, zero, suc, ◌+◌, ◌-◌, ◌*◌, ◌/◌, ◌%◌, ◌^◌, ◌≤◌, ◌<◌}
 use native.Mathlib.Nat.{suc-add}
 use native.Mathlib.Omega.{arith}
-use lib.Dec.{T, eqb, ltb, leb}
+use lib.Dec.{eqb, ltb, leb}
 use lib.ListN.{length, take, drop, get_or, length-append, drop_of_length-le}
 use lib.Seq.{take-append_seam, drop-append-add, take_all}
-use lib.Ieee.{Float, binary64, fits, eq}
-use borrow.Author.Tests.{lt-ltb, le-ltb, le-leb, leb-true, eqb-true, eq-eqb, ne_eqb}
+use lib.Ieee.{Float, eq}
+use borrow.Author.Tests.{lt-ltb, le-ltb, leb-true, ne_eqb}
 use Rattle.store.proofs.store.Region.{le_or_lt}
 use Rattle.store.proofs.store.Each.{both_l, both_r}
 use Rattle.decimal.specs.declared.Written.{Written}
-use Rattle.decimal.specs.Decimal.{value_of, plus, signed_of, is_minus, magnitude_of, write_of}
+use Rattle.decimal.specs.Decimal.{value_of, signed_of, is_minus, magnitude_of, write_of}
 use Rattle.decimal.proofs.Laws.{write_nearest}
 use Rattle.decimal.proofs.Signs.{signed_trip}
 use Rattle.decimal_text.specs.declared.field.Reading.{Reading}
-use Rattle.decimal_text.specs.Field.{
-  is_digit,
-  all_digits,
-  number_from,
-  number_of,
-  is_number,
-  place_of,
-  starts_minus,
-  sign_of,
-  unsigned,
-  head_of,
-  has_power,
-  power_of,
-  whole_of,
-  fraction_of,
-  both_of,
-  pick_reading,
-  scaled_of,
-  shifted_of,
-  form_of,
-  value_in,
-}
+use Rattle.decimal_text.specs.Field.{is_digit, all_digits, number_from, number_of, is_number, place_of, starts_minus, sign_of, unsigned, head_of, has_power, power_of, whole_of, fraction_of, both_of, pick_reading, shifted_of, form_of, value_in}
 use Rattle.decimal_text.specs.Figures.{figures_of, figures, sign_text, power_text, number_text, text_of, value_text}
 use Rattle.decimal_text.proofs.Digits.{is_digit_lem, digits_append, number_append}
 use Rattle.decimal_text.proofs.Value.{scaled_in}

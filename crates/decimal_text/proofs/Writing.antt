@@ -1,22 +1,21 @@
 -- Text that is written piece after piece, and the digits of a number. Assumes nothing.
 use mathlib.Core.Path.{◌≡◌, refl, sym, ap, ◌∙◌, subst}
-use mathlib.Core.Bool.{Bool, true, false, cond, ◌&&◌}
-use mathlib.Core.List.{List, [], ◌∷◌, ◌++◌, append_assoc, append-nil}
-use mathlib.Core.Logic.{◌⊎◌, inl, inr, ⊎_elim}
-use Prim.Native.Nat.{ℕ, zero, suc, ◌+◌, ◌-◌, ◌*◌, ◌/◌, ◌%◌, ◌^◌, ◌≤◌, ◌<◌}
-use native.Mathlib.Nat.{zero-add, suc-add, add-zero, add_assoc}
+use mathlib.Core.Bool.{Bool, true, false, cond}
+use mathlib.Core.List.{List, [], ◌∷◌, ◌++◌, append_assoc}
+use Prim.Native.Nat.{ℕ, zero, suc, ◌+◌, ◌*◌, ◌/◌, ◌%◌, ◌^◌, ◌≤◌, ◌<◌}
+use native.Mathlib.Nat.{zero-add, suc-add}
 use native.Mathlib.Omega.{arith}
-use lib.Dec.{eqb, ltb}
-use lib.ListN.{length, get_or, set, length-append}
+use lib.Dec.{ltb}
+use lib.ListN.{length, set, length-append}
 use lib.Seq.{set_out}
 use lib.Ieee.{Float}
 use borrow.Author.Tests.{lt-ltb, le-ltb, eq-eqb, ne_eqb}
 use Rattle.store.specs.Region.{lay, splice}
-use Rattle.store.proofs.store.Region.{le_or_lt, splice_nil}
+use Rattle.store.proofs.store.Region.{splice_nil}
 use Rattle.decimal.specs.declared.Written.{Written}
 use Rattle.decimal.specs.Decimal.{is_minus, magnitude_of, write_of}
 use Rattle.decimal_text.specs.declared.figures.Placed.{Placed}
-use Rattle.decimal_text.specs.Figures.{figures_of, figures, sign_text, power_text, number_text, text_of, value_text}
+use Rattle.decimal_text.specs.Figures.{figures_of, figures, sign_text, power_text, number_text, text_of}
 use Rattle.decimal_text.specs.Contract.{Laid, placed_of, PlacedValue}
 
 -- ---- one text behind another

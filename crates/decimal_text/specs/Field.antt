@@ -1,5 +1,5 @@
 -- What a field of bytes says: digits, and a value with its sign, point and power of ten. Definitions only.
-use Rattle.std.specs.Prelude.{Bool, true, false, not, cond, ◌&&◌, ◌||◌, List, [], ◌∷◌, ◌++◌, ℕ, zero, suc, ◌+◌, ◌-◌, ◌*◌, ◌^◌, min, eqb, ltb, leb, length, take, drop, get_or}
+use Rattle.std.specs.Prelude.{Bool, true, false, not, cond, ◌&&◌, ◌||◌, List, [], ◌∷◌, ◌++◌, ℕ, suc, ◌+◌, ◌-◌, ◌*◌, ◌^◌, min, eqb, ltb, leb, length, take, drop, get_or}
 use Rattle.decimal.specs.Decimal.{value_of, signed_of}
 use Rattle.decimal_text.specs.declared.field.Digits.{Digits}
 use Rattle.decimal_text.specs.declared.field.Mantissa.{Mantissa}

@@ -1,5 +1,5 @@
 -- How numbers and values are written. Definitions only.
-use Rattle.std.specs.Prelude.{Bool, true, false, cond, List, [], ◌∷◌, ◌++◌, ℕ, zero, suc, ◌+◌, ◌/◌, ◌%◌, eqb, ltb, Float}
+use Rattle.std.specs.Prelude.{Bool, cond, List, [], ◌∷◌, ◌++◌, ℕ, zero, suc, ◌+◌, ◌/◌, ◌%◌, eqb, ltb, Float}
 use Rattle.decimal.specs.declared.Written.{Written}
 use Rattle.decimal.specs.Decimal.{write_of, is_minus, magnitude_of}
 

@@ -1,19 +1,19 @@
 -- The lines of a text that count, one after the other. Assumes nothing.
-use mathlib.Core.Path.{◌≡◌, refl, sym, ap, ◌∙◌, subst}
-use mathlib.Core.Bool.{Bool, true, false, cond, ◌&&◌, ◌||◌}
+use mathlib.Core.Path.{◌≡◌, refl, sym, ap, ◌∙◌}
+use mathlib.Core.Bool.{Bool, true, false, cond}
 use mathlib.Core.List.{List, [], ◌∷◌, map}
-use mathlib.Core.Logic.{◌⊎◌, inl, inr, ⊎_elim}
-use Prim.Native.Nat.{ℕ, zero, suc, ◌+◌, ◌-◌, ◌≤◌, ◌<◌, min}
+use mathlib.Core.Logic.{⊎_elim}
+use Prim.Native.Nat.{ℕ, ◌+◌, ◌-◌, ◌≤◌, ◌<◌, min}
 use native.Mathlib.Omega.{arith}
-use lib.Dec.{eqb, ltb}
-use lib.ListN.{length, take, drop, get_or, length-drop, length-take, drop_of_length-le}
+use lib.Dec.{eqb}
+use lib.ListN.{length, take, drop, get_or, length-drop, drop_of_length-le}
 use lib.Seq.{take_all, take-take, drop-drop, length-take-le}
 use borrow.Author.Tests.{eq-eqb, ne_eqb}
 use Rattle.store.proofs.store.Region.{le_or_lt}
 use Rattle.decimal_text.specs.Field.{place_of}
 use Rattle.decimal_text.proofs.Digits.{place_within, tail_part}
 use Rattle.matrix_market.specs.declared.lines.Line.{Line}
-use Rattle.matrix_market.specs.Lines.{pieces_of, kept, return_of, without_return, lines_of, first_of, first_line, is_data, data_of}
+use Rattle.matrix_market.specs.Lines.{pieces_of, kept, return_of, without_return, first_of, is_data, data_of}
 use Rattle.matrix_market.specs.Walk.{FirstLine, LineAt, NextLine}
 use Rattle.matrix_market.proofs.Pieces.{pieces_last, pieces_next}
 

@@ -1,17 +1,14 @@
 -- The steps of reading an entry with its places. Assumes nothing.
 use mathlib.Core.Path.{◌≡◌, refl, sym, ap, ◌∙◌}
-use mathlib.Core.Bool.{Bool, true, false, cond, ◌&&◌, true≢false}
+use mathlib.Core.Bool.{Bool, true, false, ◌&&◌, true≢false}
 use mathlib.Core.List.{List, [], ◌∷◌}
-use Prim.Native.Nat.{ℕ, zero, suc, ◌-◌, ◌^◌, ◌≤◌, ◌<◌, min}
-use native.Mathlib.Omega.{arith}
-use lib.Dec.{eqb, ltb, leb}
+use Prim.Native.Nat.{ℕ, ◌-◌}
+use lib.Dec.{eqb, ltb}
 use lib.Ieee.{Float}
 use lib.ListN.{length}
-use borrow.Author.Tests.{lt-leb, le-leb, eq-eqb, ne_eqb}
-use Rattle.decimal_text.specs.declared.field.Digits.{Digits}
+use borrow.Author.Tests.{eq-eqb, ne_eqb}
 use Rattle.decimal_text.specs.declared.field.Reading.{Reading}
-use Rattle.decimal_text.specs.Field.{is_number, number_of, number_in, value_in}
-use Rattle.decimal_text.proofs.Value.{picked_none, picked_some}
+use Rattle.decimal_text.specs.Field.{value_in}
 use Rattle.matrix_market.specs.declared.placed.Placed.{Placed}
 use Rattle.matrix_market.specs.declared.lines.Three.{Three}
 use Rattle.matrix_market.specs.Lines.{fields_of}

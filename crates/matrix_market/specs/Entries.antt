@@ -1,5 +1,5 @@
 -- One entry of a file: what its line says. Definitions only.
-use Rattle.std.specs.Prelude.{Bool, true, false, not, cond, ◌&&◌, ◌||◌, List, [], ◌∷◌, ℕ, ◌-◌, eqb, ltb, leb}
+use Rattle.std.specs.Prelude.{Bool, true, false, cond, ◌&&◌, List, [], ◌∷◌, ℕ, ◌-◌, eqb, ltb, leb}
 use Rattle.decimal_text.specs.declared.field.Reading.{Reading}
 use Rattle.decimal_text.specs.Field.{is_number, number_of, value_in}
 use Rattle.matrix_market.specs.declared.entries.Parsed.{Parsed}

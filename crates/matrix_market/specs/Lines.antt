@@ -1,5 +1,5 @@
 -- Lines and fields of a text, as lists of bytes. Definitions only.
-use Rattle.std.specs.Prelude.{Bool, true, false, not, cond, ◌&&◌, ◌||◌, List, [], ◌∷◌, map, ℕ, zero, suc, ◌+◌, ◌-◌, eqb, ltb, length, take, drop, get_or}
+use Rattle.std.specs.Prelude.{Bool, not, cond, ◌&&◌, ◌||◌, List, [], ◌∷◌, map, ℕ, ◌-◌, eqb, ltb, length, take, get_or}
 
 -- x before the first of some pieces
 abbrev pub grown : ℕ → List (List ℕ) → List (List ℕ)

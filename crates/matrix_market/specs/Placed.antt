@@ -1,5 +1,5 @@
 -- One entry of a file, with its places also where its value is outside the form. Definitions only.
-use Rattle.std.specs.Prelude.{Bool, true, false, not, cond, ◌&&◌, ◌||◌, List, [], ◌∷◌, ℕ, ◌-◌, eqb, ltb}
+use Rattle.std.specs.Prelude.{Bool, true, false, ◌&&◌, List, [], ◌∷◌, ℕ, ◌-◌, eqb, ltb}
 use Rattle.decimal_text.specs.declared.field.Reading.{Reading}
 use Rattle.decimal_text.specs.Field.{value_in}
 use Rattle.matrix_market.specs.declared.placed.Placed.{Placed}

@@ -1,5 +1,5 @@
 -- What functions that walk a text by places ensure. Definitions only.
-use Rattle.std.specs.Prelude.{◌≡◌, Bool, true, false, cond, ◌&&◌, ◌||◌, List, [], ◌∷◌, ℕ, zero, suc, ◌+◌, ◌-◌, ◌≤◌, ◌<◌, eqb, length, take, drop}
+use Rattle.std.specs.Prelude.{◌≡◌, true, false, cond, ◌||◌, List, [], ◌∷◌, ℕ, suc, ◌-◌, ◌≤◌, ◌<◌, eqb, length, take, drop}
 use Rattle.matrix_market.specs.declared.lines.Field.{Field}
 use Rattle.matrix_market.specs.declared.lines.Three.{Three}
 use Rattle.matrix_market.specs.declared.lines.Line.{Line}

@@ -4,10 +4,10 @@ use mathlib.Core.Path.{sym, ◌∙◌}
 use Rattle.options.proofs.options.check_controls.Goals as goal
 
 pub returns-then-not-validate : goal.returns-then-not-validate
-returns-then-not-validate c = rw (sym c.validate.ensures ∙ not-true _ c.if-not-validate.true)
+returns-then-not-validate c = rw (sym c.validate.ensures ∙ c.if-not-validate.true)
 
 pub returns-in-PcgDic : goal.returns-in-PcgDic
-returns-in-PcgDic c = rw (sym c.validate.ensures ∙ not-false _ c.if-not-validate.false, c.in-PcgDic.is)
+returns-in-PcgDic c = rw (sym c.validate.ensures ∙ c.if-not-validate.false, c.in-PcgDic.is)
 
 pub returns-in-Cholesky : goal.returns-in-Cholesky
-returns-in-Cholesky c = rw (sym c.validate.ensures ∙ not-false _ c.if-not-validate.false, c.in-Cholesky.is)
+returns-in-Cholesky c = rw (sym c.validate.ensures ∙ c.if-not-validate.false, c.in-Cholesky.is)

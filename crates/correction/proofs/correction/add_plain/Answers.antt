@@ -1,0 +1,18 @@
+-- `correction::add_plain` meets its contract. The loop's invariant: what is left to do from here gives what the whole gives.
+use mathlib.Core.Path.{refl}
+use Prim.Native.Nat.{◌-◌}
+use lib.ListN.{length, length-set}
+use Rattle.store.proofs.store.Loop.{left_start, left_on}
+use Rattle.correction.proofs.correction.Correction.{plain_step, plain_done}
+use native.Mathlib.Omega.{arith}
+use Rattle.correction.proofs.correction.add_plain.Goals as goal
+
+pub loop-row-init : goal.loop-row-init
+loop-row-init c = (refl, left_start)
+
+pub loop-row-preserved : goal.loop-row-preserved
+unfolding plain_step
+loop-row-preserved c = (simp length-set (omega arith), left_on c.loop-row.invariant.1 (omega arith) refl)
+
+pub returns : goal.returns
+returns c = search (plain_done)

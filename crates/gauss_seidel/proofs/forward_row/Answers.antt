@@ -1,0 +1,34 @@
+-- `gauss_seidel::forward_row` meets its contract.
+use mathlib.Core.Path.{refl}
+use Rattle.store.proofs.held.Single.{held_read}
+use Rattle.matrix.proofs.matrix.Turns.{row_faces_lem}
+use Rattle.gauss_seidel.proofs.Turns.{second_ok, forwarded}
+use native.Mathlib.Omega.{arith}
+use Rattle.gauss_seidel.proofs.forward_row.Goals as goal
+
+pub fresh-value-requires : goal.fresh-value-requires
+fresh-value-requires c =
+    let pair = c.requires in
+    record { vectors_ok = pair.0; row_lt_rows = pair.1.0; start_value = pair.1.1 }
+
+pub cast_faces-cast-requires : goal.cast_faces-cast-requires
+cast_faces-cast-requires c =
+    let at-wide2 = c in
+    let start = at-wide2 in
+    record { vectors_ok = second_ok start.requires.vectors_ok refl; hi_bound = row_faces_lem start.requires.vectors_ok.kernel start.requires.row_lt_rows at-wide2.wide-hi.ensures; held = held_read _ _ _ _ c.Float-at.ensures }
+
+pub put-stays-requires : goal.put-stays-requires
+put-stays-requires c =
+    record { i_in_bounds = omega arith; held = c.cast_faces-cast.ensures.held }
+
+pub held_at-requires : goal.held_at-requires
+held_at-requires c = c.put-stays.ensures.held
+
+pub returns : goal.returns
+returns c =
+    let at-put = c in
+    let at-cast-faces = at-put in
+    let at-wide2 = at-cast-faces in
+    let at_wide = at-wide2 in
+    let at-fresh = at_wide in
+    forwarded at_wide.wide-lo.ensures at-wide2.wide-hi.ensures at-fresh.fresh-value.ensures at-cast-faces.cast_faces-cast.ensures at-put.put-stays.ensures c.held_at.ensures
