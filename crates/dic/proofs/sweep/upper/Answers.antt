@@ -29,8 +29,8 @@ put-held-requires c =
     let start = at-loop in
     let a = start.args in
     let row = a.s.rows - 1 - at-loop.loop-i.i in
-    let inside : a.correction + row < length at-loop.loop-i.f-1 = omega arith in
-    record { i_in_bounds = simp length-set (omega arith); held = record { is = λ _. sym (get_or-set_same at-loop.loop-i.f-1 (a.correction + row) _ nan inside) } }
+    let inside : a.correction + row < length at-loop.loop-i.f = omega arith in
+    record { i_in_bounds = simp length-set (omega arith); held = record { is = λ _. sym (get_or-set_same at-loop.loop-i.f (a.correction + row) _ nan inside) } }
 
 pub loop-i-preserved : goal.loop-i-preserved
 loop-i-preserved c =
