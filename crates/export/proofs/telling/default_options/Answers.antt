@@ -1,15 +1,10 @@
 -- `default_options` gives the defaults as numbers; each decimal of the code is the f64 nearest to it.
--- Assumes nothing.
 use mathlib.Core.Path.{refl}
 use lib.Ieee.{round, of_bits}
 use Rattle.options.specs.Options.{default_options}
 use Rattle.export.specs.Structs.{struct_of, default_struct}
-use Rattle.export.proofs.telling.default_options.Statement.{statement}
-use Rattle.export.proofs.telling.default_options.Tie as tie
+use Rattle.export.proofs.telling.default_options.Goals as goal
 
-returns : tie.Need-returns
+pub returns : goal.returns
 unfolding default_struct struct_of default_options round of_bits
 returns c = refl
-
-pub default-options-spec : {M : Type 1} → statement M
-default-options-spec = tie.close (tie.spec returns)
