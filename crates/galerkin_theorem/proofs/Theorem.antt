@@ -9,7 +9,7 @@ use Prim.Native.Nat.{ℕ, suc, ◌^◌, ◌≤◌, ◌<◌, zero-le}
 use native.Mathlib.Omega.{arith}
 use lib.Dec.{eqb}
 use borrow.Author.Tests.{eq-eqb}
-use lib.IntN.{ℤ, pos, nat_abs, ◌+ℤ◌, +ℤ_idr}
+use lib.IntN.{ℤ, pos, nat_abs, +ℤ_idr}
 use lib.ListN.{length, set, length-set}
 use lib.Seq.{get_or-set_same, get_or-set_other}
 use lib.Ieee.{Float, nan, binary64, of_int}

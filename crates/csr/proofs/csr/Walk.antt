@@ -1,7 +1,7 @@
 -- The tests of the loops as the code has them, and what each question tells.
 -- Assumes nothing.
 use mathlib.Core.Path.{◌≡◌, refl, sym, ◌∙◌}
-use mathlib.Core.Bool.{Bool, true, false, ◌&&◌, ◌||◌, and_true, false≢true}
+use mathlib.Core.Bool.{Bool, true, false, ◌&&◌, ◌||◌, and-true, false≢true}
 use mathlib.Core.List.{List}
 use mathlib.Core.Logic.{⊎_elim}
 use Prim.Native.Nat.{ℕ, ◌+◌, ◌-◌, ◌≤◌, ◌<◌}
@@ -17,7 +17,7 @@ use Rattle.store.proofs.store.Vector.{length_tab, get_d_tab}
 use Rattle.store.proofs.store.Each.{Passed, both_l, both_r, each_at, passed_on, passed_no, each_all}
 use Rattle.pattern.specs.Pattern.{Valid}
 use Rattle.pattern.proofs.pattern.Row.{offset_mono, row_in}
-use Rattle.csr.specs.Questions.{size_ok, never_fall, offsets_ok, entry_ok, rowOk, columns_ok}
+use Rattle.csr.specs.Questions.{size_ok, never_fall, offsets_ok, entry_ok, row_ok, columns_ok}
 use Rattle.csr.specs.Contract.{Rowed}
 use Rattle.csr.specs.Turns.{step_ok, entry_from, row_at}
 
@@ -143,7 +143,7 @@ module _ (rows : ℕ) (columns : List ℕ) (last e : ℕ) where
   -- The last entry of a row is below the rows; x is its column.
   pub entry_last : (x : ℕ) → x ≡ idx columns e → last ≤ e + 1 → ltb x rows ≡ entry_ok rows columns last e
   unfolding entry_ok
-  entry_last x d h = rw (d, le-leb last (e + 1) h) (sym (and_true (ltb (idx columns e) rows)))
+  entry_last x d h = rw (d, le-leb last (e + 1) h) (sym (and-true (ltb (idx columns e) rows)))
 
   -- Any other is below the next one, too.
   pub entry_next : (x : ℕ) → x ≡ idx columns e → e + 1 < last
@@ -173,7 +173,7 @@ module _ (rows : ℕ) (offsets columns : List ℕ) where
   -- Question 3 passed: so has each entry of each row.
   pub columns_at_lem : columns_ok rows offsets columns ≡ true → (r e : ℕ) → r < rows → idx offsets r ≤ e → e < idx offsets (r + 1)
       → entry_ok rows columns (idx offsets (r + 1)) e ≡ true
-  unfolding columns_ok row_at rowOk entry_from
+  unfolding columns_ok row_at row_ok entry_from
   columns_at_lem t r e h lo hi =
       let z : idx offsets r + (e - idx offsets r) ≡ e = omega arith in
       rw z at (each_at (entry_from rows columns (idx offsets r) (idx offsets (r + 1))) (idx offsets (r + 1) - idx offsets r)
@@ -182,7 +182,7 @@ module _ (rows : ℕ) (offsets columns : List ℕ) where
   -- It passes where each entry of each row does.
   pub at_columns : ((r e : ℕ) → r < rows → idx offsets r ≤ e → e < idx offsets (r + 1) → entry_ok rows columns (idx offsets (r + 1)) e ≡ true)
       → columns_ok rows offsets columns ≡ true
-  unfolding columns_ok row_at rowOk entry_from
+  unfolding columns_ok row_at row_ok entry_from
   at_columns f = each_all (row_at rows offsets columns) rows
       (λ r h. each_all (entry_from rows columns (idx offsets r) (idx offsets (r + 1))) (idx offsets (r + 1) - idx offsets r)
       (λ k l. f r (idx offsets r + k) h (omega arith) (omega arith)))
@@ -196,12 +196,12 @@ row_ok_lem {rows} {r} o h d e = rw (d, e) (o.starts r h, o.ends r h)
 
 -- A row whose test holds passes.
 pub row_on : (offsets columns : List ℕ) {rows r a b : ℕ} {t : Bool} → Passed (row_at rows offsets columns) rows r → r < rows
-    → a ≡ idx offsets r → b ≡ idx offsets (r + 1) → t ≡ rowOk rows columns a b → t ≡ true → Passed (row_at rows offsets columns) rows (r + 1)
+    → a ≡ idx offsets r → b ≡ idx offsets (r + 1) → t ≡ row_ok rows columns a b → t ≡ true → Passed (row_at rows offsets columns) rows (r + 1)
 unfolding row_at
 row_on offsets columns p h d e t y = passed_on p h (rw (d, e) at t) y
 
 -- One whose test fails ends the walk.
 pub row_no : (rows : ℕ) (offsets columns : List ℕ) (r a b : ℕ) (t : Bool) → r < rows
-    → a ≡ idx offsets r → b ≡ idx offsets (r + 1) → t ≡ rowOk rows columns a b → t ≡ false → false ≡ columns_ok rows offsets columns
+    → a ≡ idx offsets r → b ≡ idx offsets (r + 1) → t ≡ row_ok rows columns a b → t ≡ false → false ≡ columns_ok rows offsets columns
 unfolding columns_ok row_at
 row_no rows offsets columns r a b t h d e f n = passed_no (row_at rows offsets columns) rows r t h (rw (d, e) at f) n

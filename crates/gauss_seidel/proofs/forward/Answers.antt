@@ -6,7 +6,7 @@ use borrow.Author.Rules.{rules}
 use Rattle.gauss_seidel.proofs.forward.Goals as goal
 
 pub loop-row-init : goal.loop-row-init
-loop-row-init c = sweeping_start _ _ _ c.Float-at.ensures
+loop-row-init c = sweeping_start _ _ _ c.float_at-start.ensures
 
 pub forward_row-start-requires : goal.forward_row-start-requires
 forward_row-start-requires c =

@@ -8,14 +8,13 @@ use Rattle.gauss_seidel.proofs.forward_row.Goals as goal
 
 pub fresh-value-requires : goal.fresh-value-requires
 fresh-value-requires c =
-    let pair = c.requires in
-    record { vectors_ok = pair.0; row_lt_rows = pair.1.0; start_value = pair.1.1 }
+    record { vectors_ok = c.requires.vectors_ok; row_lt_rows = c.requires.row_lt_rows; start_value = c.requires.start_value }
 
 pub cast_faces-cast-requires : goal.cast_faces-cast-requires
 cast_faces-cast-requires c =
     let at-wide2 = c in
     let start = at-wide2 in
-    record { vectors_ok = second_ok start.requires.vectors_ok refl; hi_bound = row_faces_lem start.requires.vectors_ok.kernel start.requires.row_lt_rows at-wide2.wide-hi.ensures; held = held_read _ _ _ _ c.Float-at.ensures }
+    record { vectors_ok = second_ok start.requires.vectors_ok refl; hi_bound = row_faces_lem start.requires.vectors_ok.kernel start.requires.row_lt_rows at-wide2.wide-hi.ensures; held = held_read _ _ _ _ c.float_at-held.ensures }
 
 pub put-stays-requires : goal.put-stays-requires
 put-stays-requires c =

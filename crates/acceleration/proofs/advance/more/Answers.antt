@@ -1,0 +1,20 @@
+-- `advance::more` meets its contract. The loop's invariant: what is left to do from here gives what the whole gives.
+use mathlib.Core.Path.{refl}
+use Prim.Native.Nat.{◌-◌}
+use lib.ListN.{length, length-set}
+use Rattle.store.proofs.store.Loop.{left_start, left_on}
+use Rattle.acceleration.proofs.advance.Vectors.{more_turn, more_done}
+use Rattle.acceleration.proofs.advance.more.Goals as goal
+
+pub loop-row-init : goal.loop-row-init
+loop-row-init c = (refl, left_start)
+
+pub loop-row-preserved : goal.loop-row-preserved
+unfolding more_turn
+loop-row-preserved c =
+    let at_test = c in
+    let at-loop = at_test in
+    (simp length-set at-loop.loop-row.invariant.0, left_on at-loop.loop-row.invariant.1 at_test.loop-row-test.true refl)
+
+pub returns : goal.returns
+returns c = search (more_done)

@@ -1,0 +1,9 @@
+-- `normalize::both_finite` meets its contract.
+use Rattle.acceleration.proofs.normalize.Normal.{both_yes, both_no}
+use Rattle.acceleration.proofs.normalize.both_finite.Goals as goal
+
+pub returns-then-all_finite : goal.returns-then-all_finite
+returns-then-all_finite c = search (both_yes)
+
+pub returns-else-all_finite : goal.returns-else-all_finite
+returns-else-all_finite c = search (both_no)

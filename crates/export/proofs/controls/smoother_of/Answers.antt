@@ -1,0 +1,12 @@
+-- `smoother_of` gives the smoother of a number: its tests are those of the definition.
+use borrow.Author.Tests.{eq-eqb, ne_eqb}
+use Rattle.export.proofs.controls.smoother_of.Goals as goal
+
+pub returns-then-number-eq0 : goal.returns-then-number-eq0
+returns-then-number-eq0 c = rw (eq-eqb _ 0 c.if-number-eq0.true)
+
+pub returns-then-number-eq1 : goal.returns-then-number-eq1
+returns-then-number-eq1 c = rw (ne_eqb _ 0 c.if-number-eq0.false, eq-eqb _ 1 c.if-number-eq1.true)
+
+pub returns-else-number-eq1 : goal.returns-else-number-eq1
+returns-else-number-eq1 c = rw (ne_eqb _ 0 c.if-number-eq0.false, ne_eqb _ 1 c.if-number-eq1.false)

@@ -1,0 +1,48 @@
+-- `mirrors::mirrors` meets its contract. The loop's invariant: the entries before e have their mirrors.
+use Rattle.faces.proofs.faces.Walking.{walking_seek, walking_column, mirroring_start, mirroring_entry, mirroring_room, mirroring_on, mirroring_no, mirroring_done}
+use Rattle.faces.proofs.mirrors.mirrors.Goals as goal
+
+pub loop-e-init : goal.loop-e-init
+loop-e-init c = mirroring_start c.requires
+
+pub row_from-row-requires : goal.row_from-row-requires
+row_from-row-requires c = walking_seek c.loop-e.invariant.walking c.loop-e-test.true
+
+pub index_at-column-requires : goal.index_at-column-requires
+index_at-column-requires c =
+    let pair = walking_column c.loop-e.invariant.walking
+    c.loop-e-test.true in
+    record { k_in_bounds = pair.0; k_bound = pair.1 }
+
+pub mirror_at-mirror-requires : goal.mirror_at-mirror-requires
+mirror_at-mirror-requires c = mirroring_entry c.loop-e.invariant
+    c.loop-e-test.true c.row_from-row.ensures
+    c.index_at-column.ensures.value
+
+pub push_if-face-requires : goal.push_if-face-requires
+push_if-face-requires c = mirroring_room c.loop-e.invariant
+    c.loop-e-test.true
+    c.row_from-row.ensures
+    c.index_at-column.ensures.value c.mirror_at-mirror.ensures c.if-mirror-entries.true
+
+pub loop-e-preserved : goal.loop-e-preserved
+loop-e-preserved c = mirroring_on c.loop-e.invariant c.loop-e-test.true
+    c.row_from-row.ensures
+    c.index_at-column.ensures.value
+    c.mirror_at-mirror.ensures c.if-mirror-entries.true
+    c.push_if-face.ensures
+
+pub shape_of-w-else-mirror-entries : goal.shape_of-w-else-mirror-entries
+shape_of-w-else-mirror-entries c = c.loop-e.invariant.walking.kept.size
+
+pub returns-else-mirror-entries : goal.returns-else-mirror-entries
+returns-else-mirror-entries c = mirroring_no c.loop-e.invariant
+    c.loop-e-test.true
+    c.row_from-row.ensures c.index_at-column.ensures.value
+    c.mirror_at-mirror.ensures c.if-mirror-entries.false
+
+pub shape_of-w : goal.shape_of-w
+shape_of-w c = c.loop-e.invariant.walking.kept.size
+
+pub returns : goal.returns
+returns c = mirroring_done c.loop-e.invariant c.loop-e-test.false
