@@ -1,6 +1,6 @@
 -- The row of a cell: its draws, its mirrors, and what stands then. Assumes nothing.
 use Rattle.std.proofs.Common.{◌≡◌, ℕ, zero, suc, ◌+◌, ◌-◌, ◌*◌, ◌%◌, ◌^◌, ◌<◌, ◌≤◌, min, max, Bool, true, false, cond, List, [], ◌∷◌, ◌++◌, map, length, get_or, ℤ, pos, neg_ℤ, sym, refl, ap, ◌∙◌, mod-lt, add-one, arith, length-append}
-use mathlib.Core.List.{map_append}
+use mathlib.Core.List.{map-append}
 use lib.Ieee.{Float, binary64, of_int, neg}
 use Rattle.float.specs.Float.{zero64, sub64}
 use Rattle.store.specs.Region.{at, idx}
@@ -203,7 +203,7 @@ module _ {seed : ℕ} {e : Extents} {c : Cell} {r : Reached} {offsets : List ℕ
     -- The values of the row.
     pub values_are : map (of_int binary64) (wholes_in seed m i) ≡ values_behind f b ++ (own_sum b d ∷ values_ahead f d)
     unfolding wholes_in
-    values_are = map_append (of_int binary64) (map (off_of seed m i) (m.behind i)) (pos (own_of seed m i) ∷ map (off_of seed m i) (m.ahead i))
+    values_are = map-append (of_int binary64) (map (off_of seed m i) (m.behind i)) (pos (own_of seed m i) ∷ map (off_of seed m i) (m.ahead i))
         ∙ rw (values_behind_lem, values_ahead_lem, ← own_is) refl
 
     -- The row is laid.

@@ -1,6 +1,6 @@
 -- The values of a load are whole numbers, mirrors are equal, and absolute values sum to at most 2^53. Assumes nothing.
 use Rattle.std.proofs.Common.{◌≡◌, ℕ, zero, suc, ◌+◌, ◌-◌, ◌*◌, ◌^◌, ◌<◌, ◌≤◌, Bool, true, false, cond, ◌&&◌, eqb, ltb, leb, List, [], ◌∷◌, ◌++◌, map, length, get_or, ℤ, pos, neg_ℤ, nat_abs, sym, refl, ap, ◌∙◌, subst, ap₂, ⊎_elim, suc-mul, mul-le-mul, mul-pos, mul-suc, arith, length-append, ltb-true, eq-eqb, ne_eqb, leb-true}
-use mathlib.Core.List.{map_append}
+use mathlib.Core.List.{map-append}
 use lib.ListN.{length-map, get_or-map}
 use lib.Ieee.{Float, nan, binary64, of_int}
 use Rattle.store.specs.Region.{at, idx}
@@ -55,7 +55,7 @@ module _ (seed : ℕ) (m : Grid) where
     unfolding wholes_in columns_in
     wholes_entry i h =
         rw (
-          map_append (entry_of i) (m.behind i) (i ∷ m.ahead i),
+          map-append (entry_of i) (m.behind i) (i ∷ m.ahead i),
           eq-eqb i i refl,
           map_off i 0 i (m.behind i) (neat.below i h) (λ x s t e. omega arith),
           map_off i (i + 1) m.cells (m.ahead i) (neat.above i h) (λ x s t e. omega arith),

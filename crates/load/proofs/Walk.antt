@@ -1,6 +1,6 @@
 -- Cell after cell. Assumes nothing.
 use Rattle.std.proofs.Common.{◌≡◌, ℕ, zero, suc, ◌+◌, ◌-◌, ◌*◌, ◌<◌, ◌≤◌, List, [], ◌∷◌, ◌++◌, map, length, get_or, set, ℤ, pos, sym, refl, ap, ◌∙◌, ⊎_elim, mul_assoc, mul-le-mul_left, mul-zero, zero-add, add-one, arith, length-set}
-use mathlib.Core.List.{map_append}
+use mathlib.Core.List.{map-append}
 use lib.ListN.{length-map, get_or-map}
 use lib.Ieee.{Float, nan, binary64, of_int}
 use Rattle.store.specs.Region.{at, idx, splice}
@@ -184,7 +184,7 @@ module _ {seed : ℕ} {e : Extents} {cells : ℕ} {O O' C C' : List ℕ} {F F' :
         within = omega arith;
         done = record {
           offsets = offset_written;
-          rows = rw (add-one i, map_append (of_int binary64) (joined (wholes_in seed m) i) (wholes_in seed m i)) rows;
+          rows = rw (add-one i, map-append (of_int binary64) (joined (wholes_in seed m) i) (wholes_in seed m i)) rows;
           end = end;
           state = x.state ∙ ap (λ (j : ℕ). state_of seed (draws_before m (j + 1))) n;
           size = length-set O' i r.end ∙ done.size;
