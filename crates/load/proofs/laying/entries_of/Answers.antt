@@ -16,7 +16,7 @@ following-c-requires c =
     record { few = c.requires.few; placed = c.loop-i.invariant.placed; number_bound = omega (arith, c.loop-i.invariant.number, c.loop-i.invariant.few) }
 
 pub loop-i-preserved : goal.loop-i-preserved
-loop-i-preserved c = counting_on c.loop-i.invariant (omega arith) c.width_of-entries.ensures.value.0 c.following-c.ensures.placed_2 c.following-c.ensures.number_value
+loop-i-preserved c = counting_on c.loop-i.invariant (omega arith) c.width_of-entries.ensures.value c.following-c.ensures.placed_2 c.following-c.ensures.number_value
 
 pub returns : goal.returns
 returns c = counting_done c.loop-i.invariant (omega arith)
