@@ -97,7 +97,7 @@ module _ (h : Handle) {w w' : List ℕ} {F F' : List Float} (a : Agree h.levels 
     -- Both pass question 19.
     updated_sound : sound_of h w (length F) records ≡ true → (r' ≡ r) × Agree h.levels w w' G G'
     updated_sound passes =
-        (c'.done.answer ∙ ap updating.updatedAnswer same ∙ sym c.done.answer, left (updated_of h w F records offsets columns values) refl)
+        (c'.done.answer ∙ ap updating.updated_answer same ∙ sym c.done.answer, left (updated_of h w F records offsets columns values) refl)
       where
         found : updated_at h w' F' offsets columns values ≡ updated_at h w F offsets columns values
         found = rw view_same
@@ -125,7 +125,7 @@ module _ (h : Handle) {w w' : List ℕ} {F F' : List Float} (a : Agree h.levels 
         let fails' : sound_of h w' (length F') records ≡ false = sound_same records ∙ fails in
         let x = ask_no (sound_of h w (length F) records) unsound_stores (updated_at h w F offsets columns values) fails in
         let x' = ask_no (sound_of h w' (length F') records) unsound_stores (updated_at h w' F' offsets columns values) fails' in
-        (c'.done.answer ∙ ap updating.updatedAnswer (x' ∙ sym x) ∙ sym c.done.answer, agree_still (c.unsound fails) (c'.unsound fails'))
+        (c'.done.answer ∙ ap updating.updated_answer (x' ∙ sym x) ∙ sym c.done.answer, agree_still (c.unsound fails) (c'.unsound fails'))
 
     update_same : (r' ≡ r) × Agree h.levels w w' G G'
     update_same = go (bool? (sound_of h w (length F) records))

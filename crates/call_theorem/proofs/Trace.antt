@@ -136,7 +136,7 @@ module _ {h : Handle} {w : List ℕ} {F : List Float} {t : List MultigridLevelSt
         }
 
     -- a refused one changes nothing; and so it is with the book.
-    booked_holds : (r : Updated) (out : Outcome Hierarchy) → updated_at h w F offsets columns values ≡ out → r ≡ refreshing.updatedAnswer out
+    booked_holds : (r : Updated) (out : Outcome Hierarchy) → updated_at h w F offsets columns values ≡ out → r ≡ refreshing.updated_answer out
         → view_of h.levels w G 0 ≡ hierarchy_of (view_of h.levels w F 0) out → length G ≡ length F → Holds h w G t (booked x values r)
     booked_holds Updated.Done (accepted k) e a v size = accepted_holds e v size
     booked_holds Updated.Done (refused q) e a v size = absurd (let none : ◌≡◌ {A = ℕ} 0 1 = cc in omega arith)
@@ -150,7 +150,7 @@ module _ {h : Handle} {w : List ℕ} {F : List Float} {t : List MultigridLevelSt
       let out = updated_at h w F offsets columns values in
       let same : updated_of h w F (length t) offsets columns values ≡ out =
       ask_yes (sound_of h w (length F) (length t)) unsound_stores out i.sound in
-      booked_holds offsets columns values r out refl (c.done.answer ∙ ap refreshing.updatedAnswer same)
+      booked_holds offsets columns values r out refl (c.done.answer ∙ ap refreshing.updated_answer same)
       (c.done.view ∙ ap (hierarchy_of (view_of h.levels w F 0)) same) c.done.size
 
 -- ---- the list of calls

@@ -46,7 +46,7 @@ module _ {w : List ℕ} {a b s : ℕ} (ok : NextOk w a b s) {p : Place} (e : p �
   vectors_fit n = rw (n, e) ok.vectors
 
 -- A level as its visit has it.
-pub inner_is : (w : List ℕ) (a b s : ℕ) {p : Place} {m : SymmetricMatrix} {next : ℕ} {v u : LevelScratch} → p ≡ locate w a b → m ≡ parts.kernelIn p
+pub inner_is : (w : List ℕ) (a b s : ℕ) {p : Place} {m : SymmetricMatrix} {next : ℕ} {v u : LevelScratch} → p ≡ locate w a b → m ≡ parts.kernel_in p
     → next ≡ next_in w p → v ≡ scratch_of s p.rows → u ≡ scratch_of (s + 5 * p.rows) next
     → ◌≡◌ {A = Inner} (record { matrix = m; dic = p.dic; links = p.links; vectors = v; below = u; next = next }) (inner_at w a b s)
 inner_is w a b s e k n v u = rw (k, v, u, n, e)
@@ -108,7 +108,7 @@ ask_is true q y v e = cc
 ask_is false q y v e = let none : ◌≡◌ {A = ℕ} 0 1 = cc in absurd (omega arith)
 
 module _ {w : List ℕ} {size depth a b s : ℕ} {p : Place} {coupled : ℕ} {k : Terminal} (ok : EndOk w size depth a b s) (e : p ≡ locate w a b)
-    (c : coupled ≡ idx w (a + 2)) (is : k ≡ parts.terminalIn p coupled) where
+    (c : coupled ≡ idx w (a + 2)) (is : k ≡ parts.terminal_in p coupled) where
   -- What the terminal solve requires.
   pub solve_ok_lem : {v : LevelScratch} → v ≡ scratch_of s p.rows → SolutionOk w size k p.inverse v.rhs v.x v.work
   solve_ok_lem at = let last = ok.last in rw (at, is, c, e) (record {
@@ -158,7 +158,7 @@ visit_of (refused q) counts e x c k = record {
 
 -- The last level's visit.
 pub end_done : {w : List ℕ} {F G : List Float} (t : List ℕ) {u : List ℕ} {depth a b s : ℕ} {p : Place} {coupled : ℕ} {k : Terminal} {v : LevelScratch} {r : Verdict}
-    → EndOk w (length F) depth a b s → p ≡ locate w a b → coupled ≡ idx w (a + 2) → k ≡ parts.terminalIn p coupled
+    → EndOk w (length F) depth a b s → p ≡ locate w a b → coupled ≡ idx w (a + 2) → k ≡ parts.terminal_in p coupled
     → v ≡ scratch_of s p.rows → Solved k w p.inverse v.rhs v.x v.work F G r → u ≡ count_of (4 * depth + 3) 0 t
     → Visited s (rows_at w a) (end_at w F t depth a b s) F G u r
 unfolding end_at
@@ -166,7 +166,7 @@ end_done {w} {F} {G} t {u} {depth} {a} {b} {s} {p} {coupled} {k} {v} {r} ok at_p
     let P = locate w a b in
     let n = rows_at w a in
     let m = idx w (a + 2) in
-    let d' : Solved (parts.terminalIn P m) w P.inverse s (s + n) (s + 2 * n) F G r = rw (at-v, is, at_c, at_p) at d in
+    let d' : Solved (parts.terminal_in P m) w P.inverse s (s + n) (s + 2 * n) F G r = rw (at-v, is, at_c, at_p) at d in
     let long : length (part P.links m w) ≡ m = length_part P.links m w ok.last.links in
     let out = ended (level_in w F P true m) (part s n F) in
     let same : out ≡ terminal_of n (part P.inverse n F) m (part P.links m w) (part P.factor (tri m) F) (part s n F) = rw long in

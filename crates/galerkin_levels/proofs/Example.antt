@@ -110,7 +110,7 @@ fit_whole p zs t =
 
 -- Its values are whole, mirrors are equal, and absolute values sum to 56; those of the update sum to 112.
 ring_fits : (fit (pattern_in (ring 0)) wholes ≡ true) × (fit (pattern_in (ring 0)) doubled ≡ true)
-unfolding fit agree same sizes each pattern.row_of pattern.howMany
+unfolding fit agree same sizes each pattern.row_of pattern.how_many
 ring_fits = (refl, refl)
 
 -- the levels of an outcome
@@ -120,7 +120,7 @@ levels_in (refused q) = []
 
 -- the update of levels of the ring to twice its values
 abbrev updated : List Level → Outcome Hierarchy
-updated levels = update.updateOf (controls 1) (shapes_in levels) (ring 1).offsets (ring 1).columns (map (of_int binary64) doubled)
+updated levels = update.update_of (controls 1) (shapes_in levels) (ring 1).offsets (ring 1).columns (map (of_int binary64) doubled)
 
 -- What the ring's builds and its update make. With one step to a level there are three levels: their aggregates, and at the end the
 -- coupled rows; and their matrices, the diagonal first and then the faces. With two steps to a level there are two, and the aggregates
@@ -142,7 +142,7 @@ pub record RingLevels : Type 0 where
       ∷ [])
 
 pub ring_levels : RingLevels
-unfolding links_in matrices_in levels_in update.updateOf update.renewOf update.same_list update.same_pattern standing.diagonalStands standing.diagonalsStand build_of symmetric_of grow_of with_sums merge_of csr.sizeOk csr.neverFall csr.offsetsOk csr.entryOk csr.row_ok csr-turns.stepOk csr-turns.row_at csr-turns.entryFrom csr.columnsOk csr-turns.weightOk weights.weightsOk valid_of is_finite lt le eq of_bits of_int add sub mul div sqrt_of each tab for iter ask_rows pair_agrees mirrors_agree pattern.some pattern.howMany pattern.those pattern.row_of pattern.sum_to pattern.flat pattern.start_of pattern.columnPlaceOf pattern-steps.joinsBy pattern.joins pattern.coarseOffsets pattern.coarseColumns pattern.coarsePositions pattern.composeOf faces.above faces.facesOf faces.uppersOf faces.faceOffsetsOf faces.neighborsOf faces.hasEntry faces.standsAt faces.mirroredOf faces.lowersOf faces.diagonalsAsked faces.diagonalsOf faces.coupledOf faces.coupledCountOf faces.coupledRowsOf kernel_update_of diagonal_asked is_positive tri factor.seekOf factor.getOf less_of factor.rest_of cholesky-turns.columnOf factor.columnsOf factor.factorRowOf factor.rows_of factor.choleskyOf abs_of all_finite strengths_of consider_of entry_of strongest_of assign_of pair_row_of turn_of pairs_of galerkin-turns.addEntry galerkin.sumsOf galerkin.averageFace galerkin.symmetrizeOf galerkin.zeroEntry galerkin-turns.zeroEntries galerkin.zeroDiagonalOf
+unfolding links_in matrices_in levels_in update.update_of update.renew_of update.same_list update.same_pattern standing.diagonal_stands standing.diagonals_stand build_of symmetric_of grow_of with_sums merge_of csr.size_ok csr.never_fall csr.offsets_ok csr.entry_ok csr.row_ok csr-turns.step_ok csr-turns.row_at csr-turns.entry_from csr.columns_ok csr-turns.weight_ok weights.weights_ok valid_of is_finite lt le eq of_bits of_int add sub mul div sqrt_of each tab for iter ask_rows pair_agrees mirrors_agree pattern.some pattern.how_many pattern.those pattern.row_of pattern.sum_to pattern.flat pattern.start_of pattern.column_place_of pattern-steps.joins_by pattern.joins pattern.coarse_offsets pattern.coarse_columns pattern.coarse_positions pattern.compose_of faces.above faces.faces_of faces.uppers_of faces.face_offsets_of faces.neighbors_of faces.has_entry faces.stands_at faces.mirrored_of faces.lowers_of faces.diagonals_asked faces.diagonals_of faces.coupled_of faces.coupled_count_of faces.coupled_rows_of kernel_update_of diagonal_asked is_positive tri factor.seek_of factor.get_of less_of factor.rest_of cholesky-turns.column_of factor.columns_of factor.factor_row_of factor.rows_of factor.cholesky_of abs_of all_finite strengths_of consider_of entry_of strongest_of assign_of pair_row_of turn_of pairs_of galerkin-turns.add_entry galerkin.sums_of galerkin.average_face galerkin.symmetrize_of galerkin.zero_entry galerkin-turns.zero_entries galerkin.zero_diagonal_of
 ring_levels = record { aggregates = refl; matrices = refl; merges = refl; updates = refl }
 
 -- ---- the theorem on the ring
@@ -206,5 +206,5 @@ coarsest =
 
 -- As whole numbers they are 8, −4; −4, 8.
 pub ring_product : coarsest ≡ pos 8 ∷ negsuc 3 ∷ negsuc 3 ∷ pos 8 ∷ []
-unfolding galerkin_product dense transfer Σℤ pattern.row_of pattern.howMany
+unfolding galerkin_product dense transfer Σℤ pattern.row_of pattern.how_many
 ring_product = refl

@@ -154,7 +154,7 @@ one_level_lem : build_of (lent 178 212) (small own) ≡ accepted (record {
   } ∷ [];
   sums = two ∷ zero64 ∷ [];
 })
-unfolding build_of symmetric_of grow_of with_sums csr.sizeOk csr.neverFall csr.offsetsOk csr.entryOk csr.row_ok csr-turns.stepOk csr-turns.row_at csr-turns.entryFrom csr.columnsOk valid_of is_finite abs_of lt le eq of_bits add sub mul div sqrt_of each tab for iter ask_rows pair_agrees mirrors_agree pattern.some pattern.howMany pattern.those pattern.row_of faces.above faces.facesOf faces.uppersOf faces.faceOffsetsOf faces.neighborsOf faces.hasEntry faces.standsAt faces.mirroredOf faces.lowersOf faces.diagonalsAsked faces.diagonalsOf faces.coupledOf faces.coupledCountOf faces.coupledRowsOf kernel_update_of diagonal_asked is_positive tri factor.seekOf factor.getOf less_of factor.rest_of cholesky-turns.columnOf factor.columnsOf factor.factorRowOf factor.rows_of factor.choleskyOf sum_face sum_row row_sums_of
+unfolding build_of symmetric_of grow_of with_sums csr.size_ok csr.never_fall csr.offsets_ok csr.entry_ok csr.row_ok csr-turns.step_ok csr-turns.row_at csr-turns.entry_from csr.columns_ok valid_of is_finite abs_of lt le eq of_bits add sub mul div sqrt_of each tab for iter ask_rows pair_agrees mirrors_agree pattern.some pattern.how_many pattern.those pattern.row_of faces.above faces.faces_of faces.uppers_of faces.face_offsets_of faces.neighbors_of faces.has_entry faces.stands_at faces.mirrored_of faces.lowers_of faces.diagonals_asked faces.diagonals_of faces.coupled_of faces.coupled_count_of faces.coupled_rows_of kernel_update_of diagonal_asked is_positive tri factor.seek_of factor.get_of less_of factor.rest_of cholesky-turns.column_of factor.columns_of factor.factor_row_of factor.rows_of factor.cholesky_of sum_face sum_row row_sums_of
 one_level_lem = refl
 
 -- Tiny inputs that questions 2, 3, 6, 9 (a word too few, a float too few), 10 (no mirror, other values), 11, 12, 13 and 15 refuse.
@@ -183,7 +183,7 @@ refusals : (
     ∷ refused (bad_reciprocal 0 1)
     ∷ refused (bad_pivot 0 1)
     ∷ [])
-unfolding build_of symmetric_of grow_of with_sums csr.sizeOk csr.neverFall csr.offsetsOk csr.entryOk csr.row_ok csr-turns.stepOk csr-turns.row_at csr-turns.entryFrom csr.columnsOk valid_of is_finite abs_of lt le eq of_bits add sub mul div sqrt_of each tab for iter ask_rows pair_agrees mirrors_agree pattern.some pattern.howMany pattern.those pattern.row_of faces.above faces.facesOf faces.uppersOf faces.faceOffsetsOf faces.neighborsOf faces.hasEntry faces.standsAt faces.mirroredOf faces.lowersOf faces.diagonalsAsked faces.diagonalsOf faces.coupledOf faces.coupledCountOf faces.coupledRowsOf kernel_update_of diagonal_asked is_positive tri factor.seekOf factor.getOf less_of factor.rest_of cholesky-turns.columnOf factor.columnsOf factor.factorRowOf factor.rows_of factor.choleskyOf sum_face sum_row row_sums_of
+unfolding build_of symmetric_of grow_of with_sums csr.size_ok csr.never_fall csr.offsets_ok csr.entry_ok csr.row_ok csr-turns.step_ok csr-turns.row_at csr-turns.entry_from csr.columns_ok valid_of is_finite abs_of lt le eq of_bits add sub mul div sqrt_of each tab for iter ask_rows pair_agrees mirrors_agree pattern.some pattern.how_many pattern.those pattern.row_of faces.above faces.faces_of faces.uppers_of faces.face_offsets_of faces.neighbors_of faces.has_entry faces.stands_at faces.mirrored_of faces.lowers_of faces.diagonals_asked faces.diagonals_of faces.coupled_of faces.coupled_count_of faces.coupled_rows_of kernel_update_of diagonal_asked is_positive tri factor.seek_of factor.get_of less_of factor.rest_of cholesky-turns.column_of factor.columns_of factor.factor_row_of factor.rows_of factor.cholesky_of sum_face sum_row row_sums_of
 refusals = refl
 
 -- A matrix of no rows, with so many offsets and columns, in so many words and floats.
@@ -194,7 +194,7 @@ nothing words floats offsets columns = build_of (lent words floats) (plain (cont
 no_rows : (
     nothing 64 100 (0 ∷ []) [] ∷ nothing 63 100 (0 ∷ []) [] ∷ nothing 64 99 (0 ∷ []) [] ∷ nothing 64 100 (0 ∷ []) (0 ∷ []) ∷ nothing 64 100 [] [] ∷ [])
     ≡ (accepted empty_hierarchy ∷ refused store_too_small ∷ refused store_too_small ∷ refused bad_offsets ∷ refused bad_offsets ∷ [])
-unfolding build_of csr.sizeOk csr.neverFall csr.offsetsOk csr.entryOk csr.row_ok csr-turns.stepOk csr-turns.row_at csr-turns.entryFrom csr.columnsOk valid_of is_finite lt le eq of_bits each
+unfolding build_of csr.size_ok csr.never_fall csr.offsets_ok csr.entry_ok csr.row_ok csr-turns.step_ok csr-turns.row_at csr-turns.entry_from csr.columns_ok valid_of is_finite lt le eq of_bits each
 no_rows = refl
 
 -- With an end of one cell P is paired into one row, 2: the entries of P are summed, and its DIC inverses are 0.25 and 1.
@@ -240,7 +240,7 @@ two_levels : build_of ample (plain (controls 1 4 1) 2 (0 ∷ 2 ∷ 4 ∷ []) (0 
   } ∷ [];
   sums = two ∷ zero64 ∷ [];
 })
-unfolding build_of symmetric_of grow_of with_sums csr.sizeOk csr.neverFall csr.offsetsOk csr.entryOk csr.row_ok csr-turns.stepOk csr-turns.row_at csr-turns.entryFrom csr.columnsOk valid_of is_finite lt le eq of_bits add sub mul div sqrt_of each tab for iter ask_rows pair_agrees mirrors_agree pattern.some pattern.howMany pattern.those pattern.row_of faces.above faces.facesOf faces.uppersOf faces.faceOffsetsOf faces.neighborsOf faces.hasEntry faces.standsAt faces.mirroredOf faces.lowersOf faces.diagonalsAsked faces.diagonalsOf faces.coupledOf faces.coupledCountOf faces.coupledRowsOf kernel_update_of diagonal_asked is_positive tri factor.seekOf factor.getOf less_of factor.rest_of cholesky-turns.columnOf factor.columnsOf factor.factorRowOf factor.rows_of factor.choleskyOf sum_face sum_row row_sums_of abs_of all_finite strengths_of consider_of entry_of strongest_of assign_of pair_row_of turn_of pairs_of merge_of pattern.sum_to pattern.flat pattern.start_of pattern.columnPlaceOf pattern-steps.joinsBy pattern.joins pattern.coarseOffsets pattern.coarseColumns pattern.coarsePositions add_entry sums_of average_face symmetrize_of dic_of pivots_of pivot_row pivot_face reciprocals_of is_pivot pattern.composeOf
+unfolding build_of symmetric_of grow_of with_sums csr.size_ok csr.never_fall csr.offsets_ok csr.entry_ok csr.row_ok csr-turns.step_ok csr-turns.row_at csr-turns.entry_from csr.columns_ok valid_of is_finite lt le eq of_bits add sub mul div sqrt_of each tab for iter ask_rows pair_agrees mirrors_agree pattern.some pattern.how_many pattern.those pattern.row_of faces.above faces.faces_of faces.uppers_of faces.face_offsets_of faces.neighbors_of faces.has_entry faces.stands_at faces.mirrored_of faces.lowers_of faces.diagonals_asked faces.diagonals_of faces.coupled_of faces.coupled_count_of faces.coupled_rows_of kernel_update_of diagonal_asked is_positive tri factor.seek_of factor.get_of less_of factor.rest_of cholesky-turns.column_of factor.columns_of factor.factor_row_of factor.rows_of factor.cholesky_of sum_face sum_row row_sums_of abs_of all_finite strengths_of consider_of entry_of strongest_of assign_of pair_row_of turn_of pairs_of merge_of pattern.sum_to pattern.flat pattern.start_of pattern.column_place_of pattern-steps.joins_by pattern.joins pattern.coarse_offsets pattern.coarse_columns pattern.coarse_positions add_entry sums_of average_face symmetrize_of dic_of pivots_of pivot_row pivot_face reciprocals_of is_pivot pattern.compose_of
 two_levels = refl
 
 -- Builds of the path. One step to a level leads to 2 coupled rows: an end of one cell is refused by question 14, as no third level is
@@ -254,5 +254,5 @@ pub record PathBuilds : Type 0 where
   pub coarsest : matrices_in (build_of ample (path 1 2)) ≡ whole ∷ (two ∷ []) ∷ []
 
 path_builds : PathBuilds
-unfolding build_of symmetric_of grow_of with_sums csr.sizeOk csr.neverFall csr.offsetsOk csr.entryOk csr.row_ok csr-turns.stepOk csr-turns.row_at csr-turns.entryFrom csr.columnsOk valid_of is_finite lt le eq of_bits add sub mul div sqrt_of each tab for iter ask_rows pair_agrees mirrors_agree pattern.some pattern.howMany pattern.those pattern.row_of faces.above faces.facesOf faces.uppersOf faces.faceOffsetsOf faces.neighborsOf faces.hasEntry faces.standsAt faces.mirroredOf faces.lowersOf faces.diagonalsAsked faces.diagonalsOf faces.coupledOf faces.coupledCountOf faces.coupledRowsOf kernel_update_of diagonal_asked is_positive tri factor.seekOf factor.getOf less_of factor.rest_of cholesky-turns.columnOf factor.columnsOf factor.factorRowOf factor.rows_of factor.choleskyOf sum_face sum_row row_sums_of abs_of all_finite strengths_of consider_of entry_of strongest_of assign_of pair_row_of turn_of pairs_of merge_of pattern.sum_to pattern.flat pattern.start_of pattern.columnPlaceOf pattern-steps.joinsBy pattern.joins pattern.coarseOffsets pattern.coarseColumns pattern.coarsePositions add_entry sums_of average_face symmetrize_of dic_of pivots_of pivot_row pivot_face reciprocals_of is_pivot pattern.composeOf links_in matrices_in
+unfolding build_of symmetric_of grow_of with_sums csr.size_ok csr.never_fall csr.offsets_ok csr.entry_ok csr.row_ok csr-turns.step_ok csr-turns.row_at csr-turns.entry_from csr.columns_ok valid_of is_finite lt le eq of_bits add sub mul div sqrt_of each tab for iter ask_rows pair_agrees mirrors_agree pattern.some pattern.how_many pattern.those pattern.row_of faces.above faces.faces_of faces.uppers_of faces.face_offsets_of faces.neighbors_of faces.has_entry faces.stands_at faces.mirrored_of faces.lowers_of faces.diagonals_asked faces.diagonals_of faces.coupled_of faces.coupled_count_of faces.coupled_rows_of kernel_update_of diagonal_asked is_positive tri factor.seek_of factor.get_of less_of factor.rest_of cholesky-turns.column_of factor.columns_of factor.factor_row_of factor.rows_of factor.cholesky_of sum_face sum_row row_sums_of abs_of all_finite strengths_of consider_of entry_of strongest_of assign_of pair_row_of turn_of pairs_of merge_of pattern.sum_to pattern.flat pattern.start_of pattern.column_place_of pattern-steps.joins_by pattern.joins pattern.coarse_offsets pattern.coarse_columns pattern.coarse_positions add_entry sums_of average_face symmetrize_of dic_of pivots_of pivot_row pivot_face reciprocals_of is_pivot pattern.compose_of links_in matrices_in
 path_builds = record { refuses = refl; aggregates = refl; coarser = refl; merges = refl; coarsest = refl }

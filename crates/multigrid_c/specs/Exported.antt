@@ -32,7 +32,7 @@ pub record BuildExported (w z : List ℕ) (F G : List Float) (s t : List Multigr
 
 -- the answer to an update of stores w and F with so many records of statistics
 abbrev pub updated_by : Handle → List ℕ → List Float → ℕ → List ℕ → List ℕ → List Float → Updated
-updated_by h w F records offsets columns values = refresh.updatedAnswer (updated_of h w F records offsets columns values)
+updated_by h w F records offsets columns values = refresh.updated_answer (updated_of h w F records offsets columns values)
 
 -- What an update ensures: what the call ensures, and its answer as a struct.
 pub record UpdateExported (h : Handle) (w : List ℕ) (F G : List Float) (records : ℕ) (offsets columns : List ℕ) (values : List Float) (r : AnswerForC) : Type 0 where

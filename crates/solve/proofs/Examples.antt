@@ -109,7 +109,7 @@ abbrev asked : LinearSolverOptions
 asked = record { absolute_tolerance = zero64; relative_tolerance = half; max_iterations = 5 }
 
 -- `smallpress`: converged after one iteration, from a residual of 2 to zero, at 1, 1, with one visit
-small_press : solve.solveOf (iteration.systemOf (controls MultigridResidualNorm.AbsoluteL2 0) one_level) asked (two ∷ zero64 ∷ []) (zero64 ∷ zero64 ∷ [])
+small_press : solve.solve_of (iteration.system_of (controls MultigridResidualNorm.AbsoluteL2 0) one_level) asked (two ∷ zero64 ∷ []) (zero64 ∷ zero64 ∷ [])
     ≡ accepted (record {
       report = record {
         status = LinearSolverStatus.Converged;
@@ -121,14 +121,14 @@ small_press : solve.solveOf (iteration.systemOf (controls MultigridResidualNorm.
       x = one64 ∷ one64 ∷ [];
       counts = lay (1 ∷ 0 ∷ 0 ∷ 0 ∷ []) solve.uncounted;
     })
-unfolding solve.solveOf input.inputOk solve.run_of iterating.iterateOf iteration.step_of iteration.movedOf cycle.cycleOf cycle.end_of cycle.count_of terminal.terminalOf terminal.terminalSolution coarse-turns.scatterOf coarse-turns.gatherOf coarse-turns.diagonalOf factor.solveFactorOf factor.lowRow factor.highRow cholesky-turns.lowTerm cholesky-turns.highTerm tri measure.measureOf measure.value_of residual-norm-turns.squaresOf residual-norm-turns.squareAt measure.sum_of residual-norm-turns.sumTurn finite.allFinite dot.productOf normalization.normalizationOf solver.relativeOf matrix.applyOf matrix.spread_of matrix.spreadRow matrix.spreadFace correction.subtractOf correction.addPlainOf is_finite max_num sqrt_of each tab lay for iter lt le eq ne of_bits add sub mul div
+unfolding solve.solve_of input.input_ok solve.run_of iterating.iterate_of iteration.step_of iteration.moved_of cycle.cycle_of cycle.end_of cycle.count_of terminal.terminal_of terminal.terminal_solution coarse-turns.scatter_of coarse-turns.gather_of coarse-turns.diagonal_of factor.solve_factor_of factor.low_row factor.high_row cholesky-turns.low_term cholesky-turns.high_term tri measure.measure_of measure.value_of residual-norm-turns.squares_of residual-norm-turns.square_at measure.sum_of residual-norm-turns.sum_turn finite.all_finite dot.product_of normalization.normalization_of solver.relative_of matrix.apply_of matrix.spread_of matrix.spread_row matrix.spread_face correction.subtract_of correction.add_plain_of is_finite max_num sqrt_of each tab lay for iter lt le eq ne of_bits add sub mul div
 small_press = refl
 
 -- Of no levels, with either norm: converged after no iteration, with plus zeros; a vector of one row is refused by question 20, a limit of zero by 21.
 empty_press : (norm : MultigridResidualNorm) → (
-    solve.solveOf (iteration.systemOf (controls norm 0) empty_hierarchy) asked [] []
-    ∷ solve.solveOf (iteration.systemOf (controls norm 0) empty_hierarchy) asked (zero64 ∷ []) []
-    ∷ solve.solveOf (iteration.systemOf (controls norm 0) empty_hierarchy) (record { absolute_tolerance = zero64; relative_tolerance = half; max_iterations = 0 }) [] []
+    solve.solve_of (iteration.system_of (controls norm 0) empty_hierarchy) asked [] []
+    ∷ solve.solve_of (iteration.system_of (controls norm 0) empty_hierarchy) asked (zero64 ∷ []) []
+    ∷ solve.solve_of (iteration.system_of (controls norm 0) empty_hierarchy) (record { absolute_tolerance = zero64; relative_tolerance = half; max_iterations = 0 }) [] []
     ∷ []) ≡ (
     accepted (record {
       report = record {
@@ -144,5 +144,5 @@ empty_press : (norm : MultigridResidualNorm) → (
     ∷ refused wrong_length
     ∷ refused bad_input
     ∷ [])
-unfolding solve.solveOf input.inputOk finite.allFinite each is_finite lt le eq of_bits
+unfolding solve.solve_of input.input_ok finite.all_finite each is_finite lt le eq of_bits
 empty_press norm = refl

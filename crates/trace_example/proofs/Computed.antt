@@ -78,7 +78,7 @@ use Rattle.trace_example.proofs.Ring.{fine, before, after}
 -- Of the cell and of the ring: the build with the first values and with the accepted ones; both hold in the stores; one update is refused, the
 -- other accepted; and the solve has its two answers.
 pub computed : Computes cell (one_cell one64 one64) (one_cell two half) × Computes ring before after
-unfolding headers.headsAt headers.headsOf building.buildOf building.symmetricOf building.growOf refreshing.withSums csr.sizeOk csr.neverFall csr.offsetsOk csr.entryOk csr.row_ok csr-turns.stepOk csr-turns.row_at csr-turns.entryFrom csr.columnsOk weights.weightsOk csr-turns.weightOk valid_of is_finite lt le eq of_bits add sub mul div sqrt_of each tab for iter ask_rows pair_agrees mirrors_agree pattern.some pattern.howMany pattern.those pattern.row_of faces.above faces.facesOf faces.uppersOf faces.faceOffsetsOf faces.neighborsOf faces.hasEntry faces.standsAt faces.mirroredOf faces.lowersOf faces.diagonalsAsked faces.diagonalsOf faces.coupledOf faces.coupledCountOf faces.coupledRowsOf kernel_update_of diagonal_asked is_positive tri cholesky.seekOf cholesky.getOf less_of cholesky.rest_of cholesky-turns.columnOf cholesky.columnsOf cholesky.factorRowOf cholesky.rows_of cholesky.choleskyOf layout.view_of layout.finestRows layout.levelsAt layout.levelAt layout.wordsEnd layout.floatsEnd layout.imageEnd layout.wordsFit part lay splice level_words level_floats all_levels words_for floats_for update.updateOf update.renewOf update.same_list update.same_pattern standing.diagonalStands standing.diagonalsStand solve.solveOf input.inputOk solve.run_of iterating.iterateOf iteration.step_of iteration.movedOf cycle.cycleOf cycle.end_of cycle.count_of terminal.terminalOf terminal.terminalSolution coarse-turns.scatterOf coarse-turns.gatherOf coarse-turns.diagonalOf factor.solveFactorOf factor.lowRow factor.highRow cholesky-turns.lowTerm cholesky-turns.highTerm measure.measureOf measure.value_of residual-norm-turns.squaresOf residual-norm-turns.squareAt measure.sum_of residual-norm-turns.sumTurn finite.allFinite vector-turns.termOf dot.block_of vector-turns.blockTurn dot.dotOf dot.productOf dot.rootOf dot.normOf normalization.normalizationOf solver.relativeOf matrix.applyOf matrix.spread_of matrix.spreadRow matrix.spreadFace correction.subtractOf correction.addPlainOf max_num ne of_int abs_of pairs.strengthsOf pairs.considerOf aggregation-turns.entry_of pairs.strongestOf pairs.assignOf pairs.pairRowOf aggregation-turns.turn_of pairs.pairsOf pattern.sum_to pattern.flat pattern.start_of pattern.columnPlaceOf pattern-steps.joinsBy pattern.joins pattern.coarseOffsets pattern.coarseColumns pattern.coarsePositions pattern.composeOf galerkin-turns.addEntry galerkin.sumsOf galerkin.averageFace galerkin.symmetrizeOf galerkin.zeroEntry galerkin-turns.zeroEntries galerkin.zeroDiagonalOf building.mergeOf dic.isPivot dic.pivotFace dic.pivotRow dic.pivotsOf dic.reciprocalsOf dic.dicOf matrix.sumFace matrix.sumRow matrix.rowSumsOf sweep.gatherFace sweep.castFace sweep.fresh_of sweep.forwardRow sweep.backwardRow sweep.gaussSeidelOf sweep.lowerRow sweep.upperRow sweep.dicSweepOf matrix.residualOf smooth.gaussSeidelsOf smooth.dicSweepsOf smooth.sweptOf smooth.smoothOf scaling.productsTurn scaling.productsOf scaling.quotient_of scaling.scale_of scaling.correctionFactorOf scaled.addScaledOf transfer.gatherTurn transfer.gatherOf transfer.restrictOf transfer.prolongOf counts.preSweepsOf counts.postSweepsOf cycle.residualAfter cycle.corrected cycle.upOf residual-norm-turns.size_at residual-norm-turns.sizesOf normalization.meanOf residual-norm-turns.spread_of residual-norm-turns.spreadAt residual-norm-turns.spreadsOf gcr.twice_of gcr.keptOf gcr.correctOf directions.less_of directions.orthogonalTo directions.passOf normal.overOf normal.normalOf acceleration-turns.moreOf advance.advanceOf
+unfolding headers.heads_at headers.heads_of building.build_of building.symmetric_of building.grow_of refreshing.with_sums csr.size_ok csr.never_fall csr.offsets_ok csr.entry_ok csr.row_ok csr-turns.step_ok csr-turns.row_at csr-turns.entry_from csr.columns_ok weights.weights_ok csr-turns.weight_ok valid_of is_finite lt le eq of_bits add sub mul div sqrt_of each tab for iter ask_rows pair_agrees mirrors_agree pattern.some pattern.how_many pattern.those pattern.row_of faces.above faces.faces_of faces.uppers_of faces.face_offsets_of faces.neighbors_of faces.has_entry faces.stands_at faces.mirrored_of faces.lowers_of faces.diagonals_asked faces.diagonals_of faces.coupled_of faces.coupled_count_of faces.coupled_rows_of kernel_update_of diagonal_asked is_positive tri cholesky.seek_of cholesky.get_of less_of cholesky.rest_of cholesky-turns.column_of cholesky.columns_of cholesky.factor_row_of cholesky.rows_of cholesky.cholesky_of layout.view_of layout.finest_rows layout.levels_at layout.level_at layout.words_end layout.floats_end layout.image_end layout.words_fit part lay splice level_words level_floats all_levels words_for floats_for update.update_of update.renew_of update.same_list update.same_pattern standing.diagonal_stands standing.diagonals_stand solve.solve_of input.input_ok solve.run_of iterating.iterate_of iteration.step_of iteration.moved_of cycle.cycle_of cycle.end_of cycle.count_of terminal.terminal_of terminal.terminal_solution coarse-turns.scatter_of coarse-turns.gather_of coarse-turns.diagonal_of factor.solve_factor_of factor.low_row factor.high_row cholesky-turns.low_term cholesky-turns.high_term measure.measure_of measure.value_of residual-norm-turns.squares_of residual-norm-turns.square_at measure.sum_of residual-norm-turns.sum_turn finite.all_finite vector-turns.term_of dot.block_of vector-turns.block_turn dot.dot_of dot.product_of dot.root_of dot.norm_of normalization.normalization_of solver.relative_of matrix.apply_of matrix.spread_of matrix.spread_row matrix.spread_face correction.subtract_of correction.add_plain_of max_num ne of_int abs_of pairs.strengths_of pairs.consider_of aggregation-turns.entry_of pairs.strongest_of pairs.assign_of pairs.pair_row_of aggregation-turns.turn_of pairs.pairs_of pattern.sum_to pattern.flat pattern.start_of pattern.column_place_of pattern-steps.joins_by pattern.joins pattern.coarse_offsets pattern.coarse_columns pattern.coarse_positions pattern.compose_of galerkin-turns.add_entry galerkin.sums_of galerkin.average_face galerkin.symmetrize_of galerkin.zero_entry galerkin-turns.zero_entries galerkin.zero_diagonal_of building.merge_of dic.is_pivot dic.pivot_face dic.pivot_row dic.pivots_of dic.reciprocals_of dic.dic_of matrix.sum_face matrix.sum_row matrix.row_sums_of sweep.gather_face sweep.cast_face sweep.fresh_of sweep.forward_row sweep.backward_row sweep.gauss_seidel_of sweep.lower_row sweep.upper_row sweep.dic_sweep_of matrix.residual_of smooth.gauss_seidels_of smooth.dic_sweeps_of smooth.swept_of smooth.smooth_of scaling.products_turn scaling.products_of scaling.quotient_of scaling.scale_of scaling.correction_factor_of scaled.add_scaled_of transfer.gather_turn transfer.gather_of transfer.restrict_of transfer.prolong_of counts.pre_sweeps_of counts.post_sweeps_of cycle.residual_after cycle.corrected cycle.up_of residual-norm-turns.size_at residual-norm-turns.sizes_of normalization.mean_of residual-norm-turns.spread_of residual-norm-turns.spread_at residual-norm-turns.spreads_of gcr.twice_of gcr.kept_of gcr.correct_of directions.less_of directions.orthogonal_to directions.pass_of normal.over_of normal.normal_of acceleration-turns.more_of advance.advance_of
 computed = (
   record { weights = refl; built = refl; anew = refl; view = refl; viewed = refl; fits = refl; heads = refl; refuses = refl; accepts = refl; solves = refl; solved = refl },
   record { weights = refl; built = refl; anew = refl; view = refl; viewed = refl; fits = refl; heads = refl; refuses = refl; accepts = refl; solves = refl; solved = refl },
@@ -86,12 +86,12 @@ computed = (
 
 -- Of the drum with nothing in it.
 pub drum_computed : Computes drum empty_hierarchy empty_hierarchy
-unfolding headers.headsAt headers.headsOf building.buildOf csr.sizeOk csr.neverFall csr.offsetsOk csr.entryOk csr.row_ok csr-turns.stepOk csr-turns.row_at csr-turns.entryFrom csr.columnsOk weights.weightsOk csr-turns.weightOk valid_of is_finite lt le eq of_bits each tab for iter layout.view_of layout.finestRows layout.levelsAt layout.imageEnd layout.wordsFit part lay splice all_levels words_for floats_for update.updateOf update.emptyPattern solve.solveOf input.inputOk finite.allFinite
+unfolding headers.heads_at headers.heads_of building.build_of csr.size_ok csr.never_fall csr.offsets_ok csr.entry_ok csr.row_ok csr-turns.step_ok csr-turns.row_at csr-turns.entry_from csr.columns_ok weights.weights_ok csr-turns.weight_ok valid_of is_finite lt le eq of_bits each tab for iter layout.view_of layout.finest_rows layout.levels_at layout.image_end layout.words_fit part lay splice all_levels words_for floats_for update.update_of update.empty_pattern solve.solve_of input.input_ok finite.all_finite
 drum_computed = record { weights = refl; built = refl; anew = refl; view = refl; viewed = refl; fits = refl; heads = refl; refuses = refl; accepts = refl; solves = refl; solved = refl }
 
 -- The ring is paired by its weights; by its values it would be paired otherwise.
 pub weights_decide : ((paired ring.input.options true 0 (mesh_in ring.input)).map ≡ fine.links) × ((paired ring.input.options false 0 (mesh_in ring.input)).map ≡ 0 ∷ 0 ∷ 1 ∷ 1 ∷ [])
-unfolding of_int of_bits lt abs_of for iter tab pairs.strengthsOf pairs.considerOf aggregation-turns.entry_of pairs.strongestOf pairs.assignOf pairs.pairRowOf aggregation-turns.turn_of pairs.pairsOf
+unfolding of_int of_bits lt abs_of for iter tab pairs.strengths_of pairs.consider_of aggregation-turns.entry_of pairs.strongest_of pairs.assign_of pairs.pair_row_of aggregation-turns.turn_of pairs.pairs_of
 weights_decide = (refl, refl)
 
 -- Each solve of their calls agrees with a build that there is.

@@ -25,7 +25,7 @@ rhs = floats (pos 2 ∷ pos 0 ∷ [])
 
 -- 4, 4; 4, 2 has a second pivot below zero.
 negative : inverses_of 3 (two_rows (pos 4)) ≡ refused (bad_dic_pivot 3 1)
-unfolding floats of_int faces.above faces.facesOf faces.uppersOf faces.faceOffsetsOf faces.neighborsOf faces.standsAt faces.diagonalsOf pattern.howMany pattern.those pattern.row_of is_positive diagonal_asked kernel_update_of lt dic_of pivots_of pivot_row pivot_face reciprocals_of is_pivot is_finite ask_rows for iter tab of_bits sub mul div le
+unfolding floats of_int faces.above faces.faces_of faces.uppers_of faces.face_offsets_of faces.neighbors_of faces.stands_at faces.diagonals_of pattern.how_many pattern.those pattern.row_of is_positive diagonal_asked kernel_update_of lt dic_of pivots_of pivot_row pivot_face reciprocals_of is_pivot is_finite ask_rows for iter tab of_bits sub mul div le
 negative = refl
 
 -- a DIC sweep of P from zero
@@ -37,7 +37,7 @@ swept_by_dic = do
 
 -- It solves P x = 2, 0.
 solved : swept_by_dic ≡ accepted (one64 ∷ one64 ∷ [])
-unfolding floats of_int faces.above faces.facesOf faces.uppersOf faces.faceOffsetsOf faces.neighborsOf faces.standsAt faces.diagonalsOf pattern.howMany pattern.those pattern.row_of is_positive diagonal_asked kernel_update_of lt dic_of pivots_of pivot_row pivot_face reciprocals_of is_pivot is_finite ask_rows dic_sweep_of lower_row upper_row gather_face cast_face residual_of spread_of spread_row spread_face for iter tab of_bits add sub mul div le
+unfolding floats of_int faces.above faces.faces_of faces.uppers_of faces.face_offsets_of faces.neighbors_of faces.stands_at faces.diagonals_of pattern.how_many pattern.those pattern.row_of is_positive diagonal_asked kernel_update_of lt dic_of pivots_of pivot_row pivot_face reciprocals_of is_pivot is_finite ask_rows dic_sweep_of lower_row upper_row gather_face cast_face residual_of spread_of spread_row spread_face for iter tab of_bits add sub mul div le
 solved = refl
 
 -- No sweep asks nothing: x stays, finite or not.

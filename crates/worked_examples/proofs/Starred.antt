@@ -24,7 +24,7 @@ use Rattle.worked_examples.specs.Table.{same, bits, floats, accepted_bits, all, 
 
 -- Each line of the table computes to true.
 pub starred : all_of table ≡ true
-unfolding of_bits to_bits lt le add sub mul div abs_of is_finite sqrt_of for iter tab strengths_of consider_of entry_of strongest_of assign_of pair_row_of turn_of pairs_of pattern.some pattern.howMany pattern.those pattern.sum_to pattern.flat pattern.row_of pattern.start_of pattern.columnPlaceOf pattern-steps.joinsBy pattern.joins pattern.coarseOffsets pattern.coarseColumns pattern.coarsePositions faces.above faces.facesOf faces.uppersOf faces.faceOffsetsOf faces.neighborsOf faces.standsAt faces.lowersOf faces.diagonalsOf faces.coupledOf faces.coupledRowsOf is_positive diagonal_asked kernel_update_of add_entry sums_of average_face symmetrize_of ask_rows is_pivot pivot_face pivot_row pivots_of reciprocals_of dic_of gather_face cast_face fresh_of forward_row backward_row gauss_seidel_of tri seek_of get_of less_of rest_of column_of columns_of factor_row_of rows_of cholesky_of same bits floats accepted_bits all all_of table
+unfolding of_bits to_bits lt le add sub mul div abs_of is_finite sqrt_of for iter tab strengths_of consider_of entry_of strongest_of assign_of pair_row_of turn_of pairs_of pattern.some pattern.how_many pattern.those pattern.sum_to pattern.flat pattern.row_of pattern.start_of pattern.column_place_of pattern-steps.joins_by pattern.joins pattern.coarse_offsets pattern.coarse_columns pattern.coarse_positions faces.above faces.faces_of faces.uppers_of faces.face_offsets_of faces.neighbors_of faces.stands_at faces.lowers_of faces.diagonals_of faces.coupled_of faces.coupled_rows_of is_positive diagonal_asked kernel_update_of add_entry sums_of average_face symmetrize_of ask_rows is_pivot pivot_face pivot_row pivots_of reciprocals_of dic_of gather_face cast_face fresh_of forward_row backward_row gauss_seidel_of tri seek_of get_of less_of rest_of column_of columns_of factor_row_of rows_of cholesky_of same bits floats accepted_bits all all_of table
 starred = refl
 
 -- With a cap of 2 an end of the path of 3 stands alone.

@@ -106,7 +106,7 @@ module _ {h : Handle} {w : List ℕ} {size : ℕ} (o : Opened h w size) where
 
   -- The places are those of the definition.
   pub places_are : {image residual : ℕ} {matrix : SymmetricMatrix} → image ≡ image_of h.levels w
-      → residual ≡ cycle_start h.options.krylov_dimension h.levels w → matrix ≡ parts.kernelIn (locate w 0 0)
+      → residual ≡ cycle_start h.options.krylov_dimension h.levels w → matrix ≡ parts.kernel_in (locate w 0 0)
       → placed matrix h.rows image h.options.krylov_dimension residual ≡ regions_at h w
   places_are {image} {residual} {matrix} s r m =
       let rows = o.rows in
@@ -115,7 +115,7 @@ module _ {h : Handle} {w : List ℕ} {size : ℕ} (o : Opened h w size) where
       rw (sums, m, r, s, ← rows)
 
   -- The finest matrix lies below the row sums.
-  kernel_ok : KernelOk w (image_end h.levels w 0 0) (parts.kernelIn (locate w 0 0))
+  kernel_ok : KernelOk w (image_end h.levels w 0 0) (parts.kernel_in (locate w 0 0))
   unfolding floats_end
   kernel_ok =
       let here = first.here in
@@ -170,7 +170,7 @@ module _ {h : Handle} {w : List ℕ} {size : ℕ} (o : Opened h w size) where
       rw (levels, sums)
 
   -- The kernel of the hierarchy is the one that stands at the finest level's place.
-  kernel_at_lem : (F : List Float) → (system_at h w F).kernel ≡ kernel_at (parts.kernelIn (locate w 0 0)) w F
+  kernel_at_lem : (F : List Float) → (system_at h w F).kernel ≡ kernel_at (parts.kernel_in (locate w 0 0)) w F
   unfolding view_of levels_at level_at kernel_at
   kernel_at_lem F = ap (λ (l : ℕ). kernel_first (levels_at l w F 0 0)) some_is
 

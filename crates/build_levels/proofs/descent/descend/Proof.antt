@@ -7,12 +7,12 @@ use Rattle.build_levels.proofs.descent.descend.Statement.{statement}
 use Rattle.build_levels.proofs.descent.descend.Tie as tie
 
 fill-words-requires : tie.Need-fill-words-requires
-fill-words-requires c κs = laws.header-fits c.before.before.before.before.requires
+fill-words-requires c κs = laws.header_fits c.before.before.before.before.requires
 
 smoother-data-requires : tie.Need-smoother-data-requires
 smoother-data-requires c κs =
     let opened = c.before.before.before.before.before in
-    laws.smoother-requires (ways.opened opened.before.before.before.before.before.requires opened.fill-words.ensures)
+    laws.smoother_requires (ways.opened opened.before.before.before.before.before.requires opened.fill-words.ensures)
 
 first-steps-requires : tie.Need-first-steps-requires
 first-steps-requires c κs =
@@ -32,7 +32,7 @@ repair_requires c κs =
     let kind = settled.before in
     let opened = kind.before.before.before.before.before in
     let start = opened.before.before.before.before.before in
-    ways.repair-requires start.requires opened.fill-words.ensures kind.needs-dic.ensures settled.smoother-data.ensures
+    ways.repair_requires start.requires opened.fill-words.ensures kind.needs-dic.ensures settled.smoother-data.ensures
     passed.enum_told.given.1 steps.first-steps.ensures told.merged2.given.1 placed.level_in.ensures
 
 returns : tie.Need-returns
@@ -46,7 +46,7 @@ returns c =
     let kind = settled.before in
     let opened = kind.before.before.before.before.before in
     let start = opened.before.before.before.before.before in
-    ways.descend-done start.requires opened.fill-words.ensures kind.needs-dic.ensures settled.smoother-data.ensures
+    ways.descend_done start.requires opened.fill-words.ensures kind.needs-dic.ensures settled.smoother-data.ensures
     passed.enum_told.given.1 steps.first-steps.ensures told.merged2.given.1
     placed.level_in.ensures formed.repair.ensures c.if1.true
 
@@ -56,7 +56,7 @@ returns-2 c =
     let kind = settled.before in
     let opened = kind.before.before.before.before.before in
     let start = opened.before.before.before.before.before in
-    ways.descend-numbers start.requires opened.fill-words.ensures kind.needs-dic.ensures settled.smoother-data.ensures
+    ways.descend_numbers start.requires opened.fill-words.ensures kind.needs-dic.ensures settled.smoother-data.ensures
     start.args.given c.before.asked.given.1
 
 returns-3 : tie.Need-returns-3
@@ -67,7 +67,7 @@ returns-3 c =
     let kind = settled.before in
     let opened = kind.before.before.before.before.before in
     let start = opened.before.before.before.before.before in
-    ways.descend-steps start.requires opened.fill-words.ensures kind.needs-dic.ensures settled.smoother-data.ensures
+    ways.descend_steps start.requires opened.fill-words.ensures kind.needs-dic.ensures settled.smoother-data.ensures
     passed.enum_told.given.1 steps.first-steps.ensures c.before.merged.given.1
 
 returns-4 : tie.Need-returns-4
@@ -81,7 +81,7 @@ returns-4 c =
     let kind = settled.before in
     let opened = kind.before.before.before.before.before in
     let start = opened.before.before.before.before.before in
-    ways.descend-bad start.requires opened.fill-words.ensures kind.needs-dic.ensures settled.smoother-data.ensures
+    ways.descend_bad start.requires opened.fill-words.ensures kind.needs-dic.ensures settled.smoother-data.ensures
     passed.enum_told.given.1 steps.first-steps.ensures told.merged2.given.1
     placed.level_in.ensures formed.repair.ensures c.if1.false
 

@@ -9,7 +9,7 @@ use Rattle.build_levels.proofs.descent.first_steps.Tie as tie
 step_requires : tie.Need-step-requires
 step_requires c κs =
     let placed = c.before.before in
-    laws.step-requires placed.before.before.before.requires placed.level_in.ensures
+    laws.step_requires placed.before.before.before.requires placed.level_in.ensures
 
 add-merge : tie.Need-overflow-add-merge
 add-merge c =
@@ -33,7 +33,7 @@ merge_requires : tie.Need-merge-requires
 merge_requires c κs =
     let made = c.before.before.before.before.before.before.before.before.before.before in
     let placed = made.before.before.before in
-    laws.merge-requires placed.before.before.before.requires placed.level_in.ensures made.step.ensures
+    laws.merge_requires placed.before.before.before.requires placed.level_in.ensures made.step.ensures
 
 returns : tie.Need-returns
 returns c =
@@ -47,7 +47,7 @@ returns-2 : tie.Need-returns-2
 returns-2 c =
     let made = c.before.before.before.before.before in
     let placed = made.before.before.before in
-    laws.steps-bad placed.before.before.before.requires placed.level_in.ensures made.step.ensures c.if1.false
+    laws.steps_bad placed.before.before.before.requires placed.level_in.ensures made.step.ensures c.if1.false
 
 pub first-steps-spec : {M : Type 1} → statement M
 first-steps-spec =

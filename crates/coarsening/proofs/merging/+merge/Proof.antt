@@ -46,7 +46,7 @@ merge-pair-requires : (t : ℕ) → merge-lts.Need-pair-requires (
 ) (merge-at t) merge.Post
 merge-pair-requires t c κs =
     let start = c.before.before.before.before.before in
-    laws.pair-requires start.args.f.now start.requires.1
+    laws.pair_requires start.args.f.now start.requires.1
 
 merge-add-t24 : (t : ℕ) → merge-lts.Need-overflow-add-t24 (
   Pair-reads.Asked,
@@ -72,7 +72,7 @@ merge-returns-2 : (t : ℕ) → merge-lts.Need-returns-2 (
 merge-returns-2 t c =
     let paired = c.before.before.before.before.before.before in
     let start = paired.before.before.before.before.before.before in
-    laws.merge-alone start.args.f.now start.requires.1 _ _ _
+    laws.merge_alone start.args.f.now start.requires.1 _ _ _
     paired.before.before.before.if1.false paired.pair.ensures
     c.before.before.found2.given.1 c.if2.true
 
@@ -87,7 +87,7 @@ merge-join-requires : (t : ℕ) → merge-lts.Need-join-requires (
 merge-join-requires t c κs =
     let paired = c.before.before.before.before.before.before.before.before in
     let start = paired.before.before.before.before.before.before in
-    laws.join-requires start.args.f.now start.requires.1 _ _ _
+    laws.join_requires start.args.f.now start.requires.1 _ _ _
     paired.before.before.before.if1.false paired.pair.ensures
     c.before.before.before.before.found2.given.1
 
@@ -131,7 +131,7 @@ merge-merge-requires t c κs =
     let paired = joined.before.before.before.before.before.before.before.before.before in
     let start = paired.before.before.before.before.before.before in (
       omega (arith, start.requires.0, paired.before.before.before.if1.false),
-      laws.merge-requires start.args.f.now start.requires.1 _ _ _
+      laws.merge_requires start.args.f.now start.requires.1 _ _ _
           paired.before.before.before.if1.false paired.pair.ensures
           joined.before.before.before.before.before.found2.given.1
           joined.before.before.before.if2.false joined.join.ensures c.before.before.if3.true,
@@ -166,7 +166,7 @@ merge-returns-4 : (t : ℕ) → merge-lts.Need-returns-4 (
 merge-returns-4 t c =
     let paired = c.before.before.before.before.before in
     let start = paired.before.before.before.before.before.before in
-    laws.merge-refused start.args.f.now start.requires.1 _ _ _
+    laws.merge_refused start.args.f.now start.requires.1 _ _ _
     paired.before.before.before.if1.false paired.pair.ensures c.before.found.given.1
 
 merge-returns-5 : (t : ℕ) → merge-lts.Need-returns-5 (
@@ -180,7 +180,7 @@ merge-returns-5 : (t : ℕ) → merge-lts.Need-returns-5 (
 merge-returns-5 t c =
     let paired = c.before.before.before.before in
     let start = paired.before.before.before.before.before.before in
-    laws.merge-few start.args.f.now start.requires.1 _ _ _
+    laws.merge_few start.args.f.now start.requires.1 _ _ _
     paired.before.before.before.if1.false paired.pair.ensures c.enum_told.given.1
 
 merge-returns-6 : (t : ℕ) → merge-lts.Need-returns-6 (
@@ -195,7 +195,7 @@ merge-returns-6 t c =
     let joined = c.before.before.before.before.before in
     let paired = joined.before.before.before.before.before.before.before.before.before in
     let start = paired.before.before.before.before.before.before in
-    laws.merge-bad start.args.f.now start.requires.1 _ _ _
+    laws.merge_bad start.args.f.now start.requires.1 _ _ _
     paired.before.before.before.if1.false paired.pair.ensures
     joined.before.before.before.before.before.found2.given.1
     joined.before.before.before.if2.false joined.join.ensures c.if3.false
