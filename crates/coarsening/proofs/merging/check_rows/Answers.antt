@@ -1,5 +1,4 @@
 -- `merging::check_rows` meets its contract. The loop's invariant: the questions left give the answer.
-use Prim.Native.Nat.{◌-◌}
 use borrow.Author.Rules.{rules}
 use Rattle.coarsening.proofs.merging.Questions.{asking_start, entry_near, asking_on, asking_stop, asking_done}
 use Rattle.coarsening.proofs.merging.check_rows.Goals as goal

@@ -1,6 +1,9 @@
 -- `merging::graph_in` meets its contract.
-use mathlib.Core.Logic.{⊎_elim}
 use Rattle.coarsening.proofs.merging.graph_in.Goals as goal
+use Rattle.coarsening.proofs.merging.graph_in.Goals.{then-given, else-given}
 
 pub returns : goal.returns
-returns c = ⊎_elim (λ w. rw (w.0.taken, w.1)) (λ w. rw (w.0.left, w.1)) c.if-given.branch
+returns c = elim c.if-given.branch [
+  | then-given w ↦ rw (w.if-given.true, w.result-is)
+  | else-given w ↦ rw (w.if-given.false, w.result-is)
+]
