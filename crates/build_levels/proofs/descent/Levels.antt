@@ -105,7 +105,7 @@ module _ {w : List ℕ} {size : ℕ} {o : MultigridOptions} {t : Workspace} {s :
       omega (arith, inside.0)
 
   faces_at_lem : idx w (p.starts + p.rows) ≡ p.faces
-  faces_at_lem = laying.faces_at ok.level.stands.shapes ok.level.stands.proper.valid
+  faces_at_lem = laying.faces_at_lem ok.level.stands.shapes ok.level.stands.proper.valid
 
   -- The kernel at the level's place is that of its shape.
   pub kernel_is : (F : List Float) (map : List ℕ) (n : ℕ) → let c = coefficients_at F p in
