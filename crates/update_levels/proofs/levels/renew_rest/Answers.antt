@@ -35,7 +35,7 @@ pub loop-level-preserved : goal.loop-level-preserved
 loop-level-preserved c =
     let gone = c in
     underway_on gone.loop-level.invariant gone.loop-level-test.true gone.words_end-a.ensures gone.place_at-t.ensures
-    gone.turn-answer.ensures (sym c.refused.ensures ∙ c.if-refused.false) gone.turn-answer.auto.1.0
+    gone.turn-answer.ensures (sym c.refused.ensures ∙ c.if-refused.false) gone.turn-answer.auto.f
 
 pub overflow_add-a : goal.overflow_add-a
 overflow_add-a c = omega (arith, underway_header c.loop-level.invariant)
