@@ -18,10 +18,9 @@ DOCUMENTS := README.md CHANGELOG.md LICENSE-APACHE LICENSE-MIT NOTICE VERSION do
 ifeq ($(HIFEWUGBE_LIB_DIR),)
 ARCHIVE := target/staticlib/libmultigrid_c.a
 CONVERSIONS := target/staticlib/libmatrix_market_c.a
-$(ARCHIVE) $(CONVERSIONS): target/staticlib/lib%.a: $(shell find crates.txt crates -type f)
-	rt staticlib $*
-	@touch $@
-# Two runs of rt in one folder disturb each other.
+$(ARCHIVE) $(CONVERSIONS): target/staticlib/lib%.a: $(shell find crates.txt crates -name out -prune -o -type f -print)
+	.ci/prove archive $*
+# One run of rt at a time.
 $(CONVERSIONS): $(ARCHIVE)
 else
 ARCHIVE := $(HIFEWUGBE_LIB_DIR)/libmultigrid_c.a

@@ -12,7 +12,7 @@ fn main() {
         println!("cargo::rerun-if-changed={}", archive.display());
         if !archive.is_file() {
             println!(
-                "cargo::error=there is no {}: run compare/run, or `rt staticlib {name}` in the repository",
+                "cargo::error=there is no {}: run compare/run, or `.ci/prove archive {name}` in the repository",
                 archive.display()
             );
         }

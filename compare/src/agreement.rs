@@ -4,12 +4,12 @@
 use crate::report::Report;
 
 const RATTLE: [&str; 11] = [
-    include_str!("../../crates/meshprobe/src/numbers.rt"),
-    include_str!("../../crates/meshprobe/src/controls.rt"),
-    include_str!("../../crates/meshprobe/src/vectors.rt"),
-    include_str!("../../crates/meshprobe/src/arrays.rt"),
-    include_str!("../../crates/meshprobe/src/coarsening.rt"),
-    include_str!("../../crates/meshprobe/src/topology.rt"),
+    include_str!("../../crates/meshprobe_c/src/numbers.rt"),
+    include_str!("../../crates/meshprobe_c/src/controls.rt"),
+    include_str!("../../crates/meshprobe_c/src/vectors.rt"),
+    include_str!("../../crates/meshprobe_c/src/arrays.rt"),
+    include_str!("../../crates/meshprobe_c/src/coarsening.rt"),
+    include_str!("../../crates/meshprobe_c/src/topology.rt"),
     include_str!("../../crates/probe/src/kernels.rt"),
     include_str!("../../crates/probe/src/smoothing.rt"),
     include_str!("../../crates/probe/src/terminals.rt"),

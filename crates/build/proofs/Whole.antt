@@ -147,7 +147,7 @@ module _ {w z : List ℕ} {F H : List Float} {o : MultigridOptions} {given : Boo
 
 -- Row sums change no level.
 levels_of : (o : MultigridOptions) (ls : List Level) → (with_sums o ls).levels ≡ ls
-levels_of o ls = depth.levels-kept o ls
+levels_of o ls = depth.levels_kept o ls
 
 mirrors_of_lem : (p : Pattern) (values : List Float) → symmetric_of p values ≡ true → mirrored_of p ≡ true
 unfolding symmetric_of

@@ -4,7 +4,7 @@ use Rattle.store.specs.Region.{part, Kept}
 use Rattle.options.specs.declared.options.MultigridOptions.{MultigridOptions}
 use Rattle.refusal.specs.Outcome.{Outcome, accepted, refused, ◌>>=◌}
 use Rattle.coefficients.specs.Update.{Coefficients}
-use Rattle.pattern.specs.Pattern.{entries, Valid, Rising, Mirrored}
+use Rattle.pattern.specs.Pattern.{Valid, Rising, Mirrored}
 use Rattle.faces.specs.Faces.{faces_of, diagonals_asked}
 use Rattle.hierarchy.specs.Proper.{Proper}
 use Rattle.hierarchy.specs.Build.{Mesh, fixed_charge, kernel_asked, paired}

@@ -4,18 +4,18 @@
 // With four numbers as arguments, seed, width, height and depth, it shows that load; else three: a flat one of two cells by two, one with depth, and one of 64 cells by 64.
 #![tactic(auto)]
 
-use libc::STDOUT_FILENO;
 use load::loading::{Loaded, Size, load};
+use std::env::{Env, FillError};
+use std::io;
 use store::wide;
 
 // A number with a blank before it.
-fn number(n: u64) {
-    io::write_all(STDOUT_FILENO, b" ");
-    io::print_decimal(STDOUT_FILENO, n);
+fn number(rt: &impl Print, n: u64) -> io::Result<()> {
+    print!(rt; " {n}")
 }
 
-fn end_line() {
-    io::write_all(STDOUT_FILENO, b"\n");
+fn end_line(rt: &impl Print) -> io::Result<()> {
+    print!(rt; "\n")
 }
 
 // The whole number that a float is: no entry of a row with six faces is above 6,145.
@@ -31,90 +31,106 @@ fn magnitude(x: f64) -> u64 {
 }
 
 // A value with a blank before it, and its sign where it is below zero.
-fn value(x: f64) {
-    io::write_all(STDOUT_FILENO, b" ");
+fn value(rt: &impl Print, x: f64) -> io::Result<()> {
     if x < 0.0 {
-        io::write_all(STDOUT_FILENO, b"-");
-        io::print_decimal(STDOUT_FILENO, magnitude(-x));
+        print!(rt; " -{}", magnitude(-x))
     } else {
-        io::print_decimal(STDOUT_FILENO, magnitude(x));
+        print!(rt; " {}", magnitude(x))
     }
 }
 
 // The column and the value of an entry.
-fn entry(columns: &[u32], values: &[f64], at: usize) {
+fn entry(rt: &impl Print, columns: &[u32], values: &[f64], at: usize) -> io::Result<()> {
     if at < columns.len() {
-        number(wide(columns[at]) as u64);
+        number(rt, wide(columns[at]) as u64)?;
     }
     if at < values.len() {
-        value(values[at]);
+        value(rt, values[at])?;
     }
+    Ok(())
 }
 
 // The entries of a row, from one place to another.
-fn entries(columns: &[u32], values: &[f64], from: usize, to: usize) {
-    let mut at = from;
-    while at < to {
+fn entries(
+    rt: &impl Print,
+    columns: &[u32],
+    values: &[f64],
+    from: usize,
+    to: usize,
+) -> io::Result<()> {
+    for at in from..to {
         if at > from {
-            io::write_all(STDOUT_FILENO, b",");
+            print!(rt; ",")?;
         }
-        entry(columns, values, at);
-        at += 1;
+        entry(rt, columns, values, at)?;
     }
+    Ok(())
 }
 
 // The line of a row.
-fn row(offsets: &[u32], columns: &[u32], values: &[f64], i: usize) {
+fn row(
+    rt: &impl Print,
+    offsets: &[u32],
+    columns: &[u32],
+    values: &[f64],
+    i: usize,
+) -> io::Result<()> {
     if i < 65536 {
         if i + 1 < offsets.len() {
-            io::write_all(STDOUT_FILENO, b"row");
-            number(i as u64);
-            io::write_all(STDOUT_FILENO, b":");
-            entries(columns, values, wide(offsets[i]), wide(offsets[i + 1]));
-            end_line();
+            print!(rt; "row")?;
+            number(rt, i as u64)?;
+            print!(rt; ":")?;
+            entries(rt, columns, values, wide(offsets[i]), wide(offsets[i + 1]))?;
+            end_line(rt)?;
         }
     }
+    Ok(())
 }
 
 // The lines of so many rows, but eight at most.
-fn rows(offsets: &[u32], columns: &[u32], values: &[f64], count: u64) {
-    let mut i: usize = 0;
-    while i < 8 {
+fn rows(
+    rt: &impl Print,
+    offsets: &[u32],
+    columns: &[u32],
+    values: &[f64],
+    count: u64,
+) -> io::Result<()> {
+    for i in 0..8 {
         if (i as u64) < count {
-            row(offsets, columns, values, i);
+            row(rt, offsets, columns, values, i)?;
         }
-        i += 1;
     }
+    Ok(())
 }
 
 // What was asked for.
-fn title(seed: u64, width: u64, height: u64, depth: u64) {
-    io::write_all(STDOUT_FILENO, b"seed");
-    number(seed);
-    io::write_all(STDOUT_FILENO, b", cells");
-    number(width);
-    io::write_all(STDOUT_FILENO, b" by");
-    number(height);
-    io::write_all(STDOUT_FILENO, b" by");
-    number(depth);
-    io::write_all(STDOUT_FILENO, b":");
+fn title(rt: &impl Print, seed: u64, width: u64, height: u64, depth: u64) -> io::Result<()> {
+    print!(rt; "seed")?;
+    number(rt, seed)?;
+    print!(rt; ", cells")?;
+    number(rt, width)?;
+    print!(rt; " by")?;
+    number(rt, height)?;
+    print!(rt; " by")?;
+    number(rt, depth)?;
+    print!(rt; ":")
 }
 
 // The size of a load that was made.
-fn size(s: Size) {
-    number(s.rows);
-    io::write_all(STDOUT_FILENO, b" rows,");
-    number(s.entries);
-    io::write_all(STDOUT_FILENO, b" entries");
-    end_line();
+fn size(rt: &impl Print, s: Size) -> io::Result<()> {
+    number(rt, s.rows)?;
+    print!(rt; " rows,")?;
+    number(rt, s.entries)?;
+    print!(rt; " entries")?;
+    end_line(rt)
 }
 
 // A load, of 4,096 cells at most.
-fn show(seed: u64, width: u64, height: u64, depth: u64) {
+fn show(rt: &impl Print, seed: u64, width: u64, height: u64, depth: u64) -> io::Result<()> {
     let mut offsets = [0u32; 4097];
     let mut columns = [0u32; 28672];
     let mut values = [0.0; 28672];
-    title(seed, width, height, depth);
+    title(rt, seed, width, height, depth)?;
     match load(
         seed,
         width,
@@ -125,13 +141,13 @@ fn show(seed: u64, width: u64, height: u64, depth: u64) {
         &mut values,
     ) {
         Loaded::Made(s) => {
-            size(s);
-            rows(&offsets, &columns, &values, s.rows);
+            size(rt, s)?;
+            rows(rt, &offsets, &columns, &values, s.rows)
         }
         Loaded::Refused(q) => {
-            io::write_all(STDOUT_FILENO, b" refused");
-            number(q.number);
-            end_line();
+            print!(rt; " refused")?;
+            number(rt, q.number)?;
+            end_line(rt)
         }
     }
 }
@@ -161,18 +177,34 @@ fn decimal(text: &[u8], length: usize) -> u64 {
 }
 
 // The number that an argument of the program is.
-fn argument(i: usize) -> u64 {
+fn argument(rt: &impl Env, i: usize) -> u64 {
     let mut text = [0u8; 20];
-    let length = os::arg(i, &mut text);
-    decimal(&text, length)
+    match rt.arg(i, &mut text) {
+        Ok(length) => decimal(&text, length),
+        Err(_) => 0,
+    }
 }
 
-fn main() {
-    if os::arg_count() == 5 {
-        show(argument(1), argument(2), argument(3), argument(4));
+// Whether the program has an argument of that number. Its own name is number 0.
+fn is_given(rt: &impl Env, i: usize) -> bool {
+    let mut text = [0u8; 20];
+    match rt.arg(i, &mut text) {
+        Ok(_) => true,
+        Err(FillError::TooLong) => true,
+        Err(FillError::NotPresent) => false,
+    }
+}
+
+fn main(rt: HostRuntime) -> io::Result<()> {
+    if is_given(&rt, 4) && !is_given(&rt, 5) {
+        let seed = argument(&rt, 1);
+        let width = argument(&rt, 2);
+        let height = argument(&rt, 3);
+        let depth = argument(&rt, 4);
+        show(&rt, seed, width, height, depth)
     } else {
-        show(1, 2, 2, 1);
-        show(1, 3, 3, 3);
-        show(1, 64, 64, 1);
+        show(&rt, 1, 2, 2, 1)?;
+        show(&rt, 1, 3, 3, 3)?;
+        show(&rt, 1, 64, 64, 1)
     }
 }

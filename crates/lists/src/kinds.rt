@@ -1,7 +1,7 @@
 // How many calls there are of each kind of answer.
 ghost use Rattle.std.specs.Prelude.{◌<◌};
 
-use libc::STDOUT_FILENO;
+use std::io;
 
 // What a call answers: zero or the number of the question that refuses, its level and row, and the levels built.
 #[derive(Clone, Copy)]
@@ -34,42 +34,36 @@ pub fn count(kinds: &mut [u64; 193], a: Answer) {
     }
 }
 
-fn print_kind(kind: u64) {
+fn print_kind(rt: &impl Print, kind: u64) -> io::Result<()> {
     if kind < 129 {
-        io::write_all(STDOUT_FILENO, b"accepted, levels ");
-        io::print_decimal(STDOUT_FILENO, kind);
+        print!(rt; "accepted, levels {kind}")
     } else {
-        io::write_all(STDOUT_FILENO, b"refused by ");
-        io::print_decimal(STDOUT_FILENO, (kind - 129) / 2);
+        print!(rt; "refused by {}", (kind - 129) / 2)?;
         if kind % 2 == 0 {
-            io::write_all(STDOUT_FILENO, b" below the finest level");
+            print!(rt; " below the finest level")?;
         }
+        Ok(())
     }
 }
 
-fn print_line(kind: u64, count: u64) {
-    print_kind(kind);
-    io::write_all(STDOUT_FILENO, b": ");
-    io::print_decimal(STDOUT_FILENO, count);
-    io::write_all(STDOUT_FILENO, b"\n");
+fn print_line(rt: &impl Print, kind: u64, count: u64) -> io::Result<()> {
+    print_kind(rt, kind)?;
+    println!(rt; ": {count}")
 }
 
 // A line for each kind that occurs.
-pub fn print(kinds: &[u64; 193]) {
-    let mut k = 0;
-    while k < 193 {
+pub fn print(rt: &impl Print, kinds: &[u64; 193]) -> io::Result<()> {
+    for k in 0..193 {
         if kinds[k] > 0 {
-            print_line(k as u64, kinds[k]);
+            print_line(rt, k as u64, kinds[k])?;
         }
-        k += 1;
     }
+    Ok(())
 }
 
 // The last line of a list: how many calls there are, what they are called, and how many differ.
-pub fn print_total(calls: u64, name: &[u8], differences: u64) {
-    io::print_decimal(STDOUT_FILENO, calls);
-    io::write_all(STDOUT_FILENO, name);
-    io::write_all(STDOUT_FILENO, b", ");
-    io::print_decimal(STDOUT_FILENO, differences);
-    io::write_all(STDOUT_FILENO, b" differences\n");
+pub fn print_total(rt: &impl Print, calls: u64, name: &[u8], differences: u64) -> io::Result<()> {
+    print!(rt; "{calls}")?;
+    rt.write_all(name)?;
+    println!(rt; ", {differences} differences")
 }

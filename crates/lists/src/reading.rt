@@ -1,5 +1,5 @@
 // Numbers out of the standard input: hexadecimal digits of lower case, and one space or one new line after each number.
-use libc::STDIN_FILENO;
+use std::io;
 
 // A number, and where the next one starts.
 #[derive(Clone, Copy)]
@@ -83,18 +83,18 @@ pub fn floats(text: &[u8], at: usize, count: usize, to: &mut [f64]) -> usize {
 }
 
 // The number of 8 digits that stands next in the input, as a list and each of its records begin.
-pub fn length() -> u64 {
+pub fn length(rt: &impl Input) -> io::Result<u64> {
     let mut text = [0u8; 9];
-    io::read_full(STDIN_FILENO, &mut text);
-    number(&text, 0).value
+    terminal::read_full(rt, &mut text)?;
+    Ok(number(&text, 0).value)
 }
 
 // The next record of a list, after the number of its bytes; the answer is how many were read. A record for which `text` is too short
 // is not read.
-pub fn record(text: &mut [u8]) -> usize {
-    let size = length() as usize;
+pub fn record(rt: &impl Input, text: &mut [u8]) -> io::Result<usize> {
+    let size = length(rt)? as usize;
     if size > text.len() {
-        return 0;
+        return Ok(0);
     }
-    io::read_full(STDIN_FILENO, &mut text[..size])
+    terminal::read_full(rt, &mut text[..size])
 }

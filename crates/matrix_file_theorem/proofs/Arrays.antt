@@ -141,7 +141,7 @@ module _ (symmetric : Bool) {m : Matrix} (s : SoundMatrix m) (w : WritableMatrix
   placed_map : {B : Type 0} (f : Entry → B) (g : ℕ → B) → ((r k : ℕ) → f (row_entry m r k) ≡ g (idx m.offsets r + k)) → (i : ℕ) → i ≤ m.rows
       → map f (joined (row_entries m.rows whole) i) ≡ tab g (idx m.offsets i)
   placed_map {B} f g e i h =
-      lists.map-joined f (row_entries m.rows whole) i
+      lists.map_joined f (row_entries m.rows whole) i
       ∙ joined_same (λ r. map f (row_entries m.rows whole r)) (λ r. tab (λ k. g (idx m.offsets r + k)) (row_length m r)) i
       (λ r l.
       ap (map f) (row_placed_lem r (omega arith))

@@ -13,7 +13,7 @@ use Rattle.refusal.specs.declared.Refusal.{Refusal}
 use Rattle.refusal.specs.Refusal.{too_large, bad_offsets, bad_columns, bad_number, unequal_mirrors, store_too_small}
 use Rattle.refusal.specs.Outcome.{Outcome, accepted, refused, passed, ask, ◌>>=◌, ask_rows, ask_each}
 use Rattle.refusal.proofs.Outcome.{never, accepted_one}
-use Rattle.store.specs.Region.{idx, at}
+use Rattle.store.specs.Region.{idx}
 use Rattle.store.proofs.store.Region.{le_or_lt}
 use Rattle.store.proofs.store.Vector.{length_tab, get_d_tab}
 use Rattle.csr.specs.Questions.{size_ok, offsets_ok, columns_ok, matrix_asked}

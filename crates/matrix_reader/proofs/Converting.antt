@@ -1,22 +1,22 @@
 -- A whole text: the ways in which its reading ends. Assumes nothing.
 use mathlib.Core.Path.{◌≡◌, refl, sym, ap, subst, ◌∙◌}
-use mathlib.Core.Bool.{Bool, true, false, not, cond, ◌&&◌}
-use mathlib.Core.List.{List, [], ◌∷◌, ◌++◌, map}
-use Prim.Native.Nat.{ℕ, ◌+◌, ◌-◌, ◌*◌, ◌≤◌, ◌<◌}
+use mathlib.Core.Bool.{Bool, true, false, not, ◌&&◌}
+use mathlib.Core.List.{List, [], map}
+use Prim.Native.Nat.{ℕ, ◌+◌, ◌≤◌, ◌<◌}
 use native.Mathlib.Omega.{arith}
 use lib.Dec.{leb}
-use lib.ListN.{length, take, drop}
+use lib.ListN.{length, take}
 use lib.Seq.{length-take-le, get_or-take}
 use lib.Ieee.{Float}
 use borrow.Author.Tests.{leb-true}
-use Rattle.refusal.specs.Outcome.{Outcome, accepted, refused, ask, ◌>>=◌}
+use Rattle.refusal.specs.Outcome.{Outcome, refused, ask, ◌>>=◌}
 use Rattle.refusal.specs.Refusal.{store_too_small, bad_matrix_file, bad_number}
 use Rattle.refusal.specs.declared.Refusal.{Refusal}
 use Rattle.refusal.proofs.Outcome.{ask_yes, ask_no, then_accepted, then_refused}
 use Rattle.store.specs.Region.{at, idx}
 use Rattle.store.specs.Vector.{filled}
 use Rattle.matrix_market.specs.Lines.{first_line, data_of}
-use Rattle.coordinate.specs.Coordinate.{Entry, repeated, expanded, row_starts, placed_columns, placed_values, listed}
+use Rattle.coordinate.specs.Coordinate.{Entry, repeated, expanded}
 use Rattle.coordinate.specs.Contract.{SortOk, Sorted}
 use Rattle.coordinate.proofs.Laws.{sorted_columns, sorted_values}
 use Rattle.record_format.specs.Format.{Matrix}
@@ -28,7 +28,7 @@ use Rattle.matrix_reader.specs.File.{kind_of, sizes_in, entries_from, lines_afte
 use Rattle.matrix_reader.specs.Contract.{stated_by, HeadIs}
 use Rattle.matrix_reader.specs.Steps.{entries_to}
 use Rattle.matrix_reader.specs.Writes.{ordered_matrix, FinishOk}
-use Rattle.matrix_reader.specs.Whole.{HeadLimits, GatherOk, EntriesPlaced, entries_of_text, BadGathered, AllGathered, GatherIs, SortRoom}
+use Rattle.matrix_reader.specs.Whole.{HeadLimits, GatherOk, EntriesPlaced, entries_of_text, GatherIs, SortRoom}
 use Rattle.matrix_reader.proofs.Opening.{both_l, both_r}
 use Rattle.matrix_reader.proofs.Stored.{entries_length}
 

@@ -1,7 +1,7 @@
 -- The entries of a text and their mirrors, once its lines are read. Assumes nothing.
 use mathlib.Core.Path.{◌≡◌, refl, sym, ap, subst, ◌∙◌}
-use mathlib.Core.Bool.{Bool, true, false, not, cond}
-use mathlib.Core.List.{List, [], ◌∷◌, ◌++◌}
+use mathlib.Core.Bool.{Bool, true, false, not}
+use mathlib.Core.List.{List, [], ◌++◌}
 use Prim.Native.Nat.{ℕ, ◌+◌, ◌*◌, ◌≤◌, ◌<◌}
 use native.Mathlib.Omega.{arith}
 use lib.Dec.{eqb}
@@ -10,17 +10,16 @@ use lib.Seq.{get_or-take, length-take-le}
 use lib.Ieee.{Float}
 use borrow.Author.Tests.{eq-eqb, ne_eqb}
 use Rattle.refusal.specs.Outcome.{Outcome, accepted, refused, ask, ◌>>=◌}
-use Rattle.refusal.specs.Refusal.{bad_matrix_file, bad_number}
-use Rattle.store.specs.Region.{idx}
+use Rattle.refusal.specs.Refusal.{bad_matrix_file}
 use Rattle.matrix_market.specs.Lines.{data_of}
-use Rattle.coordinate.specs.Coordinate.{Entry, repeated, mirrors_of, expanded, listed}
+use Rattle.coordinate.specs.Coordinate.{Entry, repeated, mirrors_of, expanded}
 use Rattle.record_format.specs.Format.{Matrix}
 use Rattle.matrix_reader.specs.declared.head.Head.{Head}
 use Rattle.matrix_reader.specs.declared.entries.LinesRead.{LinesRead}
-use Rattle.matrix_reader.specs.File.{Stated, entries_from, most_of}
+use Rattle.matrix_reader.specs.File.{most_of}
 use Rattle.matrix_reader.specs.Contract.{stated_by}
-use Rattle.matrix_reader.specs.Steps.{Pass, ended, bad_value, pass_from, verdict_for, entries_to, LinesOk, pass_told, count_told, LinesAre, MirrorsRoom, MirrorsPut}
-use Rattle.matrix_reader.specs.Whole.{HeadLimits, GatherOk, EntriesPlaced, entries_of_text, BadGathered, AllGathered, GatherIs}
+use Rattle.matrix_reader.specs.Steps.{verdict_for, entries_to, LinesOk, pass_told, count_told, LinesAre, MirrorsRoom, MirrorsPut}
+use Rattle.matrix_reader.specs.Whole.{GatherOk, EntriesPlaced, entries_of_text, BadGathered, AllGathered, GatherIs}
 use Rattle.matrix_reader.proofs.Repeats.{mirrors_repeat}
 use Rattle.matrix_reader.proofs.Passing.{pass_is}
 use Rattle.matrix_reader.proofs.Stored.{entries_length}

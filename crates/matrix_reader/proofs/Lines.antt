@@ -19,7 +19,7 @@ use Rattle.matrix_reader.specs.declared.head.Head.{Head}
 use Rattle.matrix_reader.specs.declared.entries.LineRead.{LineRead}
 use Rattle.matrix_reader.specs.declared.entries.LinesRead.{LinesRead}
 use Rattle.matrix_reader.specs.Contract.{stated_by}
-use Rattle.matrix_reader.specs.Steps.{Pass, ended, malformed, bad_value, no_value, pass_line, pass_from, entries_to, PlaceFor, EntryPut, LineOk, line_answer, stored_of, LineStored, LinesOk, LinesAre}
+use Rattle.matrix_reader.specs.Steps.{Pass, malformed, bad_value, no_value, pass_line, pass_from, entries_to, EntryPut, LineOk, line_answer, stored_of, LineStored, LinesOk, LinesAre}
 use Rattle.matrix_reader.proofs.Stored.{no_entries, entries_length, entries_more}
 
 -- ---- one line

@@ -3,13 +3,13 @@ use mathlib.Core.Path.{◌≡◌, refl, sym, ap, subst, ◌∙◌}
 use mathlib.Core.Logic.{⊎_elim}
 use mathlib.Core.Bool.{Bool, true, false, cond, ◌&&◌, true≢false}
 use mathlib.Core.List.{List, [], ◌∷◌}
-use Prim.Native.Nat.{ℕ, zero, suc, ◌+◌, ◌-◌, ◌^◌, ◌≤◌, ◌<◌, min}
+use Prim.Native.Nat.{ℕ, suc, ◌+◌, ◌-◌, ◌^◌, ◌≤◌, ◌<◌, min}
 use native.Mathlib.Numerals.{add-one}
 use native.Mathlib.Omega.{arith}
 use lib.Dec.{eqb, ltb, leb}
-use lib.ListN.{length, take, drop, get_or, length-drop, drop_of_length-le}
+use lib.ListN.{length, take, drop, get_or, drop_of_length-le}
 use lib.Seq.{drop-cons}
-use borrow.Author.Tests.{eq-eqb, ne_eqb, le-leb, lt-leb, leb-true, leb-false}
+use borrow.Author.Tests.{eq-eqb, ne_eqb, le-leb, lt-leb, leb-true}
 use Rattle.refusal.specs.declared.Refusal.{Refusal}
 use Rattle.refusal.specs.Outcome.{Outcome, accepted, refused, ask}
 use Rattle.refusal.specs.Refusal.{too_large, bad_matrix_file}
@@ -27,8 +27,8 @@ use Rattle.matrix_reader.specs.declared.head.SizesRead.{SizesRead}
 use Rattle.matrix_reader.specs.declared.head.FileSizes.{FileSizes}
 use Rattle.matrix_reader.specs.declared.head.Head.{Head}
 use Rattle.matrix_reader.specs.declared.head.HeadRead.{HeadRead}
-use Rattle.matrix_reader.specs.File.{header_of, same_bytes, kind_of, Stated, three_sizes, sizes_from, sizes_in, lines_after, Slices, after_sizes, after_kind, file_of}
-use Rattle.matrix_reader.specs.Contract.{kind_answer, sizes_answer, stated_by, SizesFound, SizeLineIs, HeadIs}
+use Rattle.matrix_reader.specs.File.{header_of, same_bytes, kind_of, Stated, three_sizes, sizes_from, sizes_in, lines_after, after_sizes, after_kind}
+use Rattle.matrix_reader.specs.Contract.{kind_answer, sizes_answer, SizesFound, SizeLineIs, HeadIs}
 
 clash : true ≡ false → ⊥
 clash z = let w : ◌≡◌ {A = ℕ} 0 1 = cc in omega arith

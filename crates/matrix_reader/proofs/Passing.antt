@@ -1,17 +1,17 @@
 -- One pass over the lines comes to what the entries come to one by one. Assumes nothing.
 use mathlib.Core.Path.{◌≡◌, refl, sym, ap, ◌∙◌}
-use mathlib.Core.Bool.{Bool, true, false, not, cond, ◌&&◌, ◌||◌}
+use mathlib.Core.Bool.{Bool, true, false, not, cond, ◌||◌}
 use mathlib.Core.List.{List, [], ◌∷◌, ◌++◌}
 use Prim.Native.Nat.{ℕ}
 use lib.Dec.{eqb, ltb}
 use lib.ListN.{length}
-use Rattle.refusal.specs.Outcome.{Outcome, accepted, refused, ask, ◌>>=◌}
+use Rattle.refusal.specs.Outcome.{accepted, refused, ask, ◌>>=◌}
 use Rattle.refusal.specs.Refusal.{bad_matrix_file, bad_number}
 use Rattle.matrix_market.specs.declared.placed.Placed.{Placed}
 use Rattle.matrix_market.specs.Placed.{placed_in}
 use Rattle.coordinate.specs.Coordinate.{Entry, repeated}
-use Rattle.matrix_reader.specs.File.{Stated, is_free, entry_after, entries_from}
-use Rattle.matrix_reader.specs.Steps.{Pass, ended, malformed, bad_value, no_value, pass_line, pass_from, verdict_for}
+use Rattle.matrix_reader.specs.File.{Stated, entry_after, entries_from}
+use Rattle.matrix_reader.specs.Steps.{malformed, no_value, pass_line, pass_from, verdict_for}
 use Rattle.matrix_reader.proofs.Repeats.{stands, free_not, repeated_more}
 
 module _ (symmetric : Bool) (s : Stated) where

@@ -4,15 +4,12 @@ use mathlib.Core.List.{List, [], ◌∷◌, ◌++◌, map}
 use Prim.Native.Nat.{ℕ, zero, suc, ◌+◌, ◌-◌, ◌*◌, ◌≤◌, ◌<◌}
 use native.Mathlib.Numerals.{add-one}
 use native.Mathlib.Omega.{arith}
-use lib.Dec.{leb}
-use lib.ListN.{length, take, drop, get_or, set, length-set, length-map}
+use lib.ListN.{length, take, get_or, set, length-set, length-map}
 use lib.Seq.{take-suc-set, take_all, get_or-take, length-take-le}
-use lib.Ieee.{Float, nan}
+use lib.Ieee.{Float}
 use borrow.Author.Tests.{le-leb, lt-leb}
-use Rattle.refusal.specs.Outcome.{Outcome, accepted, refused, ask}
 use Rattle.refusal.specs.Refusal.{too_large, store_too_small}
-use Rattle.refusal.specs.declared.Refusal.{Refusal}
-use Rattle.store.specs.Region.{at, idx, splice, Wrote}
+use Rattle.store.specs.Region.{at, idx, Wrote}
 use Rattle.store.specs.Vector.{tab, filled}
 use Rattle.record_format.specs.declared.marks.Mark.{Mark}
 use Rattle.record_format.specs.Bytes.{bytes4, float_bytes, flat}
@@ -20,7 +17,7 @@ use Rattle.record_format.specs.Format.{Matrix, letters_of, matrix_length, matrix
 use Rattle.record_format.proofs.Written.{wrote_next}
 use Rattle.matrix_reader.specs.declared.record.Converted.{Converted}
 use Rattle.matrix_reader.specs.File.{matrix_from, ConvertedIs}
-use Rattle.matrix_reader.specs.Writes.{PickOk, ordered_matrix, RecordRoom, FinishOk}
+use Rattle.matrix_reader.specs.Writes.{ordered_matrix, RecordRoom, FinishOk}
 
 -- ---- zeros
 

@@ -1,5 +1,5 @@
 -- What the steps of a whole file ask and ensure. Definitions only.
-use Rattle.std.specs.Prelude.{◌≡◌, Bool, not, List, [], ℕ, ◌+◌, ◌≤◌, ◌<◌, length, drop, Float}
+use Rattle.std.specs.Prelude.{◌≡◌, not, List, [], ℕ, ◌+◌, ◌≤◌, ◌<◌, length, drop, Float}
 use Rattle.refusal.specs.Outcome.{Outcome, refused, ask, ◌>>=◌}
 use Rattle.refusal.specs.Refusal.{bad_matrix_file, bad_number}
 use Rattle.store.specs.Region.{idx}

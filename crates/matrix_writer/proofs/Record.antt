@@ -1,6 +1,6 @@
 -- What the questions of a record tell, and how they go on. Assumes nothing.
 use mathlib.Core.Path.{◌≡◌, refl, sym, ap, ◌∙◌}
-use mathlib.Core.Bool.{Bool, true, false, not, ◌&&◌, and_true}
+use mathlib.Core.Bool.{Bool, true, false, not, ◌&&◌, and-true}
 use mathlib.Core.List.{List}
 use Prim.Native.Nat.{ℕ, ◌+◌, ◌-◌, ◌*◌, ◌≤◌, ◌<◌}
 use native.Mathlib.Omega.{arith}
@@ -148,7 +148,7 @@ module _ (b : List ℕ) (rows entries : ℕ) where
       full = eq-eqb (length vals) (length cols) (vals_length ∙ sym cols_length)
 
       pieces : (eqb start 0 && never && eqb end entries) ≡ (eqb (idx offs 0) 0 && never && eqb end (length cols) && eqb (length vals) (length cols))
-      pieces = rw (full, cols_length, x.is) (sym (and_true _))
+      pieces = rw (full, cols_length, x.is) (sym (and-true _))
 
   -- It passed: the rows lie among the entries.
   pub offsets_told : offsets_ok rows offs cols vals ≡ true → RowsIn (sized_matrix b rows entries)

@@ -17,20 +17,13 @@ fn unplaced(verdict: Verdict) -> u64
     }
 }
 
-#[unsafe(no_mangle)]
-pub extern "C" fn probe_check_matrix(
-    rows: usize,
-    offsets: &[u32],
-    columns: &[u32],
-    values: &[f64],
-) -> u64
+pub fn probe_check_matrix(rows: usize, offsets: &[u32], columns: &[u32], values: &[f64]) -> u64
     ensures { result ≡ answer_of (verdict_of (matrix_asked rows offsets.now columns.now values.now)) }
 {
     unplaced(csr::check_matrix(rows, offsets, columns, values))
 }
 
-#[unsafe(no_mangle)]
-pub extern "C" fn probe_check_weights(weights: &[f64], entries: usize) -> u64
+pub fn probe_check_weights(weights: &[f64], entries: usize) -> u64
     ensures { result ≡ answer_of (verdict_of (weights_asked entries weights.now)) }
 {
     unplaced(csr::check_weights(weights, entries))

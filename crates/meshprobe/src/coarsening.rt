@@ -13,8 +13,7 @@ ghost use Rattle.meshprobe.specs.Mesh.{graph_of, coarsening_of};
 use aggregation::Graph;
 use pattern::Coarsening;
 
-#[unsafe(no_mangle)]
-pub extern "C" fn probe_pairs(
+pub fn probe_pairs(
     w: &mut [u32],
     f: &[f64],
     rows: usize,
@@ -45,8 +44,7 @@ pub extern "C" fn probe_pairs(
     aggregation::pairs(w, f, g, forward != 0)
 }
 
-#[unsafe(no_mangle)]
-pub extern "C" fn probe_coarse_pattern(
+pub fn probe_coarse_pattern(
     w: &mut [u32],
     rows: usize,
     entries: usize,
@@ -79,8 +77,7 @@ pub extern "C" fn probe_coarse_pattern(
     pattern::coarse_pattern(w, c)
 }
 
-#[unsafe(no_mangle)]
-pub extern "C" fn probe_compose(w: &mut [u32], n: usize, map: usize, next: usize, count: usize)
+pub fn probe_compose(w: &mut [u32], n: usize, map: usize, next: usize, count: usize)
     requires { ComposeOk w.old n map next count }
     ensures { Wrote map n
         (compose_of n (part map n w.old) (part next count w.old))
@@ -89,8 +86,7 @@ pub extern "C" fn probe_compose(w: &mut [u32], n: usize, map: usize, next: usize
     pattern::compose(w, n, map, next, count);
 }
 
-#[unsafe(no_mangle)]
-pub extern "C" fn probe_sum_entries(
+pub fn probe_sum_entries(
     w: &[u32],
     f: &mut [f64],
     m: usize,
@@ -107,8 +103,7 @@ pub extern "C" fn probe_sum_entries(
     galerkin::sum_entries(w, f, m, positions, values, total, out);
 }
 
-#[unsafe(no_mangle)]
-pub extern "C" fn probe_sum_given(
+pub fn probe_sum_given(
     w: &[u32],
     given: &[f64],
     f: &mut [f64],
@@ -125,8 +120,7 @@ pub extern "C" fn probe_sum_given(
     galerkin::sum_given(w, given, f, m, positions, total, out);
 }
 
-#[unsafe(no_mangle)]
-pub extern "C" fn probe_symmetrize(
+pub fn probe_symmetrize(
     w: &[u32],
     f: &mut [f64],
     faces: usize,
@@ -144,8 +138,7 @@ pub extern "C" fn probe_symmetrize(
     galerkin::symmetrize(w, f, faces, upper, lower, total, values);
 }
 
-#[unsafe(no_mangle)]
-pub extern "C" fn probe_restrict_weights(
+pub fn probe_restrict_weights(
     w: &[u32],
     f: &mut [f64],
     count: usize,

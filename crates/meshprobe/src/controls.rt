@@ -6,8 +6,7 @@ ghost use Rattle.meshprobe.specs.Mesh.{flag};
 
 use crate::telling::number;
 
-#[unsafe(no_mangle)]
-pub extern "C" fn probe_validate(
+pub fn probe_validate(
     smoother: u8,
     residual_norm: u8,
     pre_sweeps: u64,

@@ -1,13 +1,13 @@
-// Exports for the comparison with the Rust, never shipped: numbers, vectors, controls and what is done on patterns, by numbers and slices
-// only. compare/src/boundary.rs and compare/probe.h declare the same functions.
+// For the comparison with the Rust, never shipped: numbers, vectors, controls and what is done on patterns, by numbers and slices
+// only. `meshprobe_c` exports these functions, and `probe` tells its answers as they do.
 #![tactic(auto)]
 
-mod arrays;
-mod coarsening;
-mod controls;
-mod numbers;
+pub mod arrays;
+pub mod coarsening;
+pub mod controls;
+pub mod numbers;
 pub mod telling;
-mod topology;
-mod vectors;
+pub mod topology;
+pub mod vectors;
 
 pub use telling::{answer, number, tell};

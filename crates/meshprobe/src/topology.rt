@@ -9,8 +9,7 @@ ghost use Rattle.meshprobe.specs.Mesh.{flag, topology_of, Told};
 use crate::telling::{answer, number};
 use faces::{Faces, diagonals, mirrors};
 
-#[unsafe(no_mangle)]
-pub extern "C" fn probe_face_offsets(
+pub fn probe_face_offsets(
     w: &mut [u32],
     rows: usize,
     entries: usize,
@@ -42,8 +41,7 @@ pub extern "C" fn probe_face_offsets(
     faces::face_offsets(w, s)
 }
 
-#[unsafe(no_mangle)]
-pub extern "C" fn probe_fill_faces(
+pub fn probe_fill_faces(
     w: &mut [u32],
     rows: usize,
     entries: usize,
@@ -75,8 +73,7 @@ pub extern "C" fn probe_fill_faces(
     faces::fill_faces(w, s);
 }
 
-#[unsafe(no_mangle)]
-pub extern "C" fn probe_mirrors(
+pub fn probe_mirrors(
     w: &mut [u32],
     rows: usize,
     entries: usize,
@@ -111,8 +108,7 @@ pub extern "C" fn probe_mirrors(
     number(mirrors::mirrors(w, s))
 }
 
-#[unsafe(no_mangle)]
-pub extern "C" fn probe_diagonals(
+pub fn probe_diagonals(
     w: &mut [u32],
     rows: usize,
     entries: usize,
@@ -153,8 +149,7 @@ pub extern "C" fn probe_diagonals(
     answer(diagonals::diagonals(w, s, level), place)
 }
 
-#[unsafe(no_mangle)]
-pub extern "C" fn probe_coupled_count(
+pub fn probe_coupled_count(
     w: &[u32],
     rows: usize,
     entries: usize,
@@ -186,8 +181,7 @@ pub extern "C" fn probe_coupled_count(
     faces::coupled_count(w, s)
 }
 
-#[unsafe(no_mangle)]
-pub extern "C" fn probe_coupled_rows(
+pub fn probe_coupled_rows(
     w: &mut [u32],
     rows: usize,
     entries: usize,

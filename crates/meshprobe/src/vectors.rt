@@ -7,8 +7,7 @@ ghost use Rattle.meshprobe.specs.Mesh.{flag, flag_of, written_of};
 
 use crate::telling::{number, tell};
 
-#[unsafe(no_mangle)]
-pub extern "C" fn probe_dot(f: &[f64], a: usize, b: usize, n: usize, out: &mut [f64]) -> u8
+pub fn probe_dot(f: &[f64], a: usize, b: usize, n: usize, out: &mut [f64]) -> u8
     requires n_in_bounds { a + n ≤ length f.now }
     requires n_in_bounds_2 { b + n ≤ length f.now }
     requires in_bounds { 1 ≤ length out.old }
@@ -18,8 +17,7 @@ pub extern "C" fn probe_dot(f: &[f64], a: usize, b: usize, n: usize, out: &mut [
     tell(vector::dot(f, a, b, n), out)
 }
 
-#[unsafe(no_mangle)]
-pub extern "C" fn probe_norm_l2(f: &[f64], a: usize, n: usize, out: &mut [f64]) -> u8
+pub fn probe_norm_l2(f: &[f64], a: usize, n: usize, out: &mut [f64]) -> u8
     requires n_in_bounds { a + n ≤ length f.now }
     requires in_bounds { 1 ≤ length out.old }
     ensures value { result ≡ flag_of (norm_of n (part a n f.now)) }
@@ -28,8 +26,7 @@ pub extern "C" fn probe_norm_l2(f: &[f64], a: usize, n: usize, out: &mut [f64]) 
     tell(vector::norm_l2(f, a, n), out)
 }
 
-#[unsafe(no_mangle)]
-pub extern "C" fn probe_all_finite(f: &[f64], n: usize, x: usize) -> u8
+pub fn probe_all_finite(f: &[f64], n: usize, x: usize) -> u8
     requires { x + n ≤ length f.now }
     ensures { result ≡ flag (all_finite n (part x n f.now)) }
 {

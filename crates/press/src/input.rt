@@ -1,7 +1,7 @@
 // Records from standard input.
-use libc::STDIN_FILENO;
 use record_format::Mark;
 use record_order::{Came, Next};
+use std::io;
 
 // What the input brings next: a record of so many bytes, its end, or bytes that are no record.
 #[derive(Clone, Copy)]
@@ -13,15 +13,15 @@ pub enum Arrived {
 
 // Reads n bytes more behind those that are there; the answer is how many came. None are read where the buffer has no place for them, which
 // no record asks for (`next-room`).
-fn more(buffer: &mut [u8], had: usize, n: usize) -> usize {
+fn more(rt: &impl Input, buffer: &mut [u8], had: usize, n: usize) -> io::Result<usize> {
     if had > buffer.len() {
-        return 0;
+        return Ok(0);
     }
     if n > buffer.len() - had {
-        return 0;
+        return Ok(0);
     }
     let end = had + n;
-    io::read_full(STDIN_FILENO, &mut buffer[had..end])
+    terminal::read_full(rt, &mut buffer[had..end])
 }
 
 // What is to be done next, with so many bytes of a record read.
@@ -38,29 +38,27 @@ fn judge(came: Came, buffer: &[u8; 4110], had: usize) -> Next {
 }
 
 // The next record, whole. A mark is read, then what tells the size, then the rest: no more than three parts.
-pub fn arrive(came: Came, buffer: &mut [u8; 4110]) -> Arrived {
+pub fn arrive(rt: &impl Input, came: Came, buffer: &mut [u8; 4110]) -> io::Result<Arrived> {
     let mut had: usize = 0;
-    let mut parts: u64 = 0;
-    while parts < 4 {
+    for _ in 0..4 {
         match judge(came, buffer, had) {
             Next::Read(n) => {
-                let got = more(buffer, had, n);
+                let got = more(rt, buffer, had, n)?;
                 if got < n {
                     if (had == 0) & (got == 0) {
-                        return Arrived::End;
+                        return Ok(Arrived::End);
                     }
-                    return Arrived::Bad;
+                    return Ok(Arrived::Bad);
                 }
                 had = std::num::wrapping_add_usize(had, n);
             }
             Next::Whole(mark) => {
-                return Arrived::Record(mark, had);
+                return Ok(Arrived::Record(mark, had));
             }
             Next::Refused(_) => {
-                return Arrived::Bad;
+                return Ok(Arrived::Bad);
             }
         }
-        parts += 1;
     }
-    Arrived::Bad
+    Ok(Arrived::Bad)
 }

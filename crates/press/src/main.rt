@@ -11,9 +11,11 @@ use press_run::Run;
 use record_format::{Mark, ProblemRead};
 use record_order::Ending;
 use refusal::Verdict;
+use std::io;
 
 // UP: read whole, then the build if there was none, then the update.
 fn update(
+    rt: &impl Print,
     run: Run,
     record: &[u8],
     offsets: &[u32; 65],
@@ -23,23 +25,26 @@ fn update(
     words: &mut [u32; 8192],
     floats: &mut [f64; 8192],
     statistics: &mut [u64; 640],
-) -> Run {
+) -> io::Result<Run> {
     let mut renewed = [0.0; 320];
     let came = run.came;
     let entries = came.entries as usize;
     match record_format::read_values(record, Mark::Update, entries, &mut renewed) {
         Verdict::Passed => {
             let built = running::build(
-                run, offsets, columns, values, weights, words, floats, statistics,
-            );
-            running::update(built, offsets, columns, &renewed, words, floats, statistics)
+                rt, run, offsets, columns, values, weights, words, floats, statistics,
+            )?;
+            running::update(
+                rt, built, offsets, columns, &renewed, words, floats, statistics,
+            )
         }
-        Verdict::Refused(q) => running::refuse(run, q),
+        Verdict::Refused(q) => running::refuse(rt, run, q),
     }
 }
 
 // SO: read whole, then the build if there was none, then the solve.
 fn solve(
+    rt: &impl Print,
     run: Run,
     record: &[u8],
     offsets: &[u32; 65],
@@ -49,7 +54,7 @@ fn solve(
     words: &mut [u32; 8192],
     floats: &mut [f64; 8192],
     statistics: &mut [u64; 640],
-) -> Run {
+) -> io::Result<Run> {
     let mut rhs = [0.0; 64];
     let mut x = [0.0; 64];
     let came = run.came;
@@ -57,16 +62,17 @@ fn solve(
     match record_format::read_solve(record, rows, &mut rhs, &mut x) {
         ProblemRead::Read(limits) => {
             let built = running::build(
-                run, offsets, columns, values, weights, words, floats, statistics,
-            );
-            running::solve(built, limits, &rhs, &mut x, words, floats, statistics)
+                rt, run, offsets, columns, values, weights, words, floats, statistics,
+            )?;
+            running::solve(rt, built, limits, &rhs, &mut x, words, floats, statistics)
         }
-        ProblemRead::Refused(q) => running::refuse(run, q),
+        ProblemRead::Refused(q) => running::refuse(rt, run, q),
     }
 }
 
 // Acts on a whole record.
 fn act_on(
+    rt: &impl Print,
     run: Run,
     mark: Mark,
     record: &[u8],
@@ -77,22 +83,23 @@ fn act_on(
     words: &mut [u32; 8192],
     floats: &mut [f64; 8192],
     statistics: &mut [u64; 640],
-) -> Run {
+) -> io::Result<Run> {
     match mark {
-        Mark::Controls => running::controls(run, record),
-        Mark::Matrix => running::matrix(run, record, offsets, columns, values),
-        Mark::Weights => running::weights(run, record, weights),
+        Mark::Controls => running::controls(rt, run, record),
+        Mark::Matrix => running::matrix(rt, run, record, offsets, columns, values),
+        Mark::Weights => running::weights(rt, run, record, weights),
         Mark::Update => update(
-            run, record, offsets, columns, values, weights, words, floats, statistics,
+            rt, run, record, offsets, columns, values, weights, words, floats, statistics,
         ),
         Mark::Solve => solve(
-            run, record, offsets, columns, values, weights, words, floats, statistics,
+            rt, run, record, offsets, columns, values, weights, words, floats, statistics,
         ),
     }
 }
 
 // Acts on a whole record of so many bytes, at the start of the buffer.
 fn act(
+    rt: &impl Print,
     run: Run,
     mark: Mark,
     size: usize,
@@ -104,9 +111,10 @@ fn act(
     words: &mut [u32; 8192],
     floats: &mut [f64; 8192],
     statistics: &mut [u64; 640],
-) -> Run {
+) -> io::Result<Run> {
     let n = lists::least(size, buffer.len());
     act_on(
+        rt,
         run,
         mark,
         &buffer[..n],
@@ -122,6 +130,7 @@ fn act(
 
 // The end of the input.
 fn finish(
+    rt: &impl Print,
     run: Run,
     offsets: &[u32; 65],
     columns: &[u32; 320],
@@ -130,22 +139,23 @@ fn finish(
     words: &mut [u32; 8192],
     floats: &mut [f64; 8192],
     statistics: &mut [u64; 640],
-) -> Run {
+) -> io::Result<Run> {
     let came = run.came;
     match came.at_end() {
         Ending::Build => {
             let built = running::build(
-                run, offsets, columns, values, weights, words, floats, statistics,
-            );
-            built.end()
+                rt, run, offsets, columns, values, weights, words, floats, statistics,
+            )?;
+            Ok(built.end())
         }
-        Ending::Done => run.end(),
-        Ending::Refused(q) => running::refuse(run, q),
+        Ending::Done => Ok(run.end()),
+        Ending::Refused(q) => running::refuse(rt, run, q),
     }
 }
 
 // What the input brought: a record at the start of the buffer, or the end.
 fn turn(
+    rt: &impl Print,
     run: Run,
     arrived: Arrived,
     buffer: &[u8; 4110],
@@ -156,20 +166,21 @@ fn turn(
     words: &mut [u32; 8192],
     floats: &mut [f64; 8192],
     statistics: &mut [u64; 640],
-) -> Run {
+) -> io::Result<Run> {
     match arrived {
         Arrived::Record(mark, size) => act(
-            run, mark, size, buffer, offsets, columns, values, weights, words, floats, statistics,
+            rt, run, mark, size, buffer, offsets, columns, values, weights, words, floats,
+            statistics,
         ),
         Arrived::End => finish(
-            run, offsets, columns, values, weights, words, floats, statistics,
+            rt, run, offsets, columns, values, weights, words, floats, statistics,
         ),
-        Arrived::Bad => running::refuse(run, record_format::BAD_RECORD),
+        Arrived::Bad => running::refuse(rt, run, record_format::BAD_RECORD),
     }
 }
 
 // Record by record, until the run is over. There are no 2^64 records.
-fn main() {
+fn main(rt: HostRuntime) -> io::Result<()> {
     let mut buffer = [0u8; 4110];
     let mut offsets = [0u32; 65];
     let mut columns = [0u32; 320];
@@ -179,11 +190,11 @@ fn main() {
     let mut floats = [0.0; 8192];
     let mut statistics = [0u64; 640];
     let mut run = Run::start();
-    let mut left: u64 = 18446744073709551615;
-    loop {
+    for _ in 0..u64::MAX {
         let came = run.came;
-        let arrived = input::arrive(came, &mut buffer);
+        let arrived = input::arrive(&rt, came, &mut buffer)?;
         run = turn(
+            &rt,
             run,
             arrived,
             &buffer,
@@ -194,13 +205,10 @@ fn main() {
             &mut words,
             &mut floats,
             &mut statistics,
-        );
+        )?;
         if run.over {
-            return;
+            return Ok(());
         }
-        if left == 0 {
-            return;
-        }
-        left -= 1;
     }
+    Ok(())
 }

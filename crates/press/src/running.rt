@@ -4,49 +4,57 @@ use press_run::Run;
 use record_format::{ControlsRead, Mark, MatrixRead};
 use refusal::{Refusal, Verdict};
 use solver::{Built, LinearSolveReport, LinearSolverOptions, Solved, Updated};
+use std::io;
 
 // A refusal that ends the run.
-pub fn refuse(run: Run, q: Refusal) -> Run {
-    result_lines::refused(q);
-    run.end()
+pub fn refuse(rt: &impl Print, run: Run, q: Refusal) -> io::Result<Run> {
+    result_lines::refused(rt, q)?;
+    Ok(run.end())
 }
 
 // CO.
-pub fn controls(run: Run, record: &[u8]) -> Run {
+pub fn controls(rt: &impl Print, run: Run, record: &[u8]) -> io::Result<Run> {
     let read = record_format::read_controls(record);
     if let ControlsRead::Refused(q) = read {
-        result_lines::refused(q);
+        result_lines::refused(rt, q)?;
     }
-    run.take_controls(read)
+    Ok(run.take_controls(read))
 }
 
 // MX.
 pub fn matrix(
+    rt: &impl Print,
     run: Run,
     record: &[u8],
     offsets: &mut [u32; 65],
     columns: &mut [u32; 320],
     values: &mut [f64; 320],
-) -> Run {
+) -> io::Result<Run> {
     let read = record_format::read_matrix(record, offsets, columns, values);
     if let MatrixRead::Refused(q) = read {
-        result_lines::refused(q);
+        result_lines::refused(rt, q)?;
     }
-    run.take_matrix(read)
+    Ok(run.take_matrix(read))
 }
 
 // FW.
-pub fn weights(run: Run, record: &[u8], weights: &mut [f64; 320]) -> Run {
+pub fn weights(
+    rt: &impl Print,
+    run: Run,
+    record: &[u8],
+    weights: &mut [f64; 320],
+) -> io::Result<Run> {
     let came = run.came;
     let read = record_format::read_values(record, Mark::Weights, came.entries as usize, weights);
     if let Verdict::Refused(q) = read {
-        result_lines::refused(q);
+        result_lines::refused(rt, q)?;
     }
-    run.take_weights(read)
+    Ok(run.take_weights(read))
 }
 
 // The build, if there was none: before the first UP or SO and at the end.
 pub fn build(
+    rt: &impl Print,
     run: Run,
     offsets: &[u32; 65],
     columns: &[u32; 320],
@@ -55,7 +63,7 @@ pub fn build(
     words: &mut [u32; 8192],
     floats: &mut [f64; 8192],
     statistics: &mut [u64; 640],
-) -> Run {
+) -> io::Result<Run> {
     if run.builds_first() {
         let built = press_run::build(
             run.came,
@@ -69,16 +77,17 @@ pub fn build(
             statistics,
         );
         if let Built::Refused(q) = built {
-            result_lines::refused(q);
+            result_lines::refused(rt, q)?;
         }
-        run.take_build(built)
+        Ok(run.take_build(built))
     } else {
-        run
+        Ok(run)
     }
 }
 
 // An update of a run that is built.
 pub fn update(
+    rt: &impl Print,
     run: Run,
     offsets: &[u32; 65],
     columns: &[u32; 320],
@@ -86,30 +95,37 @@ pub fn update(
     words: &[u32; 8192],
     floats: &mut [f64; 8192],
     statistics: &[u64; 640],
-) -> Run {
+) -> io::Result<Run> {
     if run.over {
-        return run;
+        return Ok(run);
     }
     let updated = press_run::update(
         run.came, run.handle, offsets, columns, renewed, words, floats, statistics,
     );
     match updated {
-        Updated::Done => result_lines::updated(),
-        Updated::Refused(q) => result_lines::refused(q),
+        Updated::Done => result_lines::updated(rt)?,
+        Updated::Refused(q) => result_lines::refused(rt, q)?,
     }
-    run.take_update(updated)
+    Ok(run.take_update(updated))
 }
 
 // The lines of an accepted solve.
-fn tell_solve(handle: Handle, report: LinearSolveReport, x: &[f64; 64], statistics: &[u64; 640]) {
-    result_lines::levels(handle);
-    result_lines::report(report);
-    result_lines::solution(x, handle.rows as usize);
-    result_lines::counters(statistics, handle.levels);
+fn tell_solve(
+    rt: &impl Print,
+    handle: Handle,
+    report: LinearSolveReport,
+    x: &[f64; 64],
+    statistics: &[u64; 640],
+) -> io::Result<()> {
+    result_lines::levels(rt, handle)?;
+    result_lines::report(rt, report)?;
+    result_lines::solution(rt, x, handle.rows as usize)?;
+    result_lines::counters(rt, statistics, handle.levels)
 }
 
 // A solve of a run that is built, and its lines.
 pub fn solve(
+    rt: &impl Print,
     run: Run,
     limits: LinearSolverOptions,
     rhs: &[f64; 64],
@@ -117,15 +133,15 @@ pub fn solve(
     words: &[u32; 8192],
     floats: &mut [f64; 8192],
     statistics: &mut [u64; 640],
-) -> Run {
+) -> io::Result<Run> {
     if run.over {
-        return run;
+        return Ok(run);
     }
     let handle = run.handle;
     let solved = press_run::solve(run.came, handle, limits, rhs, x, words, floats, statistics);
     match solved {
-        Solved::Report(report) => tell_solve(handle, report, x, statistics),
-        Solved::Refused(q) => result_lines::refused(q),
+        Solved::Report(report) => tell_solve(rt, handle, report, x, statistics)?,
+        Solved::Refused(q) => result_lines::refused(rt, q)?,
     }
-    run.take_solve(solved)
+    Ok(run.take_solve(solved))
 }

@@ -3,6 +3,7 @@ use lists::kinds::Answer;
 use lists::stores::Extent;
 use lists::{Problem, kinds, reading, stores};
 use solver::Built;
+use std::io;
 
 // The answer of a build in numbers.
 fn told(built: Built) -> Answer {
@@ -128,39 +129,37 @@ fn compare(
 }
 
 // The next build of the list. The stores are full of noise before.
-fn next_build(counts: &mut [u64; 193]) -> bool {
-    let mut text = io::large_buffer();
+fn next_build(rt: &impl Input, counts: &mut [u64; 193]) -> io::Result<bool> {
+    let mut text = [0u8; 65536];
     let mut words = [0xa5a5_a5a5u32; 8192];
     let mut floats = [-1.5e99; 8192];
     let mut statistics = [0xa5a5_a5a5_a5a5_a5a5u64; 640];
-    let size = reading::record(&mut text);
-    compare(
+    let size = reading::record(rt, &mut text)?;
+    Ok(compare(
         &text,
         size,
         &mut words,
         &mut floats,
         &mut statistics,
         counts,
-    )
+    ))
 }
 
 // The lines that the program writes for the list.
-fn report(counts: &[u64; 193], builds: u64, differences: u64) {
-    kinds::print(counts);
-    kinds::print_total(builds, b" builds", differences);
+fn report(rt: &impl Print, counts: &[u64; 193], builds: u64, differences: u64) -> io::Result<()> {
+    kinds::print(rt, counts)?;
+    kinds::print_total(rt, builds, b" builds", differences)
 }
 
 // All builds of the list: a line for each kind of answer, then how many there are and how many differ.
-pub fn replay() {
-    let builds = reading::length();
+pub fn replay(rt: &(impl Input + Print)) -> io::Result<()> {
+    let builds = reading::length(rt)?;
     let mut counts = [0u64; 193];
     let mut differences: u64 = 0;
-    let mut k: u64 = 0;
-    while k < builds {
-        if !next_build(&mut counts) {
+    for _ in 0..builds {
+        if !next_build(rt, &mut counts)? {
             differences += 1;
         }
-        k += 1;
     }
-    report(&counts, builds, differences);
+    report(rt, &counts, builds, differences)
 }

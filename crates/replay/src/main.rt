@@ -6,6 +6,8 @@
 
 mod builds;
 
-fn main() {
-    builds::replay();
+use std::io;
+
+fn main(rt: HostRuntime) -> io::Result<()> {
+    builds::replay(&rt)
 }

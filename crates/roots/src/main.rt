@@ -10,7 +10,7 @@
 ghost use Rattle.std.specs.Prelude.{◌≡◌, ◌+◌, ◌/◌, ◌≤◌, length};
 ghost use Rattle.roots.specs.Replay.{digit_of, word_of, differs_of, differences_of};
 
-use libc::{STDIN_FILENO, STDOUT_FILENO};
+use std::io;
 
 // The value of a hexadecimal digit in lower case.
 fn digit(c: u8) -> u64
@@ -68,14 +68,10 @@ fn worked() {
     check::expect(float::to_bits(float::sqrt(-0.0)) == 0x8000_0000_0000_0000);
 }
 
-fn main() {
+fn main(rt: HostRuntime) -> io::Result<()> {
     worked();
-    let mut text = io::large_buffer();
-    let n = io::read_full(STDIN_FILENO, &mut text);
+    let mut text = [0u8; 65536];
+    let n = terminal::read_full(&rt, &mut text)?;
     let count = differences(&text[..n]);
-    io::write_all(STDOUT_FILENO, b"roots ");
-    io::print_decimal(STDOUT_FILENO, (n / 34) as u64);
-    io::write_all(STDOUT_FILENO, b" differences ");
-    io::print_decimal(STDOUT_FILENO, count);
-    io::write_all(STDOUT_FILENO, b"\n");
+    println!(rt; "roots {} differences {count}", n / 34)
 }

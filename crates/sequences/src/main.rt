@@ -9,6 +9,8 @@ mod outcomes;
 mod recall;
 mod sequence;
 
-fn main() {
-    sequence::replay();
+use std::io;
+
+fn main(rt: HostRuntime) -> io::Result<()> {
+    sequence::replay(&rt)
 }

@@ -1,6 +1,6 @@
 // How many updates and solves there are of each kind of answer.
-use libc::STDOUT_FILENO;
 use lists::kinds;
+use std::io;
 
 // One more of a kind, as recall::Agreed has them.
 pub fn count(kinds: &mut [u64; 98], kind: usize) {
@@ -12,56 +12,58 @@ pub fn count(kinds: &mut [u64; 98], kind: usize) {
     }
 }
 
-fn print_update(kind: u64) {
+fn print_update(rt: &impl Print, kind: u64) -> io::Result<()> {
     if kind == 0 {
-        io::write_all(STDOUT_FILENO, b"update accepted");
+        print!(rt; "update accepted")
     } else {
-        io::write_all(STDOUT_FILENO, b"update refused by ");
-        io::print_decimal(STDOUT_FILENO, kind / 2);
+        print!(rt; "update refused by {}", kind / 2)?;
         if kind % 2 == 1 {
-            io::write_all(STDOUT_FILENO, b" below the finest level");
+            print!(rt; " below the finest level")?;
         }
+        Ok(())
     }
 }
 
-fn print_solve(kind: u64) {
+fn print_solve(rt: &impl Print, kind: u64) -> io::Result<()> {
     if kind == 64 {
-        io::write_all(STDOUT_FILENO, b"solve converged at once");
+        print!(rt; "solve converged at once")
     } else if kind == 65 {
-        io::write_all(STDOUT_FILENO, b"solve converged");
+        print!(rt; "solve converged")
     } else if kind == 66 {
-        io::write_all(STDOUT_FILENO, b"solve used up its iterations");
+        print!(rt; "solve used up its iterations")
     } else if kind > 66 {
-        io::write_all(STDOUT_FILENO, b"solve refused by ");
-        io::print_decimal(STDOUT_FILENO, kind - 66);
+        print!(rt; "solve refused by {}", kind - 66)
+    } else {
+        Ok(())
     }
 }
 
-fn print_line(kind: u64, count: u64) {
+fn print_line(rt: &impl Print, kind: u64, count: u64) -> io::Result<()> {
     if kind < 64 {
-        print_update(kind);
+        print_update(rt, kind)?;
     } else {
-        print_solve(kind);
+        print_solve(rt, kind)?;
     }
-    io::write_all(STDOUT_FILENO, b": ");
-    io::print_decimal(STDOUT_FILENO, count);
-    io::write_all(STDOUT_FILENO, b"\n");
+    println!(rt; ": {count}")
 }
 
 // A line for each kind that occurs.
-pub fn print(kinds: &[u64; 98]) {
-    let mut k = 0;
-    while k < 98 {
+pub fn print(rt: &impl Print, kinds: &[u64; 98]) -> io::Result<()> {
+    for k in 0..98 {
         if kinds[k] > 0 {
-            print_line(k as u64, kinds[k]);
+            print_line(rt, k as u64, kinds[k])?;
         }
-        k += 1;
     }
+    Ok(())
 }
 
 // The last line: how many sequences and calls there are, and how many differ.
-pub fn print_total(sequences: u64, calls: u64, differences: u64) {
-    io::print_decimal(STDOUT_FILENO, sequences);
-    io::write_all(STDOUT_FILENO, b" sequences, ");
-    kinds::print_total(calls, b" calls", differences);
+pub fn print_total(
+    rt: &impl Print,
+    sequences: u64,
+    calls: u64,
+    differences: u64,
+) -> io::Result<()> {
+    print!(rt; "{sequences} sequences, ")?;
+    kinds::print_total(rt, calls, b" calls", differences)
 }

@@ -3,6 +3,7 @@ use crate::{outcomes, recall};
 use lists::{Problem, least, reading};
 use options::Handle;
 use solver::Built;
+use std::io;
 
 // How many calls were made, and how often something differs.
 #[derive(Clone, Copy)]
@@ -100,36 +101,34 @@ fn compare(
 }
 
 // The next sequence of the list. The stores are full of noise before.
-fn next_sequence(counts: &mut [u64; 98]) -> Tally {
-    let mut text = io::large_buffer();
+fn next_sequence(rt: &impl Input, counts: &mut [u64; 98]) -> io::Result<Tally> {
+    let mut text = [0u8; 65536];
     let mut words = [0xa5a5_a5a5u32; 8192];
     let mut floats = [-1.5e99; 8192];
     let mut statistics = [0xa5a5_a5a5_a5a5_a5a5u64; 640];
-    let size = reading::record(&mut text);
-    compare(
+    let size = reading::record(rt, &mut text)?;
+    Ok(compare(
         &text,
         size,
         &mut words,
         &mut floats,
         &mut statistics,
         counts,
-    )
+    ))
 }
 
-fn report(counts: &[u64; 98], sequences: u64, tally: Tally) {
-    outcomes::print(counts);
-    outcomes::print_total(sequences, tally.calls, tally.differences);
+fn report(rt: &impl Print, counts: &[u64; 98], sequences: u64, tally: Tally) -> io::Result<()> {
+    outcomes::print(rt, counts)?;
+    outcomes::print_total(rt, sequences, tally.calls, tally.differences)
 }
 
 // All sequences of the list: a line for each kind of answer, then how many there are and how often something differs.
-pub fn replay() {
-    let sequences = reading::length();
+pub fn replay(rt: &(impl Input + Print)) -> io::Result<()> {
+    let sequences = reading::length(rt)?;
     let mut counts = [0u64; 98];
     let mut tally = counted(0, true);
-    let mut k: u64 = 0;
-    while k < sequences {
-        tally = sum(tally, next_sequence(&mut counts));
-        k += 1;
+    for _ in 0..sequences {
+        tally = sum(tally, next_sequence(rt, &mut counts)?);
     }
-    report(&counts, sequences, tally);
+    report(rt, &counts, sequences, tally)
 }

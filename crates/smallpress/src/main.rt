@@ -7,6 +7,7 @@ use options::{
     Handle, MultigridCoarseSolver, MultigridOptions, MultigridResidualNorm, MultigridSmoother,
 };
 use solver::{Built, Counted, LinearSolverOptions, Solved};
+use std::io;
 
 // The defaults but Cholesky, AbsoluteL2 and plain cycles.
 fn controls() -> MultigridOptions {
@@ -32,8 +33,14 @@ fn controls() -> MultigridOptions {
 }
 
 // The solve of a hierarchy that was built, and what it leaves.
-fn press(handle: Handle, words: &[u32], floats: &mut [f64], statistics: &mut [u64]) {
-    result_lines::levels(handle);
+fn press(
+    rt: &impl Print,
+    handle: Handle,
+    words: &[u32],
+    floats: &mut [f64],
+    statistics: &mut [u64],
+) -> io::Result<()> {
+    result_lines::levels(rt, handle)?;
     let rhs = [2.0, 0.0];
     let mut x = [0.0, 0.0];
     let options = LinearSolverOptions {
@@ -42,17 +49,17 @@ fn press(handle: Handle, words: &[u32], floats: &mut [f64], statistics: &mut [u6
         max_iterations: 5,
     };
     match calls::solve(handle, words, floats, statistics, &rhs, &mut x, options) {
-        Solved::Report(r) => result_lines::report(r),
-        Solved::Refused(q) => result_lines::refused(q),
+        Solved::Report(r) => result_lines::report(rt, r)?,
+        Solved::Refused(q) => result_lines::refused(rt, q)?,
     }
-    result_lines::solution(&x, 2);
+    result_lines::solution(rt, &x, 2)?;
     match calls::statistics(handle, words, floats, statistics) {
-        Counted::Levels(levels) => result_lines::counters(statistics, levels),
-        Counted::Refused(q) => result_lines::refused(q),
+        Counted::Levels(levels) => result_lines::counters(rt, statistics, levels),
+        Counted::Refused(q) => result_lines::refused(rt, q),
     }
 }
 
-fn main() {
+fn main(rt: HostRuntime) -> io::Result<()> {
     let offsets = [0u32, 2, 4];
     let columns = [0u32, 1, 0, 1];
     let values = [4.0, -2.0, -2.0, 2.0];
@@ -69,7 +76,7 @@ fn main() {
         &mut floats,
         &mut statistics,
     ) {
-        Built::Made(handle) => press(handle, &words, &mut floats, &mut statistics),
-        Built::Refused(q) => result_lines::refused(q),
+        Built::Made(handle) => press(&rt, handle, &words, &mut floats, &mut statistics),
+        Built::Refused(q) => result_lines::refused(&rt, q),
     }
 }

@@ -87,14 +87,14 @@ module _ {w : List ℕ} {size : ℕ} {o : MultigridOptions} {t : Workspace} {s :
   words_below =
       let h = ok.level.stands.placed in
       let f = half in
-      omega (arith, ok.level.rows, ok.level.most, laying.words-below ok.level.room)
+      omega (arith, ok.level.rows, ok.level.most, laying.words_below ok.level.room)
 
   -- and so do its floats.
   pub floats_below : p.factor ≤ t.values
   floats_below =
       let h = ok.level.stands.placed in
       let f = half in
-      omega (arith, ok.level.rows, ok.level.most, laying.floats-below ok.level.room)
+      omega (arith, ok.level.rows, ok.level.most, laying.floats_below ok.level.room)
 
   -- The header lies in the words.
   pub header_fits : s.a + 1 + 2 ≤ length w
@@ -105,7 +105,7 @@ module _ {w : List ℕ} {size : ℕ} {o : MultigridOptions} {t : Workspace} {s :
       omega (arith, inside.0)
 
   faces_at_lem : idx w (p.starts + p.rows) ≡ p.faces
-  faces_at_lem = laying.faces-at ok.level.stands.shapes ok.level.stands.proper.valid
+  faces_at_lem = laying.faces_at_lem ok.level.stands.shapes ok.level.stands.proper.valid
 
   -- The kernel at the level's place is that of its shape.
   pub kernel_is : (F : List Float) (map : List ℕ) (n : ℕ) → let c = coefficients_at F p in

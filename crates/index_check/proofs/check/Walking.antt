@@ -4,7 +4,7 @@ use mathlib.Core.Path.{◌≡◌, refl, sym, ap, ◌∙◌}
 use mathlib.Core.Bool.{Bool, true, false, ◌&&◌}
 use mathlib.Core.List.{List}
 use Prim.Native.Nat.{ℕ, zero, suc, ◌+◌, ◌-◌, ◌≤◌, ◌<◌}
-use native.Mathlib.Nat.{sub_zero}
+use native.Mathlib.Nat.{sub-zero}
 use native.Mathlib.Numerals.{add-one}
 use native.Mathlib.Omega.{arith}
 use lib.ListN.{length}
@@ -46,7 +46,7 @@ pub record Heads (w : List ℕ) (levels level a : ℕ) : Type 0 where
 
 -- All are left.
 pub heads_start : (w : List ℕ) (levels : ℕ) → Heads w levels 0 0
-heads_start w levels = record { within = omega arith; same = rw (sub_zero levels) }
+heads_start w levels = record { within = omega arith; same = rw (sub-zero levels) }
 
 module _ {w : List ℕ} {levels level a : ℕ} (o : Heads w levels level a) where
   -- None is left.
@@ -95,7 +95,7 @@ rows_past targets sums s level rows (suc row) h e =
 rows_from : (targets sums : ℕ) (s : Shape) (level row : ℕ) → Passed (row_sound targets sums s) s.pattern.rows row
     → rows_walked targets sums s level s.pattern.rows 0 ≡ rows_walked targets sums s level (s.pattern.rows - row) row
 rows_from targets sums s level row p =
-    let z : s.pattern.rows - 0 ≡ s.pattern.rows = sub_zero s.pattern.rows in
+    let z : s.pattern.rows - 0 ≡ s.pattern.rows = sub-zero s.pattern.rows in
     rw z at (rows_past targets sums s level s.pattern.rows row p.within p.all)
 
 -- The first row that fails is the place,
@@ -144,7 +144,7 @@ pub record Outer (w : List ℕ) (levels level a : ℕ) : Type 0 where
 
 -- All are left.
 pub start : (w : List ℕ) (levels : ℕ) → HeadsOk w levels → Outer w levels 0 0
-start w levels ok = record { within = omega arith; heads = rw (sub_zero levels) ok.heads; same = rw (sub_zero levels) }
+start w levels ok = record { within = omega arith; heads = rw (sub-zero levels) ok.heads; same = rw (sub-zero levels) }
 
 module _ {w : List ℕ} {levels level a : ℕ} (o : Outer w levels level a) where
   -- The walk went through.

@@ -4,7 +4,7 @@ use mathlib.Core.Path.{◌≡◌, refl, sym, ◌∙◌}
 use mathlib.Core.Bool.{true}
 use mathlib.Core.List.{List}
 use Prim.Native.Nat.{ℕ, zero, suc, ◌+◌, ◌*◌, ◌-◌, ◌≤◌, ◌<◌}
-use native.Mathlib.Nat.{sub_zero, mul-le-mul_right}
+use native.Mathlib.Nat.{sub-zero, mul-le-mul_right}
 use native.Mathlib.Omega.{arith}
 use Rattle.cholesky.specs.Triangle.{tri}
 use Rattle.layout.specs.declared.Place.{Place}
@@ -120,7 +120,7 @@ pub record Going (w : List ℕ) (levels level a : ℕ) : Type 0 where
 
 -- At the start all are left.
 pub going : {w : List ℕ} {levels : ℕ} → LevelsOk w levels → Going w levels 0 0
-going {w} {levels} ok = record { within = omega arith; left = rw (sub_zero levels) ok.sound }
+going {w} {levels} ok = record { within = omega arith; left = rw (sub-zero levels) ok.sound }
 
 module _ {w : List ℕ} {levels level a : ℕ} (g : Going w levels level a) (h : level < levels) where
   -- One more is left than after it.
@@ -157,7 +157,7 @@ pub record Imaging (w : List ℕ) (levels level a b : ℕ) : Type 0 where
 
 -- All are left.
 pub imaging : {w : List ℕ} {levels : ℕ} → LevelsOk w levels → Imaging w levels 0 0 0
-imaging {w} {levels} ok = record { going = going ok; same = rw (sub_zero levels) }
+imaging {w} {levels} ok = record { going = going ok; same = rw (sub-zero levels) }
 
 -- Where the floats of all levels end, as a bound.
 pub image_bound : (w : List ℕ) (levels : ℕ) → LevelsOk w levels → image_end levels w 0 0 ≤ 1099511627776
@@ -187,7 +187,7 @@ pub record Scratching (w : List ℕ) (levels s level a end : ℕ) : Type 0 where
 
 -- All are left.
 pub scratching : {w : List ℕ} {levels s : ℕ} → ScratchOk w levels s → Scratching w levels s 0 0 s
-scratching {w} {levels} ok = record { going = going ok.walked; same = rw (sub_zero levels) }
+scratching {w} {levels} ok = record { going = going ok.walked; same = rw (sub-zero levels) }
 
 module _ {w : List ℕ} {levels s level a end : ℕ} (i : Scratching w levels s level a end) where
   -- It has not gone far.

@@ -4,7 +4,7 @@ use mathlib.Core.Path.{◌≡◌, sym, ap, ◌∙◌}
 use mathlib.Core.Bool.{true, false, cond}
 use mathlib.Core.List.{List}
 use Prim.Native.Nat.{ℕ, suc, ◌+◌, ◌-◌, ◌≤◌, ◌<◌}
-use native.Mathlib.Nat.{sub_zero}
+use native.Mathlib.Nat.{sub-zero}
 use native.Mathlib.Omega.{arith}
 use lib.ListN.{length}
 use lib.Ieee.{Float, le}
@@ -53,7 +53,7 @@ module _ {h : Handle} {w : List ℕ} (F : List Float) {t : List ℕ} {g : Region
   -- Before the first nothing is stored.
   pub iterating_start : Iterating h w F F t t g factor initial threshold limit 0 initial 0
   iterating_start = record {
-    gives = ap (λ (k : ℕ). iterate_of (system_at h w F) (part g.rhs g.rows F) factor initial threshold k 0 (state_at g 0 F t initial)) (sub_zero limit);
+    gives = ap (λ (k : ℕ). iterate_of (system_at h w F) (part g.rhs g.rows F) factor initial threshold k 0 (state_at g 0 F t initial)) (sub-zero limit);
     fits = omega arith;
     within = omega arith;
     floats = kept_self;

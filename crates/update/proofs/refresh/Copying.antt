@@ -3,7 +3,7 @@
 use mathlib.Core.Path.{◌≡◌, refl, sym, ap, ◌∙◌, subst}
 use mathlib.Core.List.{List, ◌∷◌}
 use Prim.Native.Nat.{ℕ, ◌+◌, ◌-◌, ◌*◌, ◌≤◌, ◌<◌}
-use native.Mathlib.Nat.{sub_zero}
+use native.Mathlib.Nat.{sub-zero}
 use native.Mathlib.Omega.{arith}
 use lib.ListN.{length}
 use lib.Ieee.{Float}
@@ -49,14 +49,14 @@ pub copying_start : {levels image end : ℕ} {w : List ℕ} (F : List Float) {p 
 copying_start {levels} {image} {end} {w} F ok is at = record {
   b = 0;
   is = is;
-  ok = rw (sub_zero levels) (record { chain = ok.chain; some = ok.some });
+  ok = rw (sub-zero levels) (record { chain = ok.chain; some = ok.some });
   size = refl;
   ended = let im = ok.is in omega (arith, finest_rows_lem levels w ok.some);
   stop = rw is at at;
   room = ok.room;
-  ends = rw (sub_zero levels);
+  ends = rw (sub-zero levels);
   above = λ i m _. refl;
-  whole = λ E _ e. let z : image + 0 ≡ image = omega arith in rw (sub_zero levels, z) at e;
+  whole = λ E _ e. let z : image + 0 ≡ image = omega arith in rw (sub-zero levels, z) at e;
 }
 
 module _ {levels image end level a : ℕ} {p : Place} {w : List ℕ} {F G : List Float} (u : Copying levels image end level a p w F G) where

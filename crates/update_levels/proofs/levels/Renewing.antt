@@ -4,7 +4,7 @@ use mathlib.Core.Path.{◌≡◌, refl, sym, ap, ◌∙◌, subst}
 use mathlib.Core.Bool.{Bool, true, false, cond}
 use mathlib.Core.List.{List, [], ◌∷◌}
 use Prim.Native.Nat.{ℕ, zero, suc, ◌+◌, ◌-◌, ◌≤◌, ◌<◌}
-use native.Mathlib.Nat.{sub_zero}
+use native.Mathlib.Nat.{sub-zero}
 use native.Mathlib.Numerals.{sub-one}
 use native.Mathlib.Omega.{arith}
 use lib.ListN.{length}
@@ -563,7 +563,7 @@ module _ {levels image : ℕ} {w : List ℕ} (given F : List Float) (s : StartOk
     module _ {E : List Float} (loaded : Wrote image (length given) given F E) where
       -- Once they are loaded, what all levels require,
       pub loaded_rest : RestOk w (length E) levels 0 0 p
-      loaded_rest = rw (is, loaded.size) (record { is = refl; ok = rw (sub_zero levels) s.ok })
+      loaded_rest = rw (is, loaded.size) (record { is = refl; ok = rw (sub-zero levels) s.ok })
 
       -- and what they make.
       pub loaded_done : {dic : Bool} {G : List Float} {r : Verdict}
@@ -571,7 +571,7 @@ module _ {levels image : ℕ} {w : List ℕ} (given F : List Float) (s : StartOk
           → Under dic (λ o. Renewed o levels 0 w given F G 0 image r)
       loaded_done {dic} {G} {r} done o by =
           let here : part image (entries_at w 0) E ≡ given = ap (λ (n : ℕ). part image n E) (sym s.many) ∙ wrote_at loaded load_room in
-          let d : Renewed o levels 0 w given E G 0 image r = rw (is, sub_zero levels, here) at (done o by) in
+          let d : Renewed o levels 0 w given E G 0 image r = rw (is, sub-zero levels, here) at (done o by) in
           record { answer = d.answer; levels = d.levels; kept = kept_on (kept_wrote loaded (omega arith)) d.kept }
 
     -- The faces' values stand at its place.

@@ -1,0 +1,20 @@
+-- `matrix_writer::lines::put_bytes` meets its contract: the loop's invariant: the first k bytes are laid.
+use mathlib.Core.Path.{refl, ◌∙◌}
+use native.Mathlib.Omega.{arith}
+use Rattle.matrix_writer.proofs.Laying.{bytes_start, laid_size, bytes_early, bytes_on, bytes_all}
+use Rattle.matrix_writer.proofs.lines.put_bytes.Goals as goal
+
+pub loop-k-init : goal.loop-k-init
+loop-k-init c = (refl, bytes_start)
+
+pub put_byte-next-requires : goal.put_byte-next-requires
+put_byte-next-requires c = omega (arith, bytes_early c.loop-k.invariant.1)
+
+pub loop-k-preserved : goal.loop-k-preserved
+loop-k-preserved c = (laid_size c.put_byte-next.ensures ∙ c.loop-k.invariant.0, bytes_on c.loop-k.invariant.1 c.loop-k-test.true refl c.put_byte-next.ensures)
+
+pub shape_of-out : goal.shape_of-out
+shape_of-out c = c.loop-k.invariant.0
+
+pub returns : goal.returns
+returns c = bytes_all c.loop-k.invariant.1 c.loop-k-test.false

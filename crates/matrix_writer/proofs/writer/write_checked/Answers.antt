@@ -1,0 +1,15 @@
+-- `matrix_writer::writer::write_checked` meets its contract: by whether the text fits.
+use Rattle.matrix_writer.proofs.Done.{done_wrote, done_short}
+use Rattle.matrix_writer.proofs.Record.{ready}
+use Rattle.matrix_writer.proofs.writer.write_checked.Goals as goal
+
+pub put_file-size-requires : goal.put_file-size-requires
+put_file-size-requires c =
+    let pair = ready _ _ c.size_at-rows.ensures c.size_at-entries.ensures c.requires.asked in
+    record { sizes_fit = pair.0; rows_in = pair.1 }
+
+pub returns-then-size-out : goal.returns-then-size-out
+returns-then-size-out c = done_wrote _ _ c.requires c.size_at-rows.ensures c.size_at-entries.ensures c.put_file-size.ensures c.if-size-out.true
+
+pub returns : goal.returns
+returns c = done_short _ _ c.requires c.size_at-rows.ensures c.size_at-entries.ensures c.put_file-size.ensures c.if-size-out.false c.zero_bytes.ensures
