@@ -8,7 +8,7 @@ use native.Mathlib.Omega.{arith}
 use lib.ListN.{length}
 use lib.Ieee.{Float}
 use Rattle.store.specs.Region.{Wrote}
-use Rattle.store.proofs.store.Region.{wrote, wrote_at, wrote_off, kept_wrote, kept_self, kept_part}
+use Rattle.store.proofs.store.Region.{wrote_at, wrote_off, kept_wrote, kept_self, kept_part}
 use Rattle.coarsening.specs.declared.coarsen.Workspace.{Workspace}
 use Rattle.build.specs.Finest.{WeightsOk, WeightsLoaded, LoadOk, Loaded}
 

@@ -10,7 +10,6 @@ use lib.Ieee.{Float}
 use Rattle.store.specs.Region.{idx, part, Kept}
 use Rattle.store.proofs.store.Region.{get_d_part, length_part, wrote_off, kept_wrote, kept_on, kept_less}
 use Rattle.coefficients.specs.Mirrors.{mirrors_agree}
-use Rattle.coefficients.specs.Mirrors as agreeing
 use Rattle.coefficients.specs.Contract as coefficients-contract
 use Rattle.pattern.specs.Pattern.{Pattern, entries}
 use Rattle.faces.specs.Faces.{faces_of, uppers_of, lowers_of, mirrored_of}

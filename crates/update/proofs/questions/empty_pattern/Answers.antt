@@ -1,0 +1,9 @@
+-- `questions::empty_pattern` meets its contract.
+use Rattle.update.proofs.questions.Questions.{empty_other, empty_same}
+use Rattle.update.proofs.questions.empty_pattern.Goals as goal
+
+pub returns-then-offsets-ne1 : goal.returns-then-offsets-ne1
+returns-then-offsets-ne1 c = empty_other _ _ _ c.if-offsets-ne1.true
+
+pub returns : goal.returns
+returns c = empty_same _ _ _ c.if-offsets-ne1.false
