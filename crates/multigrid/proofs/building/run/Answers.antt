@@ -1,0 +1,13 @@
+-- `building::run` meets its contract: a build, and then the rows of its levels.
+use Rattle.std.proofs.Common.{refl}
+use Rattle.multigrid.proofs.building.Builds.{cells_ok, ran_made, ran_refused}
+use Rattle.multigrid.proofs.building.run.Goals as goal
+
+pub cells-table-requires : goal.cells-table-requires
+cells-table-requires c = cells_ok c.build.ensures c.in-Made.is
+
+pub returns-in-Made : goal.returns-in-Made
+returns-in-Made c = ran_made c.build.ensures c.in-Made.is c.cells-table.ensures
+
+pub returns-in-Refused : goal.returns-in-Refused
+returns-in-Refused c = ran_refused c.build.ensures c.in-Refused.is refl
