@@ -11,7 +11,7 @@ use Rattle.store.specs.Region.{idx}
 use Rattle.galerkin.specs.Product.{when, dense, galerkin_product}
 use Rattle.galerkin.proofs.exact.Sums.{Σ-same}
 use Rattle.galerkin.proofs.exact.Product.{entry_sum, product_is}
-use Rattle.pattern.specs.Pattern.{Pattern, entries, row_of, column_of, Valid, Maps, compose_of}
+use Rattle.pattern.specs.Pattern.{coarse, Pattern, entries, row_of, column_of, Valid, Maps, compose_of}
 use Rattle.pattern.proofs.pattern.Row.{row_in}
 use Rattle.galerkin_theorem.specs.Theorem.{fine_matrix, coarse_matrix}
 use Rattle.hierarchy.specs.Level.{Shape, Level}
@@ -87,7 +87,7 @@ composed_dense {p = p} (Laid.inner {l = first} {rest = after} {map = map} {count
     let to : ℕ → ℕ = idx first.shape.links in
     let product : product_of first (dense m row column z) ≡ dense m (λ e. to (row e)) (λ e. to (column e)) z =
     product_dense first.shape.pattern.rows m to row column z (λ e h. rw tall (rows e h)) (λ e h. rw tall (columns e h)) in
-    composed_dense on m (λ e. to (row e)) (λ e. to (column e)) z
+    composed_dense {p = coarse p map count} on m (λ e. to (row e)) (λ e. to (column e)) z
     (λ e h. rw links (maps.below (row e) (rows e h))) (λ e h. rw links (maps.below (column e) (columns e h)))
     (subst (λ (A : Matrix). Galerkin A after) product (galerkin_tail g refl (laid_some on))) k l rest at
 

@@ -135,11 +135,11 @@ values_are : (o : MultigridOptions) (p : Pattern) (map : List ℕ) (count : ℕ)
 values_are o p map count values s t is to = rw (is, to, length_uppers (coarse p map count))
 
 -- The levels of an accepted refresh of laid levels from whole values: each level's matrix is exactly the Galerkin product of the level above.
-pub refresh_galerkin : (o : MultigridOptions) (level : ℕ) {most : ℕ} {p : Pattern} {levels : List Level} → Laid most p levels → {values : List Float} {z : ℕ → ℤ}
+pub refresh_galerkin : (o : MultigridOptions) {most : ℕ} (level : ℕ) {p : Pattern} {levels : List Level} → Laid most p levels → {values : List Float} {z : ℕ → ℤ}
     → refresh_of o level (shapes_in levels) values ≡ accepted levels → WholeValues p values z → Galerkin (fine_matrix p z) levels
 refresh_galerkin o level (Laid.last {l = l} small few is) {values} e fine =
     Galerkin.last (level_exact o level small.proper fine l is (refresh_one o level values l e))
-refresh_galerkin o level {most} {p} (Laid.inner {l = l} {rest = rest} {map = map} {count = count} small maps is on) {values} {z} e fine =
+refresh_galerkin o {most} level {p} (Laid.inner {l = l} {rest = rest} {map = map} {count = count} small maps is on) {values} {z} e fine =
     let q = coarse p map count in
     let h = laid_headed on in
     let r = refresh_more o level values l h.head h.tail
