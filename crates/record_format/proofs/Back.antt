@@ -1,15 +1,14 @@
 -- What is written is read back: every record within the sizes of a problem file is accepted, with the numbers that it was written of. Assumes nothing.
-use mathlib.Core.Path.{◌≡◌, refl, sym, ap, subst, ◌∙◌}
-use mathlib.Core.Bool.{Bool, true, false, ◌&&◌}
-use mathlib.Core.List.{List, [], ◌∷◌, ◌++◌, append_assoc, append-nil}
-use Prim.Native.Nat.{ℕ, ◌+◌, ◌*◌, ◌≤◌, ◌<◌}
+use mathlib.Core.Path.{◌≡◌, refl, ap, subst, ◌∙◌}
+use mathlib.Core.Bool.{Bool, true, false}
+use mathlib.Core.List.{List, [], ◌++◌, append_assoc, append-nil}
+use Prim.Native.Nat.{ℕ, ◌+◌, ◌*◌, ◌≤◌}
 use native.Mathlib.Omega.{arith}
 use borrow.Author.Tests.{le-leb, eq-eqb}
-use lib.Dec.{eqb, leb, ltb}
-use lib.ListN.{length, get_or, length-append}
+use lib.Dec.{eqb, ltb}
+use lib.ListN.{length, length-append}
 use lib.Ieee.{Float, nan, binary64, to_bits}
-use Rattle.refusal.specs.Outcome.{Outcome, accepted}
-use Rattle.store.specs.Vector.{tab}
+use Rattle.refusal.specs.Outcome.{accepted}
 use Rattle.options.specs.declared.options.MultigridSmoother.{MultigridSmoother}
 use Rattle.options.specs.declared.options.MultigridResidualNorm.{MultigridResidualNorm}
 use Rattle.options.specs.declared.options.MultigridCoarseSolver.{MultigridCoarseSolver}
@@ -17,8 +16,8 @@ use Rattle.options.specs.declared.options.MultigridOptions.{MultigridOptions}
 use Rattle.export.specs.Flat.{smoother_of, residual_norm_of, coarse_solver_of}
 use Rattle.export.specs.Structs.{smoother_number, residual_norm_number, coarse_solver_number}
 use Rattle.record_format.specs.declared.marks.Mark.{Mark}
-use Rattle.record_format.specs.Bytes.{byte_at, u32_at, u64_at, float_at, words_at, floats_at, bytes4, bytes8, float_bytes, flat}
-use Rattle.record_format.specs.Format.{letters_of, marked, flag_number, Matrix, Problem, controls_at, controls_ok, read_controls, counts_of, controls_bytes, sizes_ok, matrix_length, matrix_at, matrix_ok, read_matrix, matrix_bytes, values_length, values_ok, read_values, values_bytes, solve_length, limits_at, problem_at, solve_ok, read_solve, solve_bytes}
+use Rattle.record_format.specs.Bytes.{u32_at, u64_at, float_at, words_at, floats_at, bytes4, bytes8, float_bytes, flat}
+use Rattle.record_format.specs.Format.{letters_of, marked, flag_number, Matrix, Problem, controls_at, controls_ok, read_controls, controls_bytes, matrix_at, matrix_ok, read_matrix, matrix_bytes, values_ok, read_values, values_bytes, problem_at, solve_ok, read_solve, solve_bytes}
 use Rattle.record_format.specs.Theorem.{Word, Long, Double, AllWords, AllDoubles, ControlsFit, MatrixFits, ProblemFits}
 use Rattle.record_format.proofs.Numbers.{length_bytes4, length_bytes8, word_after, long_after, float_after, word_back, long_back, float_back, length_flat, flat_read}
 use Rattle.record_format.proofs.Records.{controls_accepts, matrix_accepts, values_accepts, solve_accepts}

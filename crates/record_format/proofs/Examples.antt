@@ -1,10 +1,10 @@
 -- Worked examples: the records of document 01's small press, byte by byte, and what is read from them; and records that are refused. They hold
 -- by computing. Assumes nothing.
 use mathlib.Core.Path.{◌≡◌, refl}
-use mathlib.Core.Bool.{true, false}
+use mathlib.Core.Bool.{true}
 use mathlib.Core.List.{List, [], ◌∷◌}
 use Prim.Native.Nat.{ℕ}
-use lib.Ieee.{binary64, of_bits, to_bits}
+use lib.Ieee.{binary64, of_bits}
 use lib.ListN.{take, set}
 use Rattle.refusal.specs.Outcome.{accepted, refused}
 use Rattle.store.specs.Vector.{tab}
@@ -12,8 +12,8 @@ use Rattle.options.specs.declared.options.MultigridSmoother.{MultigridSmoother}
 use Rattle.options.specs.declared.options.MultigridResidualNorm.{MultigridResidualNorm}
 use Rattle.options.specs.declared.options.MultigridCoarseSolver.{MultigridCoarseSolver}
 use Rattle.record_format.specs.declared.marks.Mark.{Mark}
-use Rattle.record_format.specs.Bytes.{u32_at, u64_at, bytes4, bytes8, flat}
-use Rattle.record_format.specs.Format.{bad_record, marked, controls_ok, read_controls, controls_bytes, matrix_ok, read_matrix, matrix_bytes, values_ok, read_values, values_bytes, solve_ok, read_solve, solve_bytes}
+use Rattle.record_format.specs.Bytes.{u32_at, u64_at}
+use Rattle.record_format.specs.Format.{bad_record, marked, controls_ok, read_controls, matrix_ok, read_matrix, values_ok, read_values, solve_ok, read_solve}
 
 -- ---- numbers
 

@@ -1,15 +1,15 @@
 -- What was read is written as it stood: the bytes of an accepted record are those of its numbers, NaNs apart. Assumes nothing.
 use mathlib.Core.Path.{◌≡◌, refl, sym, ap, subst, ◌∙◌}
 use mathlib.Core.Bool.{Bool, true, false, ◌&&◌}
-use mathlib.Core.List.{List, [], ◌∷◌, ◌++◌, append_assoc, append-nil}
+use mathlib.Core.List.{List, [], ◌∷◌, ◌++◌}
 use Prim.Native.Nat.{ℕ, zero, suc, ◌+◌, ◌*◌, ◌≤◌, ◌<◌}
 use native.Mathlib.Omega.{arith}
-use borrow.Author.Tests.{ltb-true, leb-true, eqb-true}
+use borrow.Author.Tests.{ltb-true, eqb-true}
 use lib.Dec.{eqb, leb, ltb}
-use lib.ListN.{length, get_or, take, drop}
+use lib.ListN.{length, take}
 use lib.Seq.{take-length}
 use lib.Ieee.{Float, nan}
-use Rattle.refusal.specs.Outcome.{Outcome, accepted, ask}
+use Rattle.refusal.specs.Outcome.{accepted, ask}
 use Rattle.refusal.proofs.Outcome.{accepted_one}
 use Rattle.store.specs.Region.{part}
 use Rattle.store.specs.Vector.{tab}

@@ -8,7 +8,7 @@ use borrow.Author.Tests.{leb-true, ltb-true, eqb-true, le-leb, lt-leb, lt-ltb, l
 use lib.Dec.{eqb, leb, ltb}
 use lib.ListN.{length}
 use lib.Ieee.{Float}
-use Rattle.refusal.specs.Outcome.{Outcome, accepted, refused, passed, ask, ◌>>=◌, verdict_of}
+use Rattle.refusal.specs.Outcome.{Outcome, accepted, refused, passed, ask, verdict_of}
 use Rattle.refusal.specs.Refusal.{too_large, bad_offsets, wrong_length, store_too_small}
 use Rattle.refusal.specs.declared.Refusal.{Refusal}
 use Rattle.refusal.specs.declared.Verdict.{Verdict}
@@ -21,8 +21,8 @@ use Rattle.record_format.specs.declared.marks.Mark.{Mark}
 use Rattle.record_format.specs.declared.writing.RecordWritten.{RecordWritten}
 use Rattle.record_format.specs.Bytes.{bytes4, bytes8, float_bytes, flat}
 use Rattle.record_format.specs.Format.{letters_of, flag_number, counts_of, controls_bytes, matrix_length, matrix_bytes, values_length, values_bytes, solve_length, solve_bytes}
-use Rattle.record_format.specs.Steps.{SpaceFor, MatrixSpace, ValuesSpace, SolveSpace}
-use Rattle.record_format.specs.Writing.{room_of, matrix_of, matrix_room, values_room, solve_room, write_controls, write_matrix, write_values, write_solve, WrittenIs}
+use Rattle.record_format.specs.Steps.{MatrixSpace, ValuesSpace, SolveSpace}
+use Rattle.record_format.specs.Writing.{matrix_of, matrix_room, values_room, solve_room, write_controls, write_matrix, write_values, write_solve, WrittenIs}
 use Rattle.record_format.proofs.Written.{wrote_next}
 
 -- the same length, said another way

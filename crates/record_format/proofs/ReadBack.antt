@@ -7,7 +7,7 @@ use lib.ListN.{length, take}
 use lib.Ieee.{Float}
 use Rattle.refusal.specs.Outcome.{Outcome, accepted, refused, passed, ◌>>=◌}
 use Rattle.refusal.proofs.Outcome.{verdict_passed}
-use Rattle.store.specs.Region.{part, splice}
+use Rattle.store.specs.Region.{part}
 use Rattle.store.proofs.store.Region.{part_splice}
 use Rattle.record_format.specs.declared.writing.RecordWritten.{RecordWritten}
 use Rattle.record_format.specs.Format.{read_matrix, matrix_bytes}

@@ -1,11 +1,11 @@
 -- Numbers read from bytes: four bytes are a u32, two of these a u64, and a loop that reads one after the other leaves all of them. Assumes nothing.
-use mathlib.Core.Path.{◌≡◌, refl, sym, ap, ◌∙◌}
+use mathlib.Core.Path.{◌≡◌, refl, ◌∙◌}
 use mathlib.Core.List.{List}
 use Prim.Native.Nat.{ℕ, ◌+◌, ◌*◌, ◌≤◌, ◌<◌}
 use native.Mathlib.Omega.{arith}
-use lib.ListN.{length, get_or, set}
+use lib.ListN.{set}
 use Rattle.store.specs.Loop.{for}
-use Rattle.store.specs.Region.{splice, Wrote}
+use Rattle.store.specs.Region.{Wrote}
 use Rattle.store.specs.Vector.{tab}
 use Rattle.store.proofs.store.Loop.{Left, left_end, left_on}
 use Rattle.store.proofs.store.Region.{wrote}

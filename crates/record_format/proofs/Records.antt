@@ -22,7 +22,7 @@ use Rattle.record_format.specs.declared.marks.Mark.{Mark}
 use Rattle.record_format.specs.declared.controls.ControlsRead.{ControlsRead}
 use Rattle.record_format.specs.declared.matrix.MatrixRead.{MatrixRead}
 use Rattle.record_format.specs.declared.problem.ProblemRead.{ProblemRead}
-use Rattle.record_format.specs.Bytes.{u32_at, u64_at, float_at, words_at, floats_at}
+use Rattle.record_format.specs.Bytes.{u32_at, u64_at, float_at, floats_at}
 use Rattle.record_format.specs.Format.{bad_record, marked, Matrix, Problem, controls_ok, controls_at, read_controls, sizes_ok, matrix_length, matrix_ok, matrix_at, read_matrix, values_ok, read_values, limits_at, problem_at, solve_ok, read_solve}
 use Rattle.record_format.specs.Answers.{controlsAnswer, MatrixIs, ValuesAre, ProblemIs}
 use Rattle.record_format.specs.Steps.{ByteIs, WordIs, Sizes, MatrixLaid, VectorsLaid}

@@ -11,7 +11,7 @@ use lib.Ieee.{Float, binary64, to_bits}
 use Rattle.store.specs.Region.{lay, splice, Wrote}
 use Rattle.store.proofs.store.Region.{wrote, splice_nil, set_splice_end}
 use Rattle.record_format.specs.Bytes.{bytes4, bytes8, float_bytes, flat}
-use Rattle.record_format.proofs.Numbers.{length_bytes4, length_bytes8, flat_snoc}
+use Rattle.record_format.proofs.Numbers.{flat_snoc}
 
 -- ---- one part behind another
 

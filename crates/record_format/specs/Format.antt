@@ -1,6 +1,6 @@
 -- The five records of a problem file: the numbers that a record of these bytes has, or refusal 32; and the bytes of a record.
 -- Each starts with a mark of two letters. Definitions only.
-use Rattle.std.specs.Prelude.{Bool, true, false, cond, ◌&&◌, List, [], ◌∷◌, ◌++◌, ℕ, ◌+◌, ◌*◌, eqb, leb, ltb, length, Float}
+use Rattle.std.specs.Prelude.{Bool, cond, ◌&&◌, List, [], ◌∷◌, ◌++◌, ℕ, ◌+◌, ◌*◌, eqb, leb, ltb, length, Float}
 use Rattle.refusal.specs.Outcome.{Outcome, accepted, ask}
 use Rattle.refusal.specs.Refusal.{question}
 use Rattle.refusal.specs.declared.Refusal.{Refusal}

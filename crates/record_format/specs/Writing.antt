@@ -6,7 +6,7 @@ use Rattle.options.specs.declared.options.MultigridOptions.{MultigridOptions}
 use Rattle.solver.specs.declared.solver.LinearSolverOptions.{LinearSolverOptions}
 use Rattle.record_format.specs.declared.marks.Mark.{Mark}
 use Rattle.record_format.specs.declared.writing.RecordWritten.{RecordWritten}
-use Rattle.record_format.specs.Format.{Matrix, Problem, controls_bytes, matrix_length, matrix_bytes, values_length, values_bytes, solve_length, solve_bytes}
+use Rattle.record_format.specs.Format.{Matrix, controls_bytes, matrix_length, matrix_bytes, values_length, values_bytes, solve_length, solve_bytes}
 use Rattle.record_format.specs.Answers.{leaves_of}
 
 -- ---- what is asked of the lengths

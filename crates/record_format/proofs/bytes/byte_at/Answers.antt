@@ -4,11 +4,8 @@ use mathlib.Core.Path.{sym, refl}
 use lib.ListN.{get_or-eq_default}
 use Rattle.record_format.proofs.bytes.byte_at.Goals as goal
 
-pub overflow_cast-result : goal.overflow_cast-result
-overflow_cast-result c = omega (arith, c.shared_slice_known-1.given c.args.at)
-
 pub returns-then-at-b : goal.returns-then-at-b
-returns-then-at-b c = record { is = refl; small = omega (arith, c.shared_slice_known-1.given c.args.at) }
+returns-then-at-b c = record { is = refl; small = omega (arith, c.type_inv.b c.args.at) }
 
 pub returns-else-at-b : goal.returns-else-at-b
 returns-else-at-b c = record { is = sym (get_or-eq_default c.args.b.now 0 c.if-at-b.false); small = omega arith }

@@ -1,6 +1,5 @@
 use Rattle.record_format.proofs.Reading.{long_is}
 use Rattle.record_format.proofs.bytes.u64_at.Goals as goal
 
--- src/bytes.rt:29:1
 pub returns : goal.returns
 returns c = search (long_is)

@@ -1,21 +1,17 @@
 -- The invariant: the first k of them are written.
 use mathlib.Core.List.{[]}
-use Prim.Native.Nat.{◌-◌}
 use native.Mathlib.Omega.{arith}
 use borrow.Author.Rules.{rules}
 use lib.Ieee.{nan}
-use Rattle.record_format.specs.Bytes.{float_bytes, flat}
+use Rattle.record_format.specs.Bytes.{float_bytes}
 use Rattle.record_format.proofs.Written.{flat_start, flat_on, flat_end}
 use Rattle.record_format.proofs.bytes.write_floats.Goals as goal
 
--- src/bytes.rt:128:5
 pub loop-k-init : goal.loop-k-init
 loop-k-init c = (omega arith, flat_start float_bytes nan 8 _ [])
 
--- src/bytes.rt:128:5
 pub loop-k-preserved : goal.loop-k-preserved
 loop-k-preserved c = (omega arith, search (flat_on float_bytes nan, rules))
 
--- src/bytes.rt:123:1
 pub returns : goal.returns
 returns c = search (flat_end float_bytes nan)

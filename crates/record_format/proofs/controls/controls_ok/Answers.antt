@@ -1,7 +1,6 @@
 use Rattle.record_format.specs.Format.{controls_ok}
 use Rattle.record_format.proofs.controls.controls_ok.Goals as goal
 
--- src/controls.rt:29:1
 pub returns : goal.returns
 unfolding controls_ok
 returns c = cc

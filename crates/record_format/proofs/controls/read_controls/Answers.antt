@@ -1,10 +1,8 @@
 use Rattle.record_format.proofs.Records.{controls_yes, controls_no}
 use Rattle.record_format.proofs.controls.read_controls.Goals as goal
 
--- src/controls.rt:69:1
 pub returns-then-controls_ok : goal.returns-then-controls_ok
 returns-then-controls_ok c = search (controls_yes)
 
--- src/controls.rt:69:1
 pub returns-else-controls_ok : goal.returns-else-controls_ok
 returns-else-controls_ok c = search (controls_no)

@@ -1,7 +1,6 @@
 use Rattle.record_format.specs.Format.{matrix_ok}
 use Rattle.record_format.proofs.matrix.matrix_ok.Goals as goal
 
--- src/matrix.rt:25:1
 pub returns : goal.returns
 unfolding matrix_ok
 returns c = cc
