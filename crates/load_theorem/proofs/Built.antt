@@ -1,6 +1,6 @@
 -- The row sums that a build keeps of a load: exactly 1.0 in each row, where the norm needs them. Assumes nothing.
-use mathlib.Core.Path.{◌≡◌, refl, sym, ap, ◌∙◌, subst}
-use mathlib.Core.Bool.{Bool, true, cond}
+use mathlib.Core.Path.{◌≡◌, sym, ap, ◌∙◌, subst}
+use mathlib.Core.Bool.{Bool, true}
 use mathlib.Core.List.{List, [], ◌∷◌}
 use Prim.Native.Nat.{ℕ, ◌≤◌}
 use lib.ListN.{length}
@@ -10,9 +10,9 @@ use Rattle.store.specs.Region.{at, idx}
 use Rattle.store.specs.Vector.{tab, filled}
 use Rattle.refusal.specs.Outcome.{accepted}
 use Rattle.options.specs.declared.options.MultigridOptions.{MultigridOptions}
-use Rattle.matrix.specs.Kernel.{Kernel, row_sums_of}
+use Rattle.matrix.specs.Kernel.{row_sums_of}
 use Rattle.pattern.specs.Pattern.{Pattern}
-use Rattle.faces.specs.Faces.{faces_of, uppers_of}
+use Rattle.faces.specs.Faces.{uppers_of}
 use Rattle.hierarchy.specs.Level.{Shape, Level, Hierarchy, kernel_in}
 use Rattle.hierarchy.specs.Refresh.{needs_sums, with_sums, numbers_of, refresh_of}
 use Rattle.hierarchy.specs.First.{shapes_in}

@@ -1,21 +1,21 @@
 -- The sum of a row's entries by its faces: the diagonal, the faces of the row and those that end there. Assumes nothing.
 use mathlib.Core.Path.{◌≡◌, refl, sym, ap, ap₂, ◌∙◌}
 use mathlib.Core.Bool.{Bool, true, false, cond}
-use mathlib.Core.List.{List, [], ◌∷◌, ◌++◌}
+use mathlib.Core.List.{[], ◌∷◌, ◌++◌}
 use mathlib.Core.Logic.{⊎_elim}
 use Prim.Native.Nat.{ℕ, zero, suc, ◌+◌, ◌≤◌, ◌<◌}
 use native.Mathlib.Omega.{arith}
 use lib.Dec.{eqb, ltb}
 use lib.IntN.{ℤ, pos, ◌+ℤ◌, +ℤ_idl, +ℤ_idr, +ℤ_assoc, +ℤ_comm}
-use lib.ListN.{length, get_or-append}
+use lib.ListN.{get_or-append}
 use lib.Seq.{get_or_at}
-use borrow.Author.Tests.{eqb-true, eqb-false, eq-eqb, ne_eqb, ltb-true, ltb-false, lt-ltb, le-ltb}
+use borrow.Author.Tests.{eq-eqb, ne_eqb, lt-ltb, le-ltb}
 use Rattle.store.specs.Region.{idx}
 use Rattle.store.proofs.store.Region.{le_or_lt}
 use Rattle.galerkin.specs.Product.{Σℤ, when}
 use Rattle.galerkin.proofs.exact.Sums.{Σ-same, Σ-one, Σ-mirror}
 use Rattle.pattern.specs.Pattern.{how_many, those, Pattern, entries, column_of, row_of, Valid, Rising, Mirrored, Diagonal}
-use Rattle.pattern.proofs.pattern.Number.{bool?, same?}
+use Rattle.pattern.proofs.pattern.Number.{same?}
 use Rattle.pattern.proofs.pattern.Place.{length_those}
 use Rattle.galerkin_theorem.proofs.Mirror.{entry_once}
 use Rattle.faces.specs.Faces.{above, faces_of, uppers_of, mirror_of, diagonals_of}

@@ -25,8 +25,8 @@ use Rattle.galerkin.specs.Whole.{Whole}
 use Rattle.galerkin.specs.Product.{Σℤ, when}
 use Rattle.galerkin.proofs.exact.Whole.{add_whole, nat_abs_add}
 use Rattle.pattern.specs.Pattern.{how_many, Pattern, entries, column_of, row_of, Valid, Rising, Mirrored, Diagonal}
-use Rattle.pattern.proofs.pattern.Number.{bool?, same?, many_mono, many_lt}
-use Rattle.pattern.proofs.pattern.Row.{row_is, row_in, offset_mono}
+use Rattle.pattern.proofs.pattern.Number.{same?, many_mono, many_lt}
+use Rattle.pattern.proofs.pattern.Row.{row_is}
 use Rattle.galerkin_theorem.specs.Theorem.{WholeValues}
 use Rattle.faces.specs.Faces.{above, faces_of, uppers_of, face_offsets_of, neighbors_of, diagonals_of}
 use Rattle.faces.proofs.faces.Pick.{those_which}

@@ -1,6 +1,6 @@
 -- `row_sums_into` gives exactly 1.0 in each row of a load. Assumes nothing.
 use mathlib.Core.Path.{◌≡◌, refl, sym, ap, ◌∙◌}
-use mathlib.Core.Bool.{true, ◌&&◌}
+use mathlib.Core.Bool.{true}
 use mathlib.Core.List.{List}
 use Prim.Native.Nat.{ℕ, ◌<◌}
 use native.Mathlib.Omega.{arith}
@@ -14,10 +14,9 @@ use Rattle.store.specs.Vector.{filled}
 use Rattle.store.proofs.store.Vector.{length_tab, get_d_tab}
 use Rattle.store.proofs.store.Each.{both_l}
 use Rattle.matrix.specs.Kernel.{row_sums_of}
-use Rattle.pattern.specs.Pattern.{Pattern}
 use Rattle.load.specs.Box.{Grid, cells_of, box, all_positive, extents_ok}
 use Rattle.load.specs.Load.{pattern_of, values_of}
-use Rattle.load.specs.Theorem.{Neat, whole_at}
+use Rattle.load.specs.Theorem.{Neat}
 use Rattle.load.proofs.Neat.{box_neat}
 use Rattle.load.proofs.Pattern.{load_valid, load_rising, load_mirrored, load_diagonal}
 use Rattle.load.proofs.Values.{Lean, load_whole, value_is, whole_small, entries_small, box_lean}

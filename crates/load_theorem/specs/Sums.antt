@@ -1,5 +1,5 @@
 -- The kernel of a pattern with values: what a build makes of its finest matrix. Definitions only.
-use Rattle.std.specs.Prelude.{List, ℕ, Float}
+use Rattle.std.specs.Prelude.{List, Float}
 use Rattle.store.specs.Region.{at, idx}
 use Rattle.store.specs.Vector.{tab}
 use Rattle.matrix.specs.Kernel.{Kernel}

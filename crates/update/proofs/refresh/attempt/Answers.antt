@@ -24,9 +24,12 @@ shadow-answer-requires c =
     let at-start = at-asked in
     let start = at-start in
     let pass = sym at-pass.refused.ensures ∙ at-pass.if-refused.false in
-    record { shadow_ok = shadow_ready start.requires at-start.shadow_start-image.ensures start.args.offsets.now start.args.columns.now start.args.values.now
-          at-asked.asked-asked.ensures pass at-asked.asked-asked.ensures.kept.size; faces_ready = faces_ready start.requires at-start.shadow_start-image.ensures start.args.offsets.now start.args.columns.now start.args.values.now
-          at-asked.asked-asked.ensures pass }
+    record {
+      shadow_ok = shadow_ready start.requires at-start.shadow_start-image.ensures start.args.offsets.now start.args.columns.now start.args.values.now
+          at-asked.asked-asked.ensures pass at-asked.asked-asked.ensures.kept.size;
+      faces_ready = faces_ready start.requires at-start.shadow_start-image.ensures start.args.offsets.now start.args.columns.now start.args.values.now
+          at-asked.asked-asked.ensures pass;
+    }
 
 pub returns-then-refused-2 : goal.returns-then-refused-2
 returns-then-refused-2 c o by under =
