@@ -1,9 +1,9 @@
 -- As much of an array as the run's matrix has is what a call sees. Assumes nothing.
-use mathlib.Core.Path.{◌≡◌, refl, sym, ap, subst, ◌∙◌}
-use mathlib.Core.Bool.{Bool, true, false}
+use mathlib.Core.Path.{◌≡◌, sym, ap, subst, ◌∙◌}
+use mathlib.Core.Bool.{true, false}
 use mathlib.Core.List.{List, [], ◌++◌, append-nil}
 use mathlib.Core.Logic.{⊎_elim}
-use Prim.Native.Nat.{ℕ, ◌+◌, ◌≤◌, ◌<◌, min}
+use Prim.Native.Nat.{ℕ, ◌+◌, min}
 use native.Mathlib.Omega.{arith}
 use lib.ListN.{length, take, drop, length-take, drop_of_length-le}
 use lib.Seq.{take_all, take-length, take-append_seam, drop-append_seam}
@@ -21,7 +21,7 @@ use Rattle.lists.specs.Calls.{BuildOver, SolveOver}
 use Rattle.options.specs.declared.options.MultigridOptions.{MultigridOptions}
 use Rattle.options.specs.declared.options.Handle.{Handle}
 use Rattle.record_order.specs.declared.Came.{Came}
-use Rattle.press_run.specs.Acting.{run_rows, run_offsets, run_entries, run_vector, run_input, RunBuild, RunUpdate, RunSolve}
+use Rattle.press_run.specs.Acting.{run_offsets, run_input, RunBuild, RunUpdate, RunSolve}
 
 -- a part no longer than the list is the part
 part_is : {A : Type 0} (n a : ℕ) (l : List A) → a ≡ min n (length l) → take a l ≡ take n l

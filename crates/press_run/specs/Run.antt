@@ -1,8 +1,6 @@
 -- A run of a problem file between records, and what each record and each answer makes of it. Definitions only.
 use Rattle.std.specs.Prelude.{Bool, true, false, not, ℕ}
 use Rattle.refusal.specs.declared.Verdict.{Verdict}
-use Rattle.options.specs.declared.options.MultigridOptions.{MultigridOptions}
-use Rattle.options.specs.declared.options.Handle.{Handle}
 use Rattle.options.specs.Options.{default_options}
 use Rattle.solver.specs.declared.answers.Built.{Built}
 use Rattle.solver.specs.declared.answers.Updated.{Updated}
@@ -10,7 +8,6 @@ use Rattle.solver.specs.declared.answers.Solved.{Solved}
 use Rattle.record_format.specs.declared.marks.Mark.{Mark}
 use Rattle.record_format.specs.declared.controls.ControlsRead.{ControlsRead}
 use Rattle.record_format.specs.declared.matrix.MatrixRead.{MatrixRead}
-use Rattle.record_order.specs.declared.Came.{Came}
 use Rattle.record_order.specs.Order.{nothing, after_of}
 use Rattle.press_run.specs.declared.run.Run.{Run}
 
