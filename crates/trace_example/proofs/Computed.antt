@@ -87,10 +87,18 @@ ring_built : building.build_of (lent ring) ring.input ≡ accepted before
 unfolding building.build_of building.symmetric_of building.grow_of refreshing.with_sums csr.size_ok csr.never_fall csr.offsets_ok csr.entry_ok csr.row_ok csr-turns.step_ok csr-turns.row_at csr-turns.entry_from csr.columns_ok weights.weights_ok csr-turns.weight_ok valid_of is_finite lt le eq of_bits add sub mul div sqrt_of each tab for iter ask_rows pair_agrees mirrors_agree pattern.some pattern.how_many pattern.those pattern.row_of faces.above faces.faces_of faces.uppers_of faces.face_offsets_of faces.neighbors_of faces.has_entry faces.stands_at faces.mirrored_of faces.lowers_of faces.diagonals_asked faces.diagonals_of faces.coupled_of faces.coupled_count_of faces.coupled_rows_of kernel_update_of diagonal_asked is_positive tri cholesky.seek_of cholesky.get_of less_of cholesky.rest_of cholesky-turns.column_of cholesky.columns_of cholesky.factor_row_of cholesky.rows_of cholesky.cholesky_of part lay splice cholesky-turns.low_term cholesky-turns.high_term finite.all_finite matrix.apply_of matrix.spread_of matrix.spread_row matrix.spread_face max_num ne of_int abs_of pairs.strengths_of pairs.consider_of aggregation-turns.entry_of pairs.strongest_of pairs.assign_of pairs.pair_row_of aggregation-turns.turn_of pairs.pairs_of pattern.sum_to pattern.flat pattern.start_of pattern.column_place_of pattern-steps.joins_by pattern.joins pattern.coarse_offsets pattern.coarse_columns pattern.coarse_positions pattern.compose_of galerkin-turns.add_entry galerkin.sums_of galerkin.average_face galerkin.symmetrize_of galerkin.zero_entry galerkin-turns.zero_entries galerkin.zero_diagonal_of building.merge_of dic.is_pivot dic.pivot_face dic.pivot_row dic.pivots_of dic.reciprocals_of dic.dic_of matrix.sum_face matrix.sum_row matrix.row_sums_of matrix.residual_of
 ring_built = refl
 
--- and with the accepted ones.
+-- and with the accepted ones: its levels,
+ring_levels :
+    let x = with_values ring.input ring.right in
+    building.grow_of x.options true (lent ring).stores 1 0 0 (building.and_level (building.pattern_in x) (building.fixed_charge x.options x.rows (pattern.entries (building.pattern_in x)))) (building.mesh_in x)
+    ≡ accepted after.levels
+unfolding building.grow_of refreshing.with_sums valid_of is_finite lt le eq of_bits add sub mul div sqrt_of each tab for iter ask_rows pair_agrees mirrors_agree pattern.some pattern.how_many pattern.those pattern.row_of faces.above faces.faces_of faces.uppers_of faces.face_offsets_of faces.neighbors_of faces.has_entry faces.stands_at faces.mirrored_of faces.lowers_of faces.diagonals_asked faces.diagonals_of faces.coupled_of faces.coupled_count_of faces.coupled_rows_of kernel_update_of diagonal_asked is_positive tri cholesky.seek_of cholesky.get_of less_of cholesky.rest_of cholesky-turns.column_of cholesky.columns_of cholesky.factor_row_of cholesky.rows_of cholesky.cholesky_of part lay splice cholesky-turns.low_term cholesky-turns.high_term finite.all_finite matrix.apply_of matrix.spread_of matrix.spread_row matrix.spread_face max_num ne of_int abs_of pairs.strengths_of pairs.consider_of aggregation-turns.entry_of pairs.strongest_of pairs.assign_of pairs.pair_row_of aggregation-turns.turn_of pairs.pairs_of pattern.sum_to pattern.flat pattern.start_of pattern.column_place_of pattern-steps.joins_by pattern.joins pattern.coarse_offsets pattern.coarse_columns pattern.coarse_positions pattern.compose_of galerkin-turns.add_entry galerkin.sums_of galerkin.average_face galerkin.symmetrize_of galerkin.zero_entry galerkin-turns.zero_entries galerkin.zero_diagonal_of building.merge_of dic.is_pivot dic.pivot_face dic.pivot_row dic.pivots_of dic.reciprocals_of dic.dic_of matrix.sum_face matrix.sum_row matrix.row_sums_of matrix.residual_of
+ring_levels = refl
+
+-- and the rest.
 ring_anew : building.build_of (lent ring) (with_values ring.input ring.right) ≡ accepted after
-unfolding building.build_of building.symmetric_of building.grow_of refreshing.with_sums csr.size_ok csr.never_fall csr.offsets_ok csr.entry_ok csr.row_ok csr-turns.step_ok csr-turns.row_at csr-turns.entry_from csr.columns_ok weights.weights_ok csr-turns.weight_ok valid_of is_finite lt le eq of_bits add sub mul div sqrt_of each tab for iter ask_rows pair_agrees mirrors_agree pattern.some pattern.how_many pattern.those pattern.row_of faces.above faces.faces_of faces.uppers_of faces.face_offsets_of faces.neighbors_of faces.has_entry faces.stands_at faces.mirrored_of faces.lowers_of faces.diagonals_asked faces.diagonals_of faces.coupled_of faces.coupled_count_of faces.coupled_rows_of kernel_update_of diagonal_asked is_positive tri cholesky.seek_of cholesky.get_of less_of cholesky.rest_of cholesky-turns.column_of cholesky.columns_of cholesky.factor_row_of cholesky.rows_of cholesky.cholesky_of part lay splice cholesky-turns.low_term cholesky-turns.high_term finite.all_finite matrix.apply_of matrix.spread_of matrix.spread_row matrix.spread_face max_num ne of_int abs_of pairs.strengths_of pairs.consider_of aggregation-turns.entry_of pairs.strongest_of pairs.assign_of pairs.pair_row_of aggregation-turns.turn_of pairs.pairs_of pattern.sum_to pattern.flat pattern.start_of pattern.column_place_of pattern-steps.joins_by pattern.joins pattern.coarse_offsets pattern.coarse_columns pattern.coarse_positions pattern.compose_of galerkin-turns.add_entry galerkin.sums_of galerkin.average_face galerkin.symmetrize_of galerkin.zero_entry galerkin-turns.zero_entries galerkin.zero_diagonal_of building.merge_of dic.is_pivot dic.pivot_face dic.pivot_row dic.pivots_of dic.reciprocals_of dic.dic_of matrix.sum_face matrix.sum_row matrix.row_sums_of matrix.residual_of
-ring_anew = refl
+unfolding building.build_of building.symmetric_of refreshing.with_sums csr.size_ok csr.never_fall csr.offsets_ok csr.entry_ok csr.row_ok csr-turns.step_ok csr-turns.row_at csr-turns.entry_from csr.columns_ok weights.weights_ok csr-turns.weight_ok valid_of is_finite lt le eq of_bits add sub mul div each tab for iter ask_rows pair_agrees mirrors_agree pattern.some pattern.how_many pattern.those pattern.row_of faces.above faces.faces_of faces.uppers_of faces.face_offsets_of faces.neighbors_of faces.has_entry faces.stands_at faces.mirrored_of faces.lowers_of faces.diagonals_asked faces.diagonals_of faces.coupled_of faces.coupled_count_of faces.coupled_rows_of max_num ne of_int abs_of pattern.sum_to pattern.flat pattern.start_of pattern.column_place_of pattern.joins pattern.coarse_offsets pattern.coarse_columns pattern.coarse_positions pattern.compose_of matrix.sum_face matrix.sum_row matrix.row_sums_of
+ring_anew = rw ring_levels
 
 -- One update is refused, the other accepted.
 ring_updated : (update.update_of ring.input.options (shapes_in before.levels) ring.input.offsets ring.input.columns ring.wrong ≡ refused ring.refusal)

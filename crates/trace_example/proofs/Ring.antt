@@ -7,13 +7,12 @@ use lib.Ieee.{Float, binary64, of_int, of_bits}
 use Rattle.float.specs.Float.{zero64}
 use Rattle.store.specs.Vector.{filled}
 use Rattle.hierarchy.specs.Level.{Shape, Hierarchy}
-use Rattle.hierarchy.specs.Build.{pattern_in}
-use Rattle.trace_example.specs.Ring.{floats_of, ring}
+use Rattle.trace_example.specs.Ring.{floats_of}
 
 -- the finest level: the faces 0-1, 0-3, 1-2, 2-3, and the aggregates 0, 3 and 1, 2
 abbrev pub fine : Shape
 fine = record {
-  pattern = pattern_in ring.input;
+  pattern = record { rows = 4; offsets = 0 ∷ 3 ∷ 6 ∷ 9 ∷ 12 ∷ []; columns = 0 ∷ 1 ∷ 3 ∷ 0 ∷ 1 ∷ 2 ∷ 1 ∷ 2 ∷ 3 ∷ 0 ∷ 2 ∷ 3 ∷ [] };
   starts = 0 ∷ 2 ∷ 3 ∷ 4 ∷ 4 ∷ [];
   neighbors = 1 ∷ 3 ∷ 2 ∷ 3 ∷ [];
   uppers = 1 ∷ 2 ∷ 5 ∷ 8 ∷ [];
