@@ -10,7 +10,7 @@ use Rattle.store.specs.Loop.{iter, for}
 use Rattle.store.specs.Region.{part, lay, splice}
 use Rattle.store.specs.Vector.{tab, each}
 use Rattle.options.specs.Options.{valid_of}
-use Rattle.refusal.specs.Outcome.{ask_rows}
+use Rattle.refusal.specs.Outcome.{accepted, refused, ask_rows}
 use Rattle.hierarchy.specs.Level.{empty_hierarchy}
 use Rattle.hierarchy.specs.Build as building
 use Rattle.hierarchy.specs.Refresh as refreshing
@@ -64,10 +64,11 @@ use Rattle.solve.specs.Input as input
 use Rattle.solve.specs.Solve as solve
 use Rattle.update_levels.specs.Standing as standing
 use Rattle.update_levels.specs.Update as update
-use Rattle.trace_example.proofs.Calls.{level_words, level_floats, all_levels, words_for, floats_for, lent, Computes, calls_made, calls_counted, calls_agree}
+use Rattle.trace_example.proofs.Calls.{level_words, level_floats, all_levels, words_for, floats_for, lent, given, Computes, calls_made, calls_counted, calls_agree}
 use Rattle.hierarchy.specs.Build.{mesh_in, paired}
 use Rattle.multigrid.specs.New.{unvisited_levels, statistics_of}
-use Rattle.call_theorem.specs.Trace.{statistics_after, Agrees}
+use Rattle.hierarchy.specs.First.{shapes_in}
+use Rattle.call_theorem.specs.Trace.{statistics_after, with_values, Agrees}
 use Rattle.trace_example.specs.Calls.{calls}
 use Rattle.trace_example.specs.Cell.{two, half, cell}
 use Rattle.trace_example.specs.Ring.{ring}
@@ -75,14 +76,58 @@ use Rattle.trace_example.specs.Empty.{drum}
 use Rattle.trace_example.proofs.Cell.{one_cell}
 use Rattle.trace_example.proofs.Ring.{fine, before, after}
 
--- Of the cell and of the ring: the build with the first values and with the accepted ones; both hold in the stores; one update is refused, the
--- other accepted; and the solve has its two answers.
-pub computed : Computes cell (one_cell one64 one64) (one_cell two half) × Computes ring before after
+-- Of the cell: the build with the first values and with the accepted ones; both hold in the stores; one update is refused, the other accepted; and
+-- the solve has its two answers.
+cell_computed : Computes cell (one_cell one64 one64) (one_cell two half)
 unfolding headers.heads_at headers.heads_of building.build_of building.symmetric_of building.grow_of refreshing.with_sums csr.size_ok csr.never_fall csr.offsets_ok csr.entry_ok csr.row_ok csr-turns.step_ok csr-turns.row_at csr-turns.entry_from csr.columns_ok weights.weights_ok csr-turns.weight_ok valid_of is_finite lt le eq of_bits add sub mul div sqrt_of each tab for iter ask_rows pair_agrees mirrors_agree pattern.some pattern.how_many pattern.those pattern.row_of faces.above faces.faces_of faces.uppers_of faces.face_offsets_of faces.neighbors_of faces.has_entry faces.stands_at faces.mirrored_of faces.lowers_of faces.diagonals_asked faces.diagonals_of faces.coupled_of faces.coupled_count_of faces.coupled_rows_of kernel_update_of diagonal_asked is_positive tri cholesky.seek_of cholesky.get_of less_of cholesky.rest_of cholesky-turns.column_of cholesky.columns_of cholesky.factor_row_of cholesky.rows_of cholesky.cholesky_of layout.view_of layout.finest_rows layout.levels_at layout.level_at layout.words_end layout.floats_end layout.image_end layout.words_fit part lay splice level_words level_floats all_levels words_for floats_for update.update_of update.renew_of update.same_list update.same_pattern standing.diagonal_stands standing.diagonals_stand solve.solve_of input.input_ok solve.run_of iterating.iterate_of iteration.step_of iteration.moved_of cycle.cycle_of cycle.end_of cycle.count_of terminal.terminal_of terminal.terminal_solution coarse-turns.scatter_of coarse-turns.gather_of coarse-turns.diagonal_of factor.solve_factor_of factor.low_row factor.high_row cholesky-turns.low_term cholesky-turns.high_term measure.measure_of measure.value_of residual-norm-turns.squares_of residual-norm-turns.square_at measure.sum_of residual-norm-turns.sum_turn finite.all_finite vector-turns.term_of dot.block_of vector-turns.block_turn dot.dot_of dot.product_of dot.root_of dot.norm_of normalization.normalization_of solver.relative_of matrix.apply_of matrix.spread_of matrix.spread_row matrix.spread_face correction.subtract_of correction.add_plain_of max_num ne of_int abs_of pairs.strengths_of pairs.consider_of aggregation-turns.entry_of pairs.strongest_of pairs.assign_of pairs.pair_row_of aggregation-turns.turn_of pairs.pairs_of pattern.sum_to pattern.flat pattern.start_of pattern.column_place_of pattern-steps.joins_by pattern.joins pattern.coarse_offsets pattern.coarse_columns pattern.coarse_positions pattern.compose_of galerkin-turns.add_entry galerkin.sums_of galerkin.average_face galerkin.symmetrize_of galerkin.zero_entry galerkin-turns.zero_entries galerkin.zero_diagonal_of building.merge_of dic.is_pivot dic.pivot_face dic.pivot_row dic.pivots_of dic.reciprocals_of dic.dic_of matrix.sum_face matrix.sum_row matrix.row_sums_of sweep.gather_face sweep.cast_face sweep.fresh_of sweep.forward_row sweep.backward_row sweep.gauss_seidel_of sweep.lower_row sweep.upper_row sweep.dic_sweep_of matrix.residual_of smooth.gauss_seidels_of smooth.dic_sweeps_of smooth.swept_of smooth.smooth_of scaling.products_turn scaling.products_of scaling.quotient_of scaling.scale_of scaling.correction_factor_of scaled.add_scaled_of transfer.gather_turn transfer.gather_of transfer.restrict_of transfer.prolong_of counts.pre_sweeps_of counts.post_sweeps_of cycle.residual_after cycle.corrected cycle.up_of residual-norm-turns.size_at residual-norm-turns.sizes_of normalization.mean_of residual-norm-turns.spread_of residual-norm-turns.spread_at residual-norm-turns.spreads_of gcr.twice_of gcr.kept_of gcr.correct_of directions.less_of directions.orthogonal_to directions.pass_of normal.over_of normal.normal_of acceleration-turns.more_of advance.advance_of
-computed = (
-  record { weights = refl; built = refl; anew = refl; view = refl; viewed = refl; fits = refl; heads = refl; refuses = refl; accepts = refl; solves = refl; solved = refl },
-  record { weights = refl; built = refl; anew = refl; view = refl; viewed = refl; fits = refl; heads = refl; refuses = refl; accepts = refl; solves = refl; solved = refl },
-)
+cell_computed = record { weights = refl; built = refl; anew = refl; view = refl; viewed = refl; fits = refl; heads = refl; refuses = refl; accepts = refl; solves = refl; solved = refl }
+
+-- Of the ring, one after the other: a declaration may take so many steps and no more. The build with the first values,
+ring_built : building.build_of (lent ring) ring.input ≡ accepted before
+unfolding building.build_of building.symmetric_of building.grow_of refreshing.with_sums csr.size_ok csr.never_fall csr.offsets_ok csr.entry_ok csr.row_ok csr-turns.step_ok csr-turns.row_at csr-turns.entry_from csr.columns_ok weights.weights_ok csr-turns.weight_ok valid_of is_finite lt le eq of_bits add sub mul div sqrt_of each tab for iter ask_rows pair_agrees mirrors_agree pattern.some pattern.how_many pattern.those pattern.row_of faces.above faces.faces_of faces.uppers_of faces.face_offsets_of faces.neighbors_of faces.has_entry faces.stands_at faces.mirrored_of faces.lowers_of faces.diagonals_asked faces.diagonals_of faces.coupled_of faces.coupled_count_of faces.coupled_rows_of kernel_update_of diagonal_asked is_positive tri cholesky.seek_of cholesky.get_of less_of cholesky.rest_of cholesky-turns.column_of cholesky.columns_of cholesky.factor_row_of cholesky.rows_of cholesky.cholesky_of part lay splice cholesky-turns.low_term cholesky-turns.high_term finite.all_finite matrix.apply_of matrix.spread_of matrix.spread_row matrix.spread_face max_num ne of_int abs_of pairs.strengths_of pairs.consider_of aggregation-turns.entry_of pairs.strongest_of pairs.assign_of pairs.pair_row_of aggregation-turns.turn_of pairs.pairs_of pattern.sum_to pattern.flat pattern.start_of pattern.column_place_of pattern-steps.joins_by pattern.joins pattern.coarse_offsets pattern.coarse_columns pattern.coarse_positions pattern.compose_of galerkin-turns.add_entry galerkin.sums_of galerkin.average_face galerkin.symmetrize_of galerkin.zero_entry galerkin-turns.zero_entries galerkin.zero_diagonal_of building.merge_of dic.is_pivot dic.pivot_face dic.pivot_row dic.pivots_of dic.reciprocals_of dic.dic_of matrix.sum_face matrix.sum_row matrix.row_sums_of matrix.residual_of
+ring_built = refl
+
+-- and with the accepted ones.
+ring_anew : building.build_of (lent ring) (with_values ring.input ring.right) ≡ accepted after
+unfolding building.build_of building.symmetric_of building.grow_of refreshing.with_sums csr.size_ok csr.never_fall csr.offsets_ok csr.entry_ok csr.row_ok csr-turns.step_ok csr-turns.row_at csr-turns.entry_from csr.columns_ok weights.weights_ok csr-turns.weight_ok valid_of is_finite lt le eq of_bits add sub mul div sqrt_of each tab for iter ask_rows pair_agrees mirrors_agree pattern.some pattern.how_many pattern.those pattern.row_of faces.above faces.faces_of faces.uppers_of faces.face_offsets_of faces.neighbors_of faces.has_entry faces.stands_at faces.mirrored_of faces.lowers_of faces.diagonals_asked faces.diagonals_of faces.coupled_of faces.coupled_count_of faces.coupled_rows_of kernel_update_of diagonal_asked is_positive tri cholesky.seek_of cholesky.get_of less_of cholesky.rest_of cholesky-turns.column_of cholesky.columns_of cholesky.factor_row_of cholesky.rows_of cholesky.cholesky_of part lay splice cholesky-turns.low_term cholesky-turns.high_term finite.all_finite matrix.apply_of matrix.spread_of matrix.spread_row matrix.spread_face max_num ne of_int abs_of pairs.strengths_of pairs.consider_of aggregation-turns.entry_of pairs.strongest_of pairs.assign_of pairs.pair_row_of aggregation-turns.turn_of pairs.pairs_of pattern.sum_to pattern.flat pattern.start_of pattern.column_place_of pattern-steps.joins_by pattern.joins pattern.coarse_offsets pattern.coarse_columns pattern.coarse_positions pattern.compose_of galerkin-turns.add_entry galerkin.sums_of galerkin.average_face galerkin.symmetrize_of galerkin.zero_entry galerkin-turns.zero_entries galerkin.zero_diagonal_of building.merge_of dic.is_pivot dic.pivot_face dic.pivot_row dic.pivots_of dic.reciprocals_of dic.dic_of matrix.sum_face matrix.sum_row matrix.row_sums_of matrix.residual_of
+ring_anew = refl
+
+-- One update is refused, the other accepted.
+ring_updated : (update.update_of ring.input.options (shapes_in before.levels) ring.input.offsets ring.input.columns ring.wrong ≡ refused ring.refusal)
+    × (update.update_of ring.input.options (shapes_in before.levels) ring.input.offsets ring.input.columns ring.right ≡ accepted after)
+unfolding building.build_of building.symmetric_of building.grow_of refreshing.with_sums csr.size_ok csr.never_fall csr.offsets_ok csr.entry_ok csr.row_ok csr-turns.step_ok csr-turns.row_at csr-turns.entry_from csr.columns_ok weights.weights_ok csr-turns.weight_ok valid_of is_finite lt le eq of_bits add sub mul div sqrt_of each tab for iter ask_rows pair_agrees mirrors_agree pattern.some pattern.how_many pattern.those pattern.row_of faces.above faces.faces_of faces.uppers_of faces.face_offsets_of faces.neighbors_of faces.has_entry faces.stands_at faces.mirrored_of faces.lowers_of faces.diagonals_asked faces.diagonals_of faces.coupled_of faces.coupled_count_of faces.coupled_rows_of kernel_update_of diagonal_asked is_positive tri cholesky.seek_of cholesky.get_of less_of cholesky.rest_of cholesky-turns.column_of cholesky.columns_of cholesky.factor_row_of cholesky.rows_of cholesky.cholesky_of part lay splice update.update_of update.renew_of update.same_list update.same_pattern standing.diagonal_stands standing.diagonals_stand cholesky-turns.low_term cholesky-turns.high_term finite.all_finite matrix.apply_of matrix.spread_of matrix.spread_row matrix.spread_face max_num ne of_int abs_of pairs.strengths_of pairs.consider_of aggregation-turns.entry_of pairs.strongest_of pairs.assign_of pairs.pair_row_of aggregation-turns.turn_of pairs.pairs_of pattern.sum_to pattern.flat pattern.start_of pattern.column_place_of pattern-steps.joins_by pattern.joins pattern.coarse_offsets pattern.coarse_columns pattern.coarse_positions pattern.compose_of galerkin-turns.add_entry galerkin.sums_of galerkin.average_face galerkin.symmetrize_of galerkin.zero_entry galerkin-turns.zero_entries galerkin.zero_diagonal_of building.merge_of dic.is_pivot dic.pivot_face dic.pivot_row dic.pivots_of dic.reciprocals_of dic.dic_of matrix.sum_face matrix.sum_row matrix.row_sums_of matrix.residual_of
+ring_updated = (refl, refl)
+
+-- The solve has this answer before the update,
+ring_solves : solve.solve_of (iteration.system_of ring.input.options before) ring.asked ring.rhs ring.start ≡ given ring ring.before
+unfolding valid_of is_finite lt le eq of_bits add sub mul div sqrt_of each tab for iter ask_rows pair_agrees mirrors_agree faces.above faces.faces_of faces.uppers_of faces.face_offsets_of faces.neighbors_of faces.has_entry faces.stands_at faces.mirrored_of faces.lowers_of faces.diagonals_asked faces.diagonals_of faces.coupled_of faces.coupled_count_of faces.coupled_rows_of kernel_update_of diagonal_asked is_positive tri cholesky.seek_of cholesky.get_of less_of cholesky.rest_of cholesky-turns.column_of cholesky.columns_of cholesky.factor_row_of cholesky.rows_of cholesky.cholesky_of part lay splice solve.solve_of input.input_ok solve.run_of iterating.iterate_of iteration.step_of iteration.moved_of cycle.cycle_of cycle.end_of cycle.count_of terminal.terminal_of terminal.terminal_solution coarse-turns.scatter_of coarse-turns.gather_of coarse-turns.diagonal_of factor.solve_factor_of factor.low_row factor.high_row cholesky-turns.low_term cholesky-turns.high_term measure.measure_of measure.value_of residual-norm-turns.squares_of residual-norm-turns.square_at measure.sum_of residual-norm-turns.sum_turn finite.all_finite vector-turns.term_of dot.block_of vector-turns.block_turn dot.dot_of dot.product_of dot.root_of dot.norm_of normalization.normalization_of solver.relative_of matrix.apply_of matrix.spread_of matrix.spread_row matrix.spread_face correction.subtract_of correction.add_plain_of max_num ne of_int abs_of dic.is_pivot dic.pivot_face dic.pivot_row dic.pivots_of dic.reciprocals_of dic.dic_of matrix.sum_face matrix.sum_row matrix.row_sums_of sweep.gather_face sweep.cast_face sweep.fresh_of sweep.forward_row sweep.backward_row sweep.gauss_seidel_of sweep.lower_row sweep.upper_row sweep.dic_sweep_of matrix.residual_of smooth.gauss_seidels_of smooth.dic_sweeps_of smooth.swept_of smooth.smooth_of scaling.products_turn scaling.products_of scaling.quotient_of scaling.scale_of scaling.correction_factor_of scaled.add_scaled_of transfer.gather_turn transfer.gather_of transfer.restrict_of transfer.prolong_of counts.pre_sweeps_of counts.post_sweeps_of cycle.residual_after cycle.corrected cycle.up_of residual-norm-turns.size_at residual-norm-turns.sizes_of normalization.mean_of residual-norm-turns.spread_of residual-norm-turns.spread_at residual-norm-turns.spreads_of gcr.twice_of gcr.kept_of gcr.correct_of directions.less_of directions.orthogonal_to directions.pass_of normal.over_of normal.normal_of acceleration-turns.more_of advance.advance_of
+ring_solves = refl
+
+-- and this one after it.
+ring_solved : solve.solve_of (iteration.system_of ring.input.options after) ring.asked ring.rhs ring.start ≡ given ring ring.after
+unfolding valid_of is_finite lt le eq of_bits add sub mul div sqrt_of each tab for iter ask_rows pair_agrees mirrors_agree faces.above faces.faces_of faces.uppers_of faces.face_offsets_of faces.neighbors_of faces.has_entry faces.stands_at faces.mirrored_of faces.lowers_of faces.diagonals_asked faces.diagonals_of faces.coupled_of faces.coupled_count_of faces.coupled_rows_of kernel_update_of diagonal_asked is_positive tri cholesky.seek_of cholesky.get_of less_of cholesky.rest_of cholesky-turns.column_of cholesky.columns_of cholesky.factor_row_of cholesky.rows_of cholesky.cholesky_of part lay splice solve.solve_of input.input_ok solve.run_of iterating.iterate_of iteration.step_of iteration.moved_of cycle.cycle_of cycle.end_of cycle.count_of terminal.terminal_of terminal.terminal_solution coarse-turns.scatter_of coarse-turns.gather_of coarse-turns.diagonal_of factor.solve_factor_of factor.low_row factor.high_row cholesky-turns.low_term cholesky-turns.high_term measure.measure_of measure.value_of residual-norm-turns.squares_of residual-norm-turns.square_at measure.sum_of residual-norm-turns.sum_turn finite.all_finite vector-turns.term_of dot.block_of vector-turns.block_turn dot.dot_of dot.product_of dot.root_of dot.norm_of normalization.normalization_of solver.relative_of matrix.apply_of matrix.spread_of matrix.spread_row matrix.spread_face correction.subtract_of correction.add_plain_of max_num ne of_int abs_of dic.is_pivot dic.pivot_face dic.pivot_row dic.pivots_of dic.reciprocals_of dic.dic_of matrix.sum_face matrix.sum_row matrix.row_sums_of sweep.gather_face sweep.cast_face sweep.fresh_of sweep.forward_row sweep.backward_row sweep.gauss_seidel_of sweep.lower_row sweep.upper_row sweep.dic_sweep_of matrix.residual_of smooth.gauss_seidels_of smooth.dic_sweeps_of smooth.swept_of smooth.smooth_of scaling.products_turn scaling.products_of scaling.quotient_of scaling.scale_of scaling.correction_factor_of scaled.add_scaled_of transfer.gather_turn transfer.gather_of transfer.restrict_of transfer.prolong_of counts.pre_sweeps_of counts.post_sweeps_of cycle.residual_after cycle.corrected cycle.up_of residual-norm-turns.size_at residual-norm-turns.sizes_of normalization.mean_of residual-norm-turns.spread_of residual-norm-turns.spread_at residual-norm-turns.spreads_of gcr.twice_of gcr.kept_of gcr.correct_of directions.less_of directions.orthogonal_to directions.pass_of normal.over_of normal.normal_of acceleration-turns.more_of advance.advance_of
+ring_solved = refl
+
+-- Both builds hold in the stores.
+ring_computed : Computes ring before after
+unfolding headers.heads_at headers.heads_of valid_of is_finite lt le eq of_bits add sub mul div sqrt_of each tab for iter ask_rows pair_agrees mirrors_agree pattern.some pattern.how_many pattern.those pattern.row_of faces.above faces.faces_of faces.uppers_of faces.face_offsets_of faces.neighbors_of faces.has_entry faces.stands_at faces.mirrored_of faces.lowers_of faces.diagonals_asked faces.diagonals_of faces.coupled_of faces.coupled_count_of faces.coupled_rows_of kernel_update_of diagonal_asked is_positive tri less_of layout.view_of layout.finest_rows layout.levels_at layout.level_at layout.words_end layout.floats_end layout.image_end layout.words_fit part lay splice level_words level_floats all_levels words_for floats_for max_num ne of_int abs_of pattern.sum_to pattern.flat pattern.start_of pattern.column_place_of pattern.joins pattern.coarse_offsets pattern.coarse_columns pattern.coarse_positions pattern.compose_of
+ring_computed = record {
+  weights = refl;
+  built = ring_built;
+  anew = ring_anew;
+  view = refl;
+  viewed = refl;
+  fits = refl;
+  heads = refl;
+  refuses = ring_updated.0;
+  accepts = ring_updated.1;
+  solves = ring_solves;
+  solved = ring_solved;
+}
+
+-- Of the cell and of the ring.
+pub computed : Computes cell (one_cell one64 one64) (one_cell two half) × Computes ring before after
+computed = (cell_computed, ring_computed)
 
 -- Of the drum with nothing in it.
 pub drum_computed : Computes drum empty_hierarchy empty_hierarchy
