@@ -1,9 +1,9 @@
--- Records written one by one: what holds of them below the level and from there on, at the start, after a turn and at the end.
+-- Laws of lists and numbers for the walks of this crate: records written one by one, and what the loops' arithmetic asks.
 use mathlib.Core.Path.{◌≡◌, refl, sym, ap, ◌∙◌}
-use Prim.Native.Nat.{ℕ, ◌<◌, ◌≤◌, ◌+◌, zero-le}
+use Prim.Native.Nat.{ℕ, ◌<◌, ◌≤◌, ◌^◌, ◌*◌, ◌+◌, ◌-◌, zero-le}
 use native.Mathlib.Omega.{arith}
 use mathlib.Core.Bool.{Bool, true, false}
-use mathlib.Core.List.{List}
+use mathlib.Core.List.{List, [], ◌∷◌, map}
 use lib.Dec.{eqb, ltb}
 use lib.ListN.{length, get_or, set, length-set, get_or-eq_default}
 use lib.Seq.{get_or-set_same, get_or-set_other}
@@ -13,6 +13,28 @@ use Rattle.solver.specs.Statistics.{unvisited, counted_at}
 use Rattle.statistics.specs.Contract.{Published, CountedUp}
 use Rattle.statistics.specs.Steps.{FreshAt}
 use Rattle.solver.specs.declared.statistics.MultigridLevelStatistics.{MultigridLevelStatistics}
+
+-- a record's offset fits, and so do the next index and this one
+pub offset_fits : (n i : ℕ) → n * 40 < 2 ^ 63 → i < n → i * 40 < 2 ^ 64
+offset_fits n i g l = omega arith
+
+pub next_fits : (n i : ℕ) → n < 2 ^ 64 → i < n → i + 1 < 2 ^ 64
+next_fits n i g l = omega arith
+
+pub index_fits : (n i : ℕ) → n < 2 ^ 64 → i < n → i < 2 ^ 64
+index_fits n i g l = omega arith
+
+pub less_within : (i n m : ℕ) → i < n → n ≤ m → i < m
+less_within i n m l h = omega arith
+
+-- a turn comes nearer to the end
+pub nearer : (n i : ℕ) → i < n → n - (i + 1) < n - i
+nearer n i l = omega arith
+
+-- a field that is an array is had as it is
+pub as_is : (xs : List ℕ) → map (λ (v : ℕ). v) xs ≡ xs
+as_is [] = refl
+as_is (x ∷ xs) = ap (λ (t : List ℕ). x ∷ t) (as_is xs)
 
 -- The first i of n records are those that a build leaves.
 pub record Fresh (cells : List ℕ) (n i : ℕ) (zs : List MultigridLevelStatistics) : Type 0 where
@@ -30,9 +52,9 @@ fresh_next cells n i zs fs less r e = record { within = omega arith; long = leng
     by_test j h true q = let k : j ≡ i = eqb-true j i q in rw k (get_or-set_same zs i r (unvisited 0) (let l : length zs ≡ n = fs.long in omega arith) ∙ e)
     by_test j h false q = get_or-set_other zs i j r (unvisited 0) (eqb-false j i q) ∙ fs.each j (let ne : j ≡ i → ⊥ = eqb-false j i q in omega arith)
 
-pub fresh_all : (cells : List ℕ) (ys : List MultigridLevelStatistics) (i : ℕ) (zs : List MultigridLevelStatistics) → Fresh cells (length ys) i zs → length ys ≤ i → Published cells ys zs
+pub fresh_all : (cells : List ℕ) (ys : List MultigridLevelStatistics) (i : ℕ) (zs : List MultigridLevelStatistics) → Fresh (map (λ (v : ℕ). v) cells) (length ys) i zs → length ys ≤ i → Published cells ys zs
 fresh_all cells ys i zs fs over =
-    record { as_many = fs.long; each = λ j h. fs.each j (omega arith) }
+    record { as_many = fs.long; each = λ j h. fs.each j (omega arith) ∙ ap (λ (cs : List ℕ). unvisited (idx cs j)) (as_is cells) }
 
 -- the record at a depth is that of the rows that a build tells there; it tells them of 128 depths
 pub fresh_told : (cells : List ℕ) (depth : ℕ) (r : MultigridLevelStatistics) → length cells ≡ 128 → FreshAt cells depth r → r ≡ unvisited (idx cells depth)
@@ -73,9 +95,9 @@ counting_next counts levels ys i zs fs room less r e = record {
         let k : j ≡ i = eqb-true j i q in rw k (get_or-set_same zs i r (unvisited 0) (let l : length zs ≡ length ys = fs.long in omega arith) ∙ (e ∙ ap (counted_at counts i) (fs.others i (omega arith))))
     by_test j h false q = get_or-set_other zs i j r (unvisited 0) (eqb-false j i q) ∙ fs.counted j (let ne : j ≡ i → ⊥ = eqb-false j i q in omega arith)
 
-pub counting_all : (counts : List ℕ) (levels : ℕ) (ys : List MultigridLevelStatistics) (i : ℕ) (zs : List MultigridLevelStatistics) → Counting counts levels ys i zs → levels ≤ i → CountedUp counts levels ys zs
+pub counting_all : (counts : List ℕ) (levels : ℕ) (ys : List MultigridLevelStatistics) (i : ℕ) (zs : List MultigridLevelStatistics) → Counting (map (λ (v : ℕ). v) counts) levels ys i zs → levels ≤ i → CountedUp counts levels ys zs
 counting_all counts levels ys i zs fs over = record {
   as_many = fs.long;
-  counted = λ j h. fs.counted j (omega arith);
+  counted = λ j h. fs.counted j (omega arith) ∙ ap (λ (cs : List ℕ). counted_at cs j (get_or ys j (unvisited 0))) (as_is counts);
   others = λ j h. fs.others j (let w : i ≤ levels = fs.within in omega arith);
 }
