@@ -123,7 +123,7 @@ impl Level {
 }
 
 impl Hierarchy {
-    /// `viewOf` of crates/layout: so many levels, and the row sums of the finest after them.
+    /// `view_of` of crates/layout: so many levels, and the row sums of the finest after them.
     pub fn read(levels: usize, stores: &Stores) -> Option<Self> {
         let mut words = Cursor(&stores.words);
         let mut floats = Cursor(&stores.floats);
