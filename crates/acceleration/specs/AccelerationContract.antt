@@ -1,10 +1,9 @@
 -- What a correction requires and ensures. Definitions only.
-use Rattle.std.specs.Prelude.{◌≡◌, cond, List, ℕ, ◌+◌, ◌*◌, ◌≤◌, ◌<◌, eqb, Float, length}
+use Rattle.std.specs.Prelude.{◌≡◌, cond, List, ℕ, ◌+◌, ◌*◌, ◌≤◌, ◌<◌, eqb, Float, length, Result, Ok, Err}
 use Rattle.refusal.specs.declared.Refusal.{Refusal}
 use Rattle.refusal.specs.Outcome.{Outcome, accepted, refused}
 use Rattle.store.specs.Region.{part, Clear}
 use Rattle.acceleration.specs.DirectionsContract.{memory_at}
-use Rattle.acceleration.specs.declared.acceleration.Corrected.{Corrected}
 use Rattle.acceleration.specs.Gcr.{Corrections}
 
 -- r pairs stay of `used`: none where the memory is full
@@ -24,17 +23,17 @@ pub record CorrectOk (size n krylov used solution directions images residual dir
   pub within : image + n ≤ size
 
 -- the answer to an outcome: how many pairs are stored now
-abbrev pub corrected_of : Outcome Corrections → Corrected
-corrected_of (accepted s) = Corrected.Used (length s.memory)
-corrected_of (refused q) = Corrected.Refused q
+abbrev pub corrected_of : Outcome Corrections → Result ℕ Refusal
+corrected_of (accepted s) = Ok (length s.memory)
+corrected_of (refused q) = Err q
 
 -- The answer is the outcome's, and the memory has room for the pairs that it counts. Where it is accepted, its solution
 -- and memory stand in G; where it is refused, the solution is as it was. Memory, new direction and image apart, nothing
 -- else has changed.
 pub record CorrectedBy (n krylov solution directions images direction image : ℕ) (outcome : Outcome Corrections)
-    (F G : List Float) (r : Corrected) : Type 0 where
+    (F G : List Float) (r : Result ℕ Refusal) : Type 0 where
   pub answer : r ≡ corrected_of outcome
-  pub fits : (used : ℕ) → r ≡ Corrected.Used used → used ≤ krylov
+  pub fits : (used : ℕ) → r ≡ Ok used → used ≤ krylov
   pub solved : (s : Corrections) → outcome ≡ accepted s → part solution n G ≡ s.solution
   pub stored : (s : Corrections) → outcome ≡ accepted s → memory_at (length s.memory) n directions images G ≡ s.memory
   pub still : (q : Refusal) → outcome ≡ refused q → part solution n G ≡ part solution n F

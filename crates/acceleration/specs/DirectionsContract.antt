@@ -1,7 +1,7 @@
 -- The memory as regions of the store, and what the functions require and ensure. Definitions only.
-use Rattle.std.specs.Prelude.{◌≡◌, Bool, List, [], ◌∷◌, ℕ, zero, suc, ◌+◌, ◌*◌, ◌≤◌, Float, length}
-use Rattle.refusal.specs.Refusal.{bad_dot_product}
-use Rattle.refusal.specs.Outcome.{Outcome, accepted, ask}
+use Rattle.std.specs.Prelude.{◌≡◌, List, [], ◌∷◌, ℕ, zero, suc, ◌+◌, ◌*◌, ◌≤◌, Float, length, Result, Ok, Err}
+use Rattle.refusal.specs.declared.Refusal.{Refusal}
+use Rattle.refusal.specs.Outcome.{Outcome, accepted, refused}
 use Rattle.store.specs.Region.{part, Clear}
 use Rattle.acceleration.specs.Directions.{Pair}
 
@@ -27,9 +27,14 @@ pub record StepOk (size n p q direction image : ℕ) : Type 0 where
   pub directions : direction + n ≤ image
   pub images : image + n ≤ size
 
--- r tells whether `outcome` is accepted, with the new pair left in G; nothing else has changed
-pub record Stepped (n direction image : ℕ) (outcome : Outcome Pair) (F G : List Float) (r : Bool) : Type 0 where
-  pub is : ask r bad_dot_product (accepted (pair_at n direction image G)) ≡ outcome
+-- what a verdict tells of what was made: it is accepted, or refused with the verdict's refusal
+abbrev pub made_of : {A : Type 0} → Result Unit Refusal → A → Outcome A
+made_of (Ok tt) a = accepted a
+made_of (Err q) a = refused q
+
+-- r is the verdict of `outcome`, with the new pair left in G; nothing else has changed
+pub record Stepped (n direction image : ℕ) (outcome : Outcome Pair) (F G : List Float) (r : Result Unit Refusal) : Type 0 where
+  pub is : made_of r (pair_at n direction image G) ≡ outcome
   pub frame : Between direction (image + n) F G
 
 -- `used` stored pairs below the new one

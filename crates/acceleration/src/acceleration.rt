@@ -9,14 +9,7 @@ ghost use Rattle.acceleration.specs.AccelerationContract.{Restarted, CorrectOk, 
 use crate::advance::advance;
 use crate::directions::pass;
 use crate::normalize::normalize;
-use refusal::{Refusal, Verdict};
-
-// How many pairs are stored after a correction, or why there is none.
-#[derive(Clone, Copy)]
-pub enum Corrected {
-    Used(usize),
-    Refused(Refusal),
-}
+use refusal::Refusal;
 
 // Reorthogonalised modified Gram-Schmidt: two passes keep the small history reliable where consecutive V-cycles give
 // nearly parallel images.
@@ -28,17 +21,14 @@ fn orthogonalize(
     images: usize,
     direction: usize,
     image: usize,
-) -> bool
+) -> Result<(), Refusal>
     requires { PassOk (length f.old) n used directions images direction image }
     ensures { Stepped n direction image
         (twice_of n (memory_at used n directions images f.old) (pair_at n direction image f.old))
         f.old f.new result }
 {
-    if pass(f, n, used, directions, images, direction, image) {
-        pass(f, n, used, directions, images, direction, image)
-    } else {
-        false
-    }
+    pass(f, n, used, directions, images, direction, image)?;
+    pass(f, n, used, directions, images, direction, image)
 }
 
 // How many pairs stay: none where the memory is full.
@@ -63,7 +53,7 @@ pub fn correct(
     residual: usize,
     direction: usize,
     image: usize,
-) -> Corrected
+) -> Result<usize, Refusal>
     requires { CorrectOk (length f.old) n krylov used solution directions images residual direction image }
     ensures { CorrectedBy n krylov solution directions images direction image
         (correct_of n krylov (memory_at used n directions images f.old)
@@ -71,20 +61,10 @@ pub fn correct(
         f.old f.new result }
 {
     let kept = restarted(krylov, used);
-    if orthogonalize(f, n, kept, directions, images, direction, image) {
-        let p = directions + kept * n;
-        let q = images + kept * n;
-        match normalize(f, n, p, q, direction, image) {
-            Verdict::Passed => {
-                if advance(f, n, solution, p, q, residual) {
-                    Corrected::Used(kept + 1)
-                } else {
-                    Corrected::Refused(refusal::BAD_DOT_PRODUCT)
-                }
-            }
-            Verdict::Refused(reason) => Corrected::Refused(reason),
-        }
-    } else {
-        Corrected::Refused(refusal::BAD_DOT_PRODUCT)
-    }
+    orthogonalize(f, n, kept, directions, images, direction, image)?;
+    let p = directions + kept * n;
+    let q = images + kept * n;
+    normalize(f, n, p, q, direction, image)?;
+    advance(f, n, solution, p, q, residual)?;
+    Ok(kept + 1)
 }

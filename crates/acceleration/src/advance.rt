@@ -6,22 +6,21 @@ ghost use Rattle.acceleration.specs.Advance.{advance_of};
 ghost use Rattle.acceleration.specs.Turns.{more_of};
 ghost use Rattle.acceleration.specs.AdvanceContract.{AdvanceOk, Advanced};
 
-use vector::Product;
+use refusal::Refusal;
 
 // y += a * x
+// No loop shared with `lessen` and `over`: they differ by the operation, and one that takes it as a closure would be no plainer.
 fn more(f: &mut [f64], n: usize, a: f64, x: usize, y: usize)
     requires { AxpyOk (length f.old) n x y }
     ensures { Wrote y n (more_of n a (part x n f.old) (part y n f.old)) f.old
         f.new }
 {
-    let mut row = 0;
-    while row < n {
-        f[y + row] = f[y + row] + a * f[x + row];
-        row += 1;
+    for row in 0..n {
+        f[y + row] += a * f[x + row];
     }
 }
 
-// The solution moved along the pair at p and q; false, and nothing moved, where the product is not finite.
+// The solution moved along the pair at p and q; refused, and nothing moved, where the product is not finite.
 pub fn advance(
     f: &mut [f64],
     n: usize,
@@ -29,17 +28,13 @@ pub fn advance(
     p: usize,
     q: usize,
     residual: usize,
-) -> bool
+) -> Result<(), Refusal>
     requires { AdvanceOk (length f.old) n solution p q residual }
     ensures { Advanced n solution
         (advance_of n (part residual n f.old) (pair_at n p q f.old) (part solution n f.old))
         f.old f.new result }
 {
-    match vector::dot(f, residual, q, n) {
-        Product::Finite(alpha) => {
-            more(f, n, alpha, p, solution);
-            true
-        }
-        Product::NotFinite => false,
-    }
+    let alpha = vector::dot(f, residual, q, n).ok_or(refusal::BAD_DOT_PRODUCT)?;
+    more(f, n, alpha, p, solution);
+    Ok(())
 }

@@ -4,7 +4,7 @@ ghost use Rattle.store.specs.Region.{part, Wrote};
 ghost use Rattle.acceleration.specs.Directions.{less_of, orthogonal_to, pass_of};
 ghost use Rattle.acceleration.specs.DirectionsContract.{pair_at, memory_at, AxpyOk, StepOk, Stepped, PassOk};
 
-use vector::Product;
+use refusal::Refusal;
 
 // y -= a * x
 fn lessen(f: &mut [f64], n: usize, a: f64, x: usize, y: usize)
@@ -12,28 +12,29 @@ fn lessen(f: &mut [f64], n: usize, a: f64, x: usize, y: usize)
     ensures { Wrote y n (less_of n a (part x n f.old) (part y n f.old)) f.old
         f.new }
 {
-    let mut row = 0;
-    while row < n {
-        f[y + row] = f[y + row] - a * f[x + row];
-        row += 1;
+    for row in 0..n {
+        f[y + row] -= a * f[x + row];
     }
 }
 
-// The stored pair at p and q out of the new one; false where their product is not finite.
-fn step(f: &mut [f64], n: usize, p: usize, q: usize, direction: usize, image: usize) -> bool
+// The stored pair at p and q out of the new one, refused where their product is not finite.
+fn step(
+    f: &mut [f64],
+    n: usize,
+    p: usize,
+    q: usize,
+    direction: usize,
+    image: usize,
+) -> Result<(), Refusal>
     requires { StepOk (length f.old) n p q direction image }
     ensures { Stepped n direction image
         (orthogonal_to n (pair_at n p q f.old) (pair_at n direction image f.old)) f.old
         f.new result }
 {
-    match vector::dot(f, image, q, n) {
-        Product::Finite(beta) => {
-            lessen(f, n, beta, q, image);
-            lessen(f, n, beta, p, direction);
-            true
-        }
-        Product::NotFinite => false,
-    }
+    let beta = vector::dot(f, image, q, n).ok_or(refusal::BAD_DOT_PRODUCT)?;
+    lessen(f, n, beta, q, image);
+    lessen(f, n, beta, p, direction);
+    Ok(())
 }
 
 // One pass over the stored pairs.
@@ -45,7 +46,7 @@ pub fn pass(
     images: usize,
     direction: usize,
     image: usize,
-) -> bool
+) -> Result<(), Refusal>
     requires { PassOk (length f.old) n used directions images direction image }
     ensures { Stepped n direction image
         (pass_of n (memory_at used n directions images f.old) (pair_at n direction image f.old))
@@ -53,15 +54,10 @@ pub fn pass(
 {
     let mut p = directions;
     let mut q = images;
-    let mut index = 0;
-    while index < used {
-        if step(f, n, p, q, direction, image) {
-            p += n;
-            q += n;
-            index += 1;
-        } else {
-            return false;
-        }
+    for _index in 0..used {
+        step(f, n, p, q, direction, image)?;
+        p += n;
+        q += n;
     }
-    true
+    Ok(())
 }

@@ -6,4 +6,4 @@ pub mod advance;
 pub mod directions;
 pub mod normalize;
 
-pub use acceleration::{Corrected, correct};
+pub use acceleration::correct;

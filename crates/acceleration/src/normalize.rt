@@ -6,18 +6,15 @@ ghost use Rattle.acceleration.specs.DirectionsContract.{pair_at, AxpyOk};
 ghost use Rattle.acceleration.specs.Normal.{over_of, normal_of};
 ghost use Rattle.acceleration.specs.NormalizeContract.{NormalOk, Normal};
 
-use refusal::Verdict;
-use vector::Product;
+use refusal::Refusal;
 
 // y = x / a
 fn over(f: &mut [f64], n: usize, a: f64, x: usize, y: usize)
     requires { AxpyOk (length f.old) n x y }
     ensures { Wrote y n (over_of n a (part x n f.old)) f.old f.new }
 {
-    let mut row = 0;
-    while row < n {
+    for row in 0..n {
         f[y + row] = f[x + row] / a;
-        row += 1;
     }
 }
 
@@ -29,36 +26,28 @@ pub fn normalize(
     q: usize,
     direction: usize,
     image: usize,
-) -> Verdict
+) -> Result<(), Refusal>
     requires { NormalOk (length f.old) n p q direction image }
     ensures { Normal n p q (normal_of n (pair_at n direction image f.old)) f.old f.new result }
 {
-    match vector::norm_l2(f, image, n) {
-        Product::Finite(norm) => {
-            if norm != 0.0 {
-                over(f, n, norm, direction, p);
-                over(f, n, norm, image, q);
-                if both_finite(f, n, p, q) {
-                    Verdict::Passed
-                } else {
-                    Verdict::Refused(refusal::BAD_DIRECTION)
-                }
-            } else {
-                Verdict::Refused(refusal::ZERO_IMAGE)
-            }
-        }
-        Product::NotFinite => Verdict::Refused(refusal::BAD_DOT_PRODUCT),
+    let norm = vector::norm_l2(f, image, n).ok_or(refusal::BAD_DOT_PRODUCT)?;
+    if norm == 0.0 {
+        return Err(refusal::ZERO_IMAGE);
+    }
+    over(f, n, norm, direction, p);
+    over(f, n, norm, image, q);
+    if both_finite(f, n, p, q) {
+        Ok(())
+    } else {
+        Err(refusal::BAD_DIRECTION)
     }
 }
 
+// Whether both regions of n elements are finite.
 fn both_finite(f: &[f64], n: usize, p: usize, q: usize) -> bool
     requires n_in_bounds { p + n ≤ length f.now }
     requires n_in_bounds_2 { q + n ≤ length f.now }
     ensures { result ≡ all_finite n (part p n f.now) && all_finite n (part q n f.now) }
 {
-    if vector::all_finite(f, n, p) {
-        vector::all_finite(f, n, q)
-    } else {
-        false
-    }
+    vector::all_finite(f, n, p) && vector::all_finite(f, n, q)
 }

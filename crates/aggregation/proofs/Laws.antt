@@ -4,7 +4,7 @@ use mathlib.Core.Path.{◌≡◌, refl, sym, ap, ap₂, subst, ◌∙◌}
 use mathlib.Core.Bool.{Bool, true, false}
 use mathlib.Core.List.{List}
 use mathlib.Core.Logic.{⊎_elim}
-use Prim.Native.Nat.{ℕ, suc, ◌+◌, ◌-◌, ◌≤◌, ◌<◌}
+use Prim.Native.Nat.{ℕ, suc, ◌+◌, ◌≤◌, ◌<◌}
 use native.Mathlib.Omega.{arith}
 use lib.Dec.{leb}
 use borrow.Author.Tests.{eq-eqb, ne_eqb, le-leb, lt-leb}
@@ -25,14 +25,6 @@ use Rattle.aggregation.specs.Layout.{offsets_at, columns_at, map_at, sizes_at, w
 use Rattle.aggregation.proofs.Sizes.{size_most, sizes_free, sizes_joined}
 use Rattle.aggregation.proofs.Steps.{free_either, row_in, assigned, paired, joined, alone, placed_is, Sane, strongest_sane}
 use Rattle.aggregation.proofs.Numbers.{Along, along_on, along_start}
-
--- `strength` where it takes the absolute value.
-pub strength_absolute : {absolute : Bool} {r : Float} (x : Float) → absolute ≡ true → r ≡ abs_of x → r ≡ strength_of absolute x
-strength_absolute x e t = rw e t
-
--- `row_at` downward.
-pub row_down : {forward : Bool} (n index : ℕ) → forward ≡ false → n - 1 - index ≡ row_of forward n index
-row_down n index e = rw e
 
 -- ---- whether an aggregate is full
 

@@ -9,7 +9,8 @@ ghost use Rattle.aggregation.specs.Layout.{map_at, weighted_at, GraphOk, ChoiceO
 
 // Where a matrix stands in the stores: row offsets (rows + 1 words), columns (`entries` words) and the map to be written
 // (`rows` words, above both, and as many behind it for the sizes of the aggregates); the weights (`entries` floats), or, where
-// `absolute` is set, the matrix's values. An aggregate of `cap` rows is full; a cap of 0 is none.
+// `absolute` is set, the matrix's values. An aggregate of `cap` rows is full; a cap of 0 is none, and no Option: `Weighted` of
+// specs/Pairs.antt and the options of the C interface have it so.
 #[derive(Clone, Copy)]
 pub struct Graph {
     pub rows: usize,
@@ -22,7 +23,8 @@ pub struct Graph {
     pub cap: u64,
 }
 
-// A row's strongest free neighbour and the aggregate of its strongest assigned one; the number of rows stands for none.
+// A row's strongest free neighbour and the aggregate of its strongest assigned one. The number of rows stands for none, and no
+// Option: `choice` and `assign_of` of specs/Pairs.antt have it so, as the words of the map do.
 #[derive(Clone, Copy)]
 struct Choice {
     free: u32,
@@ -72,9 +74,8 @@ fn consider(
         if weight > s.freeweight {
             return Choice {
                 free: column,
-                adjacent: s.adjacent,
                 freeweight: weight,
-                adjacentweight: s.adjacentweight,
+                ..s
             };
         }
         return s;
@@ -84,10 +85,9 @@ fn consider(
     }
     if weight > s.adjacentweight {
         return Choice {
-            free: s.free,
             adjacent: cluster,
-            freeweight: s.freeweight,
             adjacentweight: weight,
+            ..s
         };
     }
     s
@@ -106,15 +106,14 @@ fn strongest(w: &[u32], f: &[f64], g: Graph, row: usize) -> Choice
         freeweight: 0.0,
         adjacentweight: 0.0,
     };
-    let mut entry = store::wide(w[g.offsets + row]);
+    let start = store::wide(w[g.offsets + row]);
     let end = store::wide(w[g.offsets + row + 1]);
-    while entry < end {
+    for entry in start..end {
         let column = store::index_at(w, g.columns, entry, g.rows);
         let weight = strength(f[g.weights + entry], g.absolute);
         let cluster = w[g.map + column];
         let full = is_full(w, g, cluster);
         s = consider(none, own, column as u32, weight, cluster, full, s);
-        entry += 1;
     }
     s
 }
@@ -168,8 +167,8 @@ fn free_all(w: &mut [u32], g: Graph)
     requires rows_bound { g.rows ≤ 65536 }
     ensures { Mapped g (filled g.rows g.rows) w.old w.new }
 {
-    store::fill_words(w, g.map, g.rows, g.rows as u32);
-    store::fill_words(w, g.map + g.rows, g.rows, 0);
+    store::fill(w, g.map, g.rows, g.rows as u32);
+    store::fill(w, g.map + g.rows, g.rows, 0);
 }
 
 // Writes the aggregate of each row to the map, and returns their count.
@@ -180,11 +179,9 @@ pub fn pairs(w: &mut [u32], f: &[f64], g: Graph, forward: bool) -> usize
     let n = g.rows;
     free_all(w, g);
     let mut count = 0;
-    let mut index = 0;
-    while index < n {
+    for index in 0..n {
         let row = row_at(forward, n, index);
         count = pair_row(w, f, g, row, count);
-        index += 1;
     }
     count
 }

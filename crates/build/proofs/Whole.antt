@@ -1,5 +1,6 @@
 -- The whole build: what its steps require of one another, and each way out.
 -- Assumes nothing.
+use Rattle.std.specs.Prelude.{Result, Ok, Err}
 use mathlib.Core.Path.{◌≡◌, refl, sym, ap, ◌∙◌, subst}
 use mathlib.Core.Bool.{Bool, true, false, cond}
 use mathlib.Core.List.{List, []}
@@ -18,7 +19,6 @@ use Rattle.options.specs.declared.options.MultigridOptions.{MultigridOptions}
 use Rattle.options.specs.declared.options.Handle.{Handle}
 use Rattle.refusal.specs.declared.Refusal.{Refusal}
 use Rattle.refusal.specs.Refusal.{not_symmetric}
-use Rattle.refusal.specs.declared.Verdict.{Verdict}
 use Rattle.refusal.specs.Outcome.{Outcome, accepted, refused, ask, ◌>>=◌}
 use Rattle.refusal.proofs.Outcome.{accepted_one}
 use Rattle.coefficients.specs.Mirrors.{mirrors_agree}
@@ -38,7 +38,6 @@ use Rattle.build_level.specs.declared.laying.Frontier.{Frontier}
 use Rattle.build_level.specs.LayingContract.{frontier_at}
 use Rattle.build_level.specs.declared.coarsest.Growth.{Growth}
 use Rattle.build_level.specs.CoarsestContract.{Levels}
-use Rattle.solver.specs.declared.answers.Built.{Built}
 use Rattle.build_levels.specs.GrowingContract.{grow_at, Grown}
 use Rattle.build.specs.Built.{lent_of, built_of, BuildDone}
 use Rattle.build.specs.AskingContract.{lending, asked_of, Asked, Fitting, Spaced}
@@ -57,18 +56,19 @@ record Answered (z : List ℕ) (out : Outcome (List Level)) (k end : ℕ) : Type
   count : k ≡ length ls
   ends : end ≡ image_end (length ls) z 0 0
 
-answered : {w z : List ℕ} {F H : List Float} {t : Workspace} {g : Growth} {k end : ℕ} (out : Outcome (List Level))
+answered : {w z : List ℕ} {F H : List Float} {t : Workspace} {g : Result Growth Refusal} {m : Growth} (out : Outcome (List Level))
     → Levels w z F H t 0 0 0 out g
-    → g ≡ Growth.Made k end → Answered z out k end
-answered {w} {z} {F} {H} {t} {g} {k} {end} (accepted ls) l e =
-    let m = l.made ls refl in
-    let count : k ≡ 0 + length ls = cc in
-    record { ls = ls; is = refl; count = omega arith; ends = cc }
+    → g ≡ Ok m → Answered z out m.levels m.end
+answered {w} {z} {F} {H} {t} {g} {m} (accepted ls) l e =
+    let told = l.made ls refl in
+    let same : m ≡ record { levels = 0 + length ls; end = image_end (length ls) z 0 0 } = cc in
+    let count : m.levels ≡ 0 + length ls = ap (λ (x : Growth). x.levels) same in
+    record { ls = ls; is = refl; count = omega arith; ends = ap (λ (x : Growth). x.end) same }
 answered (refused q) l e = let m = l.refusal q refl in absurd (let none : ◌≡◌ {A = ℕ} 0 1 = cc in omega arith)
 
-not_answered : {w z : List ℕ} {F H : List Float} {t : Workspace} {g : Growth} {q : Refusal} (out : Outcome (List Level))
+not_answered : {w z : List ℕ} {F H : List Float} {t : Workspace} {g : Result Growth Refusal} {q : Refusal} (out : Outcome (List Level))
     → Levels w z F H t 0 0 0 out g
-    → g ≡ Growth.Refused q → out ≡ refused q
+    → g ≡ Err q → out ≡ refused q
 not_answered (accepted ls) l e = let m = l.made ls refl in absurd (let none : ◌≡◌ {A = ℕ} 0 1 = cc in omega arith)
 not_answered (refused q) l e = let m = l.refusal q refl in cc
 
@@ -79,12 +79,18 @@ one_way e f = let none : ◌≡◌ {A = ℕ} 0 1 = cc in omega arith
 refused_one : {A : Type 0} {o : Outcome A} {p q : Refusal} → o ≡ refused p → o ≡ refused q → p ≡ q
 refused_one e f = cc
 
-module _ {w z : List ℕ} {F H : List Float} {o : MultigridOptions} {given : Bool} {t : Workspace} {s : Frontier} {g : Growth}
+module _ {w z : List ℕ} {F H : List Float} {o : MultigridOptions} {given : Bool} {t : Workspace} {s : Frontier} {g : Result Growth Refusal}
     (ok : LevelsOk w (length F) o t) (start : s ≡ finest_of o t) (grown : Grown w z F H o given t s g) where
   levels : Levels w z F H t 0 0 0 (grow_at o given w F t (finest_of o t)) g
   levels = (rw start at grown).levels
 
-  module _ {k end : ℕ} (made : g ≡ Growth.Made k end) where
+  module _ {grew : Growth} (made : g ≡ Ok grew) where
+    abbrev k : ℕ
+    k = grew.levels
+
+    abbrev end : ℕ
+    end = grew.end
+
     told : Answered z (grow_at o given w F t (finest_of o t)) k end
     told = answered (grow_at o given w F t (finest_of o t)) levels made
 
@@ -111,7 +117,7 @@ module _ {w z : List ℕ} {F H : List Float} {o : MultigridOptions} {given : Boo
         refl many ok.frontier.room.work.few ok.frontier.room.work.less told.ends room
 
     pub grown_made : {G : List Float} → Summed z H G o end t.rows
-        → LevelsDone w z F G o given t (Built.Made (record { options = o; levels = k; rows = t.rows; entries = t.entries }))
+        → LevelsDone w z F G o given t (Ok (record { options = o; levels = k; rows = t.rows; entries = t.entries }))
     grown_made {G} sums =
         let same : (ls : List Level) → grow_at o given w F t (finest_of o t) ≡ accepted ls → told.ls ≡ ls =
         λ ls e. accepted_one (sym told.is ∙ e) in
@@ -120,8 +126,8 @@ module _ {w z : List ℕ} {F H : List Float} {o : MultigridOptions} {given : Boo
         told.ends room sums in
         record {
           made = λ ls e. subst
-              (λ (l : List Level). Built.Made (record { options = o; levels = k; rows = t.rows; entries = t.entries }) ≡ levels_made o t l)
-              (same ls e) (ap (λ (n : ℕ). Built.Made (record { options = o; levels = n; rows = t.rows; entries = t.entries })) told.count);
+              (λ (l : List Level). Ok (record { options = o; levels = k; rows = t.rows; entries = t.entries }) ≡ levels_made o t l)
+              (same ls e) (ap (λ (n : ℕ). Ok (record { options = o; levels = n; rows = t.rows; entries = t.entries })) told.count);
           refusal = λ q e. absurd (one_way told.is e);
           view = λ ls e. subst (λ (l : List Level). view_of (length l) z G 0 ≡ with_sums o l) (same ls e) view;
           fits = λ ls e. levels.fits ls e;
@@ -130,12 +136,12 @@ module _ {w z : List ℕ} {F H : List Float} {o : MultigridOptions} {given : Boo
           floatsize = sums.wrote.size ∙ levels.floats.size;
         }
 
-  pub grown_refused : {q : Refusal} → g ≡ Growth.Refused q → LevelsDone w z F H o given t (Built.Refused q)
+  pub grown_refused : {q : Refusal} → g ≡ Err q → LevelsDone w z F H o given t (Err q)
   grown_refused {q} e =
       let none_is : grow_at o given w F t (finest_of o t) ≡ refused q = not_answered (grow_at o given w F t (finest_of o t)) levels e in
       record {
         made = λ ls a. absurd (one_way a none_is);
-        refusal = λ p a. ap Built.Refused (refused_one none_is a);
+        refusal = λ p a. ap Err (refused_one none_is a);
         view = λ ls a. absurd (one_way a none_is);
         fits = λ ls a. absurd (one_way a none_is);
         heads = λ ls a. absurd (one_way a none_is);
@@ -169,7 +175,7 @@ ask_yes a q rest e = rw e
 
 -- An attempt that refuses.
 refusing : {w z : List ℕ} {F G : List Float} {x : Input} {q : Refusal} (out : Outcome Hierarchy) → out ≡ refused q → length z ≡ length w
-    → length G ≡ length F → Tried w z F G out x (Built.Refused q)
+    → length G ≡ length F → Tried w z F G out x (Err q)
 refusing {w} {z} {F} {G} {x} {q} out e m n = record {
   answer = sym (ap (built_of x) e);
   view = λ h a. absurd (one_way a e);
@@ -299,7 +305,7 @@ module _ {words floats : ℕ} {x : Input} {t : Workspace} (fit : Fitting words f
           (and_level (pattern_in x) (fixed_charge x.options x.rows (length x.columns))) (mesh_in x)
       grow_is = grow_same x.options x.given (x.options.max_levels - 1) stores_is used_is mesh_is
 
-      pub begun_asymmetric : r ≡ false → Begun w y F G x (Built.Refused not_symmetric)
+      pub begun_asymmetric : r ≡ false → Begun w y F G x (Err not_symmetric)
       unfolding rest_of
       begun_asymmetric fails =
           refusing (rest_of (charge (length w) (length F)) x)
@@ -313,7 +319,7 @@ module _ {words floats : ℕ} {x : Input} {t : Workspace} (fit : Fitting words f
           ask_yes (symmetric_of (pattern_in x) x.values) not_symmetric _ (sym answer_is ∙ holds)
           ∙ ap (λ (out : Outcome (List Level)). ◌>>=◌ out (λ ls. accepted (with_sums x.options ls))) (sym grow_is)
 
-      pub begun_levels : r ≡ true → {v : List ℕ} {H : List Float} {b : Built} → LevelsDone y v G H x.options x.given t b
+      pub begun_levels : r ≡ true → {v : List ℕ} {H : List Float} {b : Result Handle Refusal} → LevelsDone y v G H x.options x.given t b
           → Begun w v F H x b
       begun_levels holds {v} {H} {b} done =
           go (grow_at x.options x.given y G t (finest_of x.options t)) refl (rest_is holds)
@@ -342,7 +348,7 @@ module _ {words floats : ℕ} {x : Input} {t : Workspace} (fit : Fitting words f
 -- ---- the whole
 
 -- An attempt that makes no levels.
-emptied : {w : List ℕ} {F : List Float} {x : Input} {out : Outcome Hierarchy} {r : Built} → r ≡ empty_made x.options x.rows (length x.columns)
+emptied : {w : List ℕ} {F : List Float} {x : Input} {out : Outcome Hierarchy} {r : Result Handle Refusal} → r ≡ empty_made x.options x.rows (length x.columns)
     → out ≡ accepted empty_hierarchy → Tried w w F F out x r
 unfolding words_fit heads_at heads_of
 emptied {w} {F} {x} e is = record {
@@ -354,37 +360,37 @@ emptied {w} {F} {x} e is = record {
   floatsize = refl;
 }
 
-module _ (w : List ℕ) (F : List Float) {x : Input} {records : ℕ} {v : Verdict} (asked : Asked (lending (length w) (length F) records) x v) where
+module _ (w : List ℕ) (F : List Float) {x : Input} {records : ℕ} {v : Result Unit Refusal} (asked : Asked (lending (length w) (length F) records) x v) where
   -- What follows the questions.
-  after_is : v ≡ Verdict.Passed → build_of (lent_of w F records) x ≡ after_room (charge (length w) (length F)) x
+  after_is : v ≡ Ok tt → build_of (lent_of w F records) x ≡ after_room (charge (length w) (length F)) x
   after_is p =
       let l = lent_of w F records in
       build_asked l x ∙ passed_then (asked_of l x) (after_room (charge (length w) (length F)) x) (sym asked.answer ∙ p)
 
-  pub attempt_on : {z : List ℕ} {G : List Float} {r : Built} → v ≡ Verdict.Passed → (x.rows ≡ 0 → ⊥) → Begun w z F G x r → Attempted w z F G x records r
+  pub attempt_on : {z : List ℕ} {G : List Float} {r : Result Handle Refusal} → v ≡ Ok tt → (x.rows ≡ 0 → ⊥) → Begun w z F G x r → Attempted w z F G x records r
   attempt_on {z} {G} {r} p some begun =
       let out = rest_of (charge (length w) (length F)) x in
       let rest : after_room (charge (length w) (length F)) x ≡ out = rw (ne_eqb x.rows 0 some) in
       subst (λ (out : Outcome Hierarchy). Tried w z F G out x r) (sym (after_is p ∙ rest)) begun
 
   -- Of no rows: the stores stay as they were, and hold no levels.
-  pub attempt_empty : {r : Built} → v ≡ Verdict.Passed → x.rows ≡ 0 → r ≡ empty_made x.options x.rows (length x.columns)
+  pub attempt_empty : {r : Result Handle Refusal} → v ≡ Ok tt → x.rows ≡ 0 → r ≡ empty_made x.options x.rows (length x.columns)
       → Attempted w w F F x records r
   attempt_empty {r} p none e =
       let rest : after_room (charge (length w) (length F)) x ≡ accepted empty_hierarchy = rw (eq-eqb x.rows 0 none) in
       emptied e (after_is p ∙ rest)
 
-  pub attempt_no : {q : Refusal} → v ≡ Verdict.Refused q → Attempted w w F F x records (Built.Refused q)
+  pub attempt_no : {q : Refusal} → v ≡ Err q → Attempted w w F F x records (Err q)
   attempt_no {q} p =
       let l = lent_of w F records in
       refusing (build_of l x)
       (build_asked l x ∙ refused_then (asked_of l x) (after_room (charge (length w) (length F)) x) q (sym asked.answer ∙ p)) refl refl
 
-not_both : {h : Handle} {q : Refusal} → Built.Made h ≡ Built.Refused q → ⊥
+not_both : {h : Handle} {q : Refusal} → Ok h ≡ Err q → ⊥
 not_both e = let none : ◌≡◌ {A = ℕ} 0 1 = cc in omega arith
 
-module _ (records : ℕ) {w z : List ℕ} {F G : List Float} {x : Input} {r : Built} (t : Attempted w z F G x records r) where
-  pub done_made : {h : Handle} → r ≡ Built.Made h → BuildDone w z F G x records (Built.Made h)
+module _ (records : ℕ) {w z : List ℕ} {F G : List Float} {x : Input} {r : Result Handle Refusal} (t : Attempted w z F G x records r) where
+  pub done_made : {h : Handle} → r ≡ Ok h → BuildDone w z F G x records (Ok h)
   done_made e = record {
     answer = sym e ∙ t.answer;
     view = t.view;
@@ -396,8 +402,8 @@ module _ (records : ℕ) {w z : List ℕ} {F G : List Float} {x : Input} {r : Bu
     floatsize = t.floatsize;
   }
 
-  pub done_refused : {q : Refusal} {u : List ℕ} {H : List Float} → r ≡ Built.Refused q → Cleared z u G H
-      → BuildDone w u F H x records (Built.Refused q)
+  pub done_refused : {q : Refusal} {u : List ℕ} {H : List Float} → r ≡ Err q → Cleared z u G H
+      → BuildDone w u F H x records (Err q)
   done_refused {q} {u} {H} e c = record {
     answer = sym e ∙ t.answer;
     view = λ h k. absurd (not_both (sym (ap (built_of x) k) ∙ sym t.answer ∙ e));

@@ -2,8 +2,13 @@
 use Rattle.std.specs.Prelude.{Bool, List, ℕ, Float}
 use Rattle.options.specs.declared.options.MultigridOptions.{MultigridOptions}
 use Rattle.hierarchy.specs.Build.{Input}
+use Rattle.build.specs.declared.Source.{Source}
 
 -- the arguments of a build
 abbrev pub input_of : ℕ → List ℕ → List ℕ → List Float → Bool → List Float → MultigridOptions → Input
 input_of rows offsets columns values given weights o =
     record { rows = rows; offsets = offsets; columns = columns; values = values; given = given; weights = weights; options = o }
+
+-- the same, as the code hands them on
+abbrev pub input_in : Source → Input
+input_in x = input_of x.rows x.offsets.now x.columns.now x.values.now x.given x.weights.now x.options

@@ -1,8 +1,8 @@
 -- Questions 1 to 9 of a build and the temporaries: what the functions require and ensure. Definitions only.
-use Rattle.std.specs.Prelude.{◌≡◌, Bool, true, cond, ◌&&◌, ◌||◌, List, ℕ, ◌+◌, ◌*◌, ◌≤◌, eqb, leb, length, Float}
+use Rattle.refusal.specs.declared.Refusal.{Refusal}
+use Rattle.std.specs.Prelude.{◌≡◌, Bool, true, cond, ◌&&◌, ◌||◌, List, ℕ, ◌+◌, ◌*◌, ◌≤◌, eqb, leb, length, Float, Result}
 use Rattle.options.specs.declared.options.MultigridOptions.{MultigridOptions}
 use Rattle.refusal.specs.Refusal.{store_too_small}
-use Rattle.refusal.specs.declared.Verdict.{Verdict}
 use Rattle.options.specs.Options.{controls_asked}
 use Rattle.refusal.specs.Outcome.{Outcome, passed, ask, verdict_of, ◌>>=◌, ◌>>◌}
 use Rattle.pattern.specs.Pattern.{Valid, Rising}
@@ -44,11 +44,11 @@ abbrev pub lending : ℕ → ℕ → ℕ → Lent
 lending words floats records = record { stores = charge words floats; records = records }
 
 -- the answer of questions 4 to 7
-pub record WeightsAsked (entries : ℕ) (given : Bool) (weights : List Float) (o : MultigridOptions) (r : Verdict) : Type 0 where
+pub record WeightsAsked (entries : ℕ) (given : Bool) (weights : List Float) (o : MultigridOptions) (r : Result Unit Refusal) : Type 0 where
   pub answer : r ≡ verdict_of (weighed_asked entries given weights o)
 
 -- the answer of questions 1 to 7
-pub record ArraysAsked (x : Input) (r : Verdict) : Type 0 where
+pub record ArraysAsked (x : Input) (r : Result Unit Refusal) : Type 0 where
   pub answer : r ≡ verdict_of (arrays_asked x)
 
 -- What the controls are where questions 6 passed.
@@ -67,11 +67,11 @@ pub record ChargeOk (rows entries : ℕ) (o : MultigridOptions) : Type 0 where
   pub controls : ControlsFit o
 
 -- the answer of question 9
-pub record RoomAsked (rows entries : ℕ) (o : MultigridOptions) (l : Lent) (r : Verdict) : Type 0 where
+pub record RoomAsked (rows entries : ℕ) (o : MultigridOptions) (l : Lent) (r : Result Unit Refusal) : Type 0 where
   pub answer : r ≡ verdict_of (room_asked o l rows entries)
 
 -- the answer of questions 1 to 9
-pub record Asked (l : Lent) (x : Input) (r : Verdict) : Type 0 where
+pub record Asked (l : Lent) (x : Input) (r : Result Unit Refusal) : Type 0 where
   pub answer : r ≡ verdict_of (asked_of l x)
 
 -- What the arrays are where questions 1 to 7 passed.

@@ -1,5 +1,5 @@
 -- The whole build in lent stores: what it ensures. Definitions only.
-use Rattle.std.specs.Prelude.{◌≡◌, true, List, ℕ, length, Float}
+use Rattle.std.specs.Prelude.{◌≡◌, true, List, ℕ, length, Float, Result, Ok, Err}
 use Rattle.float.specs.Float.{zero64}
 use Rattle.store.specs.Vector.{filled}
 use Rattle.options.specs.declared.options.Handle.{Handle}
@@ -9,16 +9,15 @@ use Rattle.hierarchy.specs.Level.{Hierarchy}
 use Rattle.hierarchy.specs.Build.{charge, Lent, Input, build_of}
 use Rattle.layout.specs.Layout.{view_of, words_fit}
 use Rattle.layout.specs.Headers.{heads_at, heads_of}
-use Rattle.solver.specs.declared.answers.Built.{Built}
 
 -- the handle of a hierarchy
 abbrev pub handle_of : Input → Hierarchy → Handle
 handle_of x h = record { options = x.options; levels = length h.levels; rows = x.rows; entries = length x.columns }
 
 -- the answer to a build
-abbrev pub built_of : Input → Outcome Hierarchy → Built
-built_of x (accepted h) = Built.Made (handle_of x h)
-built_of x (refused q) = Built.Refused q
+abbrev pub built_of : Input → Outcome Hierarchy → Result Handle Refusal
+built_of x (accepted h) = Ok (handle_of x h)
+built_of x (refused q) = Err q
 
 -- stores of those lengths, and so many records of statistics
 abbrev pub lent_of : List ℕ → List Float → ℕ → Lent
@@ -26,7 +25,7 @@ lent_of w F records = record { stores = charge (length w) (length F); records = 
 
 -- What a build ensures, whatever the stores held: the definition's answer; accepted, the stores hold its hierarchy, each level
 -- with its header; refused, every word of them is zero.
-pub record BuildDone (w z : List ℕ) (F G : List Float) (x : Input) (records : ℕ) (r : Built) : Type 0 where
+pub record BuildDone (w z : List ℕ) (F G : List Float) (x : Input) (records : ℕ) (r : Result Handle Refusal) : Type 0 where
   pub answer : r ≡ built_of x (build_of (lent_of w F records) x)
   pub view : (h : Hierarchy) → build_of (lent_of w F records) x ≡ accepted h → view_of (length h.levels) z G 0 ≡ h
   pub fits : (h : Hierarchy) → build_of (lent_of w F records) x ≡ accepted h → words_fit (length h.levels) z 0 ≡ true

@@ -1,5 +1,6 @@
 -- The steps of the whole build: what the functions require and ensure. Definitions only.
-use Rattle.std.specs.Prelude.{◌≡◌, Bool, true, cond, List, ℕ, ◌-◌, eqb, length, Float}
+use Rattle.options.specs.declared.options.Handle.{Handle}
+use Rattle.std.specs.Prelude.{◌≡◌, Bool, true, cond, List, ℕ, ◌-◌, eqb, length, Float, Result, Ok, Err}
 use Rattle.float.specs.Float.{zero64}
 use Rattle.store.specs.Vector.{filled}
 use Rattle.options.specs.declared.options.MultigridOptions.{MultigridOptions}
@@ -13,7 +14,6 @@ use Rattle.layout.specs.Layout.{view_of, words_fit}
 use Rattle.layout.specs.Headers.{heads_at, heads_of}
 use Rattle.coarsening.specs.declared.coarsen.Workspace.{Workspace}
 use Rattle.build_level.specs.LayingContract.{FrontierOk}
-use Rattle.solver.specs.declared.answers.Built.{Built}
 use Rattle.build_levels.specs.GrowingContract.{grow_at}
 use Rattle.build.specs.Built.{built_of, lent_of}
 use Rattle.build.specs.AskingContract.{ControlsFit}
@@ -33,8 +33,8 @@ abbrev pub after_room : Charge → Input → Outcome Hierarchy
 after_room stores x = cond (eqb x.rows 0) (accepted empty_hierarchy) (rest_of stores x)
 
 -- the answer to a build of no levels
-abbrev pub empty_made : MultigridOptions → ℕ → ℕ → Built
-empty_made o rows entries = Built.Made (record { options = o; levels = 0; rows = rows; entries = entries })
+abbrev pub empty_made : MultigridOptions → ℕ → ℕ → Result Handle Refusal
+empty_made o rows entries = Ok (record { options = o; levels = 0; rows = rows; entries = entries })
 
 -- What the levels of a loaded matrix require.
 pub record LevelsOk (w : List ℕ) (size : ℕ) (o : MultigridOptions) (t : Workspace) : Type 0 where
@@ -42,13 +42,13 @@ pub record LevelsOk (w : List ℕ) (size : ℕ) (o : MultigridOptions) (t : Work
   pub frontier : FrontierOk w size o t (finest_of o t)
 
 -- the handle of so many levels
-abbrev pub levels_made : MultigridOptions → Workspace → List Level → Built
-levels_made o t ls = Built.Made (record { options = o; levels = length ls; rows = t.rows; entries = t.entries })
+abbrev pub levels_made : MultigridOptions → Workspace → List Level → Result Handle Refusal
+levels_made o t ls = Ok (record { options = o; levels = length ls; rows = t.rows; entries = t.entries })
 
 -- What they ensure: the definition's levels with the row sums, or its refusal.
-pub record LevelsDone (w z : List ℕ) (F G : List Float) (o : MultigridOptions) (given : Bool) (t : Workspace) (r : Built) : Type 0 where
+pub record LevelsDone (w z : List ℕ) (F G : List Float) (o : MultigridOptions) (given : Bool) (t : Workspace) (r : Result Handle Refusal) : Type 0 where
   pub made : (ls : List Level) → grow_at o given w F t (finest_of o t) ≡ accepted ls → r ≡ levels_made o t ls
-  pub refusal : (q : Refusal) → grow_at o given w F t (finest_of o t) ≡ refused q → r ≡ Built.Refused q
+  pub refusal : (q : Refusal) → grow_at o given w F t (finest_of o t) ≡ refused q → r ≡ Err q
   pub view : (ls : List Level) → grow_at o given w F t (finest_of o t) ≡ accepted ls → view_of (length ls) z G 0 ≡ with_sums o ls
   pub fits : (ls : List Level) → grow_at o given w F t (finest_of o t) ≡ accepted ls → words_fit (length ls) z 0 ≡ true
   pub heads : (ls : List Level) → grow_at o given w F t (finest_of o t) ≡ accepted ls → heads_at (length ls) z 0 ≡ heads_of ls
@@ -56,7 +56,7 @@ pub record LevelsDone (w z : List ℕ) (F G : List Float) (o : MultigridOptions)
   pub floatsize : length G ≡ length F
 
 -- What an attempt whose outcome is `out` ensures: its answer, and its hierarchy where it accepts; of a refusal's stores nothing.
-pub record Tried (w z : List ℕ) (F G : List Float) (out : Outcome Hierarchy) (x : Input) (r : Built) : Type 0 where
+pub record Tried (w z : List ℕ) (F G : List Float) (out : Outcome Hierarchy) (x : Input) (r : Result Handle Refusal) : Type 0 where
   pub answer : r ≡ built_of x out
   pub view : (h : Hierarchy) → out ≡ accepted h → view_of (length h.levels) z G 0 ≡ h
   pub fits : (h : Hierarchy) → out ≡ accepted h → words_fit (length h.levels) z 0 ≡ true
@@ -65,11 +65,11 @@ pub record Tried (w z : List ℕ) (F G : List Float) (out : Outcome Hierarchy) (
   pub floatsize : length G ≡ length F
 
 -- of the part from question 10 on
-abbrev pub Begun : List ℕ → List ℕ → List Float → List Float → Input → Built → Type 0
+abbrev pub Begun : List ℕ → List ℕ → List Float → List Float → Input → Result Handle Refusal → Type 0
 Begun w z F G x r = Tried w z F G (rest_of (charge (length w) (length F)) x) x r
 
 -- of the whole build
-abbrev pub Attempted : List ℕ → List ℕ → List Float → List Float → Input → ℕ → Built → Type 0
+abbrev pub Attempted : List ℕ → List ℕ → List Float → List Float → Input → ℕ → Result Handle Refusal → Type 0
 Attempted w z F G x records r = Tried w z F G (build_of (lent_of w F records) x) x r
 
 -- Both stores hold zeros.

@@ -21,7 +21,7 @@ fn faces_of(t: Workspace, faces: usize) -> Faces
     Faces {
         rows: t.rows,
         entries: t.entries,
-        faces: faces,
+        faces,
         offsets: t.offsets,
         columns: t.columns,
         starts: t.starts,
@@ -40,10 +40,7 @@ pub fn symmetric(w: &mut [u32], values: &[f64], t: Workspace) -> bool
     let faces = faces::face_offsets(w, faces_of(t, 0));
     let s = faces_of(t, faces);
     faces::fill_faces(w, s);
-    if mirrors::mirrors(w, s) {
-        return coefficients::mirrors_agree(w, values, faces, t.uppers, t.lowers);
-    }
-    false
+    mirrors::mirrors(w, s) && coefficients::mirrors_agree(w, values, faces, t.uppers, t.lowers)
 }
 
 // The frontier at the finest level.

@@ -3,74 +3,77 @@
 
 ghost use Rattle.std.specs.Prelude.{◌≡◌, length};
 ghost use Rattle.build.specs.Built.{BuildDone};
-ghost use Rattle.build.specs.Asking.{input_of};
+ghost use Rattle.build.specs.Asking.{input_of, input_in};
 ghost use Rattle.build.specs.AskingContract.{Fitting};
 ghost use Rattle.build.specs.Steps.{LevelsOk, LevelsDone, empty_made, Begun, Attempted, Cleared};
 
-use build_level::Growth;
 use coarsening::Workspace;
 use finest::loading;
 use options::{Handle, MultigridOptions};
 use questions::space;
-use refusal::Verdict;
-use solver::Built;
+use refusal::Refusal;
 
 pub mod finest;
 pub mod questions;
 
+// What is built from: a matrix in compressed rows, the weight of each entry where weights are given, and the controls.
+// `given` stands beside `weights`, and is no Option: `build` is called so, and `BuildDone` speaks of both.
+#[derive(Clone, Copy)]
+pub struct Source<'a> {
+    pub rows: usize,
+    pub offsets: &'a [u32],
+    pub columns: &'a [u32],
+    pub values: &'a [f64],
+    pub given: bool,
+    pub weights: &'a [f64],
+    pub options: MultigridOptions,
+}
+
 // The levels of the matrix in the temporaries, and behind them the row sums of the finest.
-fn levels(w: &mut [u32], f: &mut [f64], o: MultigridOptions, given: bool, t: Workspace) -> Built
+fn levels(
+    w: &mut [u32],
+    f: &mut [f64],
+    o: MultigridOptions,
+    given: bool,
+    t: Workspace,
+) -> Result<Handle, Refusal>
     requires { LevelsOk w.old (length f.old) o t }
     ensures { LevelsDone w.old w.new f.old f.new o given t result }
 {
-    match build_levels::grow(w, f, o, given, t, finest::frontier(o, t)) {
-        Growth::Made { levels, end } => {
-            finest::sums(w, f, o, end, t.rows, t.entries);
-            Built::Made(Handle {
-                options: o,
-                levels: levels,
-                rows: t.rows as u64,
-                entries: t.entries as u64,
-            })
-        }
-        Growth::Refused(q) => Built::Refused(q),
-    }
+    let grown = build_levels::grow(w, f, o, given, t, finest::frontier(o, t))?;
+    finest::sums(w, f, o, grown.end, t.rows, t.entries);
+    Ok(Handle {
+        options: o,
+        levels: grown.levels,
+        rows: t.rows as u64,
+        entries: t.entries as u64,
+    })
 }
 
 // From question 10 on: the matrix is loaded into the temporaries, and the levels are grown from there.
-fn begin(
-    rows: usize,
-    offsets: &[u32],
-    columns: &[u32],
-    values: &[f64],
-    given: bool,
-    weights: &[f64],
-    o: MultigridOptions,
-    w: &mut [u32],
-    f: &mut [f64],
-) -> Built
-    requires { Fitting (length w.old) (length f.old) (input_of rows offsets.now columns.now values.now given weights.now o) }
-    ensures { Begun w.old w.new f.old f.new (input_of rows offsets.now columns.now values.now given weights.now o) result }
+fn begin(x: Source, w: &mut [u32], f: &mut [f64]) -> Result<Handle, Refusal>
+    requires { Fitting (length w.old) (length f.old) (input_in x) }
+    ensures { Begun w.old w.new f.old f.new (input_in x.entry) result }
 {
     let t = space::workspace_at(
         w.len(),
         f.len(),
-        rows,
-        columns.len(),
-        o.krylov_dimension as usize,
+        x.rows,
+        x.columns.len(),
+        x.options.krylov_dimension as usize,
     );
-    loading::load(w, f, offsets, columns, values, given, weights, t);
-    if finest::symmetric(w, values, t) {
-        return levels(w, f, o, given, t);
+    loading::load(w, f, x, t);
+    if !finest::symmetric(w, x.values, t) {
+        return Err(refusal::NOT_SYMMETRIC);
     }
-    Built::Refused(refusal::NOT_SYMMETRIC)
+    levels(w, f, x.options, x.given, t)
 }
 
 // The handle of a matrix of no rows, which has no levels.
-fn empty(rows: usize, entries: usize, o: MultigridOptions) -> Built
+fn empty(rows: usize, entries: usize, o: MultigridOptions) -> Result<Handle, Refusal>
     ensures { result ≡ empty_made o rows entries }
 {
-    Built::Made(Handle {
+    Ok(Handle {
         options: o,
         levels: 0,
         rows: rows as u64,
@@ -79,40 +82,14 @@ fn empty(rows: usize, entries: usize, o: MultigridOptions) -> Built
 }
 
 // The whole build; where it refuses nothing is said of what the stores hold.
-fn attempt(
-    rows: usize,
-    offsets: &[u32],
-    columns: &[u32],
-    values: &[f64],
-    given: bool,
-    weights: &[f64],
-    o: MultigridOptions,
-    records: usize,
-    w: &mut [u32],
-    f: &mut [f64],
-) -> Built
-    ensures { Attempted w.old w.new f.old f.new (input_of rows offsets.now columns.now values.now given weights.now o) records result }
+fn attempt(x: Source, records: usize, w: &mut [u32], f: &mut [f64]) -> Result<Handle, Refusal>
+    ensures { Attempted w.old w.new f.old f.new (input_in x.entry) records result }
 {
-    match questions::asked(
-        rows,
-        offsets,
-        columns,
-        values,
-        given,
-        weights,
-        o,
-        records,
-        w.len(),
-        f.len(),
-    ) {
-        Verdict::Passed => {
-            if rows == 0 {
-                return empty(rows, columns.len(), o);
-            }
-            begin(rows, offsets, columns, values, given, weights, o, w, f)
-        }
-        Verdict::Refused(q) => Built::Refused(q),
+    questions::asked(x, records, w.len(), f.len())?;
+    if x.rows == 0 {
+        return empty(x.rows, x.columns.len(), x.options);
     }
+    begin(x, w, f)
 }
 
 // Both stores zero.
@@ -136,16 +113,24 @@ pub fn build(
     records: usize,
     w: &mut [u32],
     f: &mut [f64],
-) -> Built
+) -> Result<Handle, Refusal>
     ensures { BuildDone w.old w.new f.old f.new (input_of rows offsets.now columns.now values.now given weights.now o) records result }
 {
-    match attempt(
-        rows, offsets, columns, values, given, weights, o, records, w, f,
-    ) {
-        Built::Made(h) => Built::Made(h),
-        Built::Refused(q) => {
+    let x = Source {
+        rows,
+        offsets,
+        columns,
+        values,
+        given,
+        weights,
+        options: o,
+    };
+    // A match, no `?`: a refusal clears the stores before it is passed on.
+    match attempt(x, records, w, f) {
+        Ok(h) => Ok(h),
+        Err(q) => {
             clear(w, f);
-            Built::Refused(q)
+            Err(q)
         }
     }
 }

@@ -1,42 +1,30 @@
 // Questions 1 to 9 of a build, in order, of the arrays and the stores' sizes.
-ghost use Rattle.build.specs.Asking.{input_of};
+ghost use Rattle.std.specs.Prelude.{length};
+ghost use Rattle.build.specs.Asking.{input_in};
 ghost use Rattle.build.specs.AskingContract.{lending, WeightsAsked, ArraysAsked, ChargeOk, RoomAsked, Asked};
 
+use crate::Source;
 use options::MultigridOptions;
-use refusal::Verdict;
+use refusal::Refusal;
 
 pub mod space;
 
 // Questions 4 to 7, once the matrix has passed.
-fn weights_asked(entries: usize, given: bool, weights: &[f64], o: MultigridOptions) -> Verdict
-    ensures { WeightsAsked entries given weights.now o result }
+fn weights_asked(x: Source) -> Result<(), Refusal>
+    ensures { WeightsAsked (length x.entry.columns.now) x.entry.given x.entry.weights.now x.entry.options result }
 {
-    if given {
-        match csr::check_weights(weights, entries) {
-            Verdict::Passed => options::check_controls(o),
-            Verdict::Refused(q) => Verdict::Refused(q),
-        }
-    } else {
-        options::check_controls(o)
+    if x.given {
+        csr::check_weights(x.weights, x.columns.len())?;
     }
+    options::check_controls(x.options)
 }
 
 // Questions 1 to 7.
-fn arrays_asked(
-    rows: usize,
-    offsets: &[u32],
-    columns: &[u32],
-    values: &[f64],
-    given: bool,
-    weights: &[f64],
-    o: MultigridOptions,
-) -> Verdict
-    ensures { ArraysAsked (input_of rows offsets.now columns.now values.now given weights.now o) result }
+fn arrays_asked(x: Source) -> Result<(), Refusal>
+    ensures { ArraysAsked (input_in x.entry) result }
 {
-    match csr::check_matrix(rows, offsets, columns, values) {
-        Verdict::Passed => weights_asked(columns.len(), given, weights, o),
-        Verdict::Refused(q) => Verdict::Refused(q),
-    }
+    csr::check_matrix(x.rows, x.offsets, x.columns, x.values)?;
+    weights_asked(x)
 }
 
 // Question 9, of a matrix of so many rows and entries: where there is no row there is no level, and none is charged.
@@ -47,7 +35,7 @@ fn room_asked(
     records: usize,
     words: usize,
     floats: usize,
-) -> Verdict
+) -> Result<(), Refusal>
     requires { ChargeOk rows entries o }
     ensures { RoomAsked rows entries o (lending words floats records) result }
 {
@@ -55,35 +43,20 @@ fn room_asked(
     let vectors = space::vectors(rows, o.krylov_dimension as usize);
     let factor = space::square(o.coarsest_cells as usize);
     let numbers = vectors + 8 * entries + factor;
-    if (fixed <= words) & (numbers <= floats) & (o.max_levels as usize <= records) {
-        if (rows == 0)
-            | ((fixed + (5 * rows + 4 * entries + 8) <= words)
-                & (numbers + (20 * rows + 4 * entries) <= floats))
-        {
-            return Verdict::Passed;
-        }
-        return Verdict::Refused(refusal::STORE_TOO_SMALL);
+    let paid = (fixed <= words) & (numbers <= floats) & (o.max_levels as usize <= records);
+    let finest = (rows == 0)
+        | ((fixed + (5 * rows + 4 * entries + 8) <= words)
+            & (numbers + (20 * rows + 4 * entries) <= floats));
+    if paid & finest {
+        return Ok(());
     }
-    Verdict::Refused(refusal::STORE_TOO_SMALL)
+    Err(refusal::STORE_TOO_SMALL)
 }
 
 // Questions 1 to 9.
-pub fn asked(
-    rows: usize,
-    offsets: &[u32],
-    columns: &[u32],
-    values: &[f64],
-    given: bool,
-    weights: &[f64],
-    o: MultigridOptions,
-    records: usize,
-    words: usize,
-    floats: usize,
-) -> Verdict
-    ensures { Asked (lending words floats records) (input_of rows offsets.now columns.now values.now given weights.now o) result }
+pub fn asked(x: Source, records: usize, words: usize, floats: usize) -> Result<(), Refusal>
+    ensures { Asked (lending words floats records) (input_in x.entry) result }
 {
-    match arrays_asked(rows, offsets, columns, values, given, weights, o) {
-        Verdict::Passed => room_asked(rows, columns.len(), o, records, words, floats),
-        Verdict::Refused(q) => Verdict::Refused(q),
-    }
+    arrays_asked(x)?;
+    room_asked(x.rows, x.columns.len(), x.options, records, words, floats)
 }

@@ -1,5 +1,5 @@
 -- The levels that the build leaves, and its last level: what the functions require and ensure. Definitions only.
-use Rattle.std.specs.Prelude.{◌≡◌, Bool, true, List, ℕ, ◌+◌, ◌≤◌, length, Float}
+use Rattle.std.specs.Prelude.{◌≡◌, Bool, true, List, ℕ, ◌+◌, ◌≤◌, length, Float, Result, Ok, Err}
 use Rattle.store.specs.Region.{Kept}
 use Rattle.options.specs.declared.options.MultigridOptions.{MultigridOptions}
 use Rattle.refusal.specs.declared.Refusal.{Refusal}
@@ -18,9 +18,9 @@ use Rattle.build_level.specs.declared.coarsest.Growth.{Growth}
 
 -- What the levels from level number `level` on leave, whose outcome is `out`: the answer, and where it accepts, the levels in the
 -- stores from a and b on with their headers, which end before the temporaries with room for the row sums of the finest. Below them nothing changed.
-pub record Levels (w z : List ℕ) (F G : List Float) (t : Workspace) (level a b : ℕ) (out : Outcome (List Level)) (r : Growth) : Type 0 where
-  pub made : (ls : List Level) → out ≡ accepted ls → r ≡ Growth.Made (level + length ls) (image_end (length ls) z a b)
-  pub refusal : (q : Refusal) → out ≡ refused q → r ≡ Growth.Refused q
+pub record Levels (w z : List ℕ) (F G : List Float) (t : Workspace) (level a b : ℕ) (out : Outcome (List Level)) (r : Result Growth Refusal) : Type 0 where
+  pub made : (ls : List Level) → out ≡ accepted ls → r ≡ Ok (record { levels = level + length ls; end = image_end (length ls) z a b })
+  pub refusal : (q : Refusal) → out ≡ refused q → r ≡ Err q
   pub view : (ls : List Level) → out ≡ accepted ls → levels_at (length ls) z G a b ≡ ls
   pub fits : (ls : List Level) → out ≡ accepted ls → words_fit (length ls) z a ≡ true
   pub heads : (ls : List Level) → out ≡ accepted ls → heads_at (length ls) z a ≡ heads_of ls
@@ -35,5 +35,5 @@ pub record LastOk (w : List ℕ) (size : ℕ) (o : MultigridOptions) (t : Worksp
   pub count : s.level + 1 ≤ 18446744073709551615
 
 -- What it ensures: the level of questions 14 and 15.
-pub record Ended (w z : List ℕ) (F G : List Float) (o : MultigridOptions) (given : Bool) (t : Workspace) (s : Frontier) (p : Place) (r : Growth) : Type 0 where
+pub record Ended (w z : List ℕ) (F G : List Float) (o : MultigridOptions) (given : Bool) (t : Workspace) (s : Frontier) (p : Place) (r : Result Growth Refusal) : Type 0 where
   pub levels : Levels w z F G t s.level s.a s.b (last_level o s.level (mesh_at w F given (level_in t p)) (coefficients_at F p)) r

@@ -1,8 +1,8 @@
 -- What the inner functions require and ensure: a level is laid in three steps, its words up to the face offsets, its faces, its values.
 -- Definitions only.
-use Rattle.std.specs.Prelude.{◌≡◌, Bool, cond, not, List, ℕ, ◌+◌, ◌*◌, ◌≤◌, length, Float}
+use Rattle.refusal.specs.declared.Refusal.{Refusal}
+use Rattle.std.specs.Prelude.{◌≡◌, Bool, cond, not, List, ℕ, ◌+◌, ◌*◌, ◌≤◌, length, Float, Result, Ok}
 use Rattle.store.specs.Region.{idx, part, CopyOk, Kept}
-use Rattle.refusal.specs.declared.Verdict.{Verdict}
 use Rattle.refusal.specs.Outcome.{Outcome, accepted, verdict_of}
 use Rattle.coefficients.specs.Update.{Coefficients, kernel_update_of}
 use Rattle.coefficients.specs.Contract.{UpdateOk, Holds, Within}
@@ -75,9 +75,9 @@ pub record FacesOk (w : List ℕ) (p : Place) : Type 0 where
   pub lowers : p.lowers + p.faces ≤ length w
 
 -- Question 11's answer; the faces are laid, and where it passes the diagonal entries. Below them nothing changed.
-pub record FacesLaid (w z : List ℕ) (p : Place) (level : ℕ) (r : Verdict) : Type 0 where
+pub record FacesLaid (w z : List ℕ) (p : Place) (level : ℕ) (r : Result Unit Refusal) : Type 0 where
   pub verdict : r ≡ verdict_of (diagonals_asked level (pattern_in w p))
-  pub diagonals : r ≡ Verdict.Passed → part p.diagonals p.rows z ≡ diagonals_of (pattern_in w p)
+  pub diagonals : r ≡ Ok tt → part p.diagonals p.rows z ≡ diagonals_of (pattern_in w p)
   pub neighbors : part p.neighbors p.faces z ≡ neighbors_of (pattern_in w p)
   pub uppers : part p.uppers p.faces z ≡ uppers_of (pattern_in w p)
   pub lowers : part p.lowers p.faces z ≡ lowers_of (pattern_in w p)
@@ -96,7 +96,7 @@ update_from level w F p from =
     kernel_update_of level p.rows (part p.diagonals p.rows w) (part p.uppers (idx w (p.starts + p.rows)) w) (part from p.entries F)
 
 -- Their answer; the values are laid, and where they pass the coefficients. Outside of these nothing changed.
-pub record ValuesLaid (w : List ℕ) (F G : List Float) (p : Place) (from level : ℕ) (r : Verdict) : Type 0 where
+pub record ValuesLaid (w : List ℕ) (F G : List Float) (p : Place) (from level : ℕ) (r : Result Unit Refusal) : Type 0 where
   pub verdict : r ≡ verdict_of (update_from level w F p from)
   pub values : part p.values p.entries G ≡ part from p.entries F
   pub holds : (k : Coefficients) → update_from level w F p from ≡ accepted k → Holds w (kernel_in p) k G

@@ -1,5 +1,6 @@
 -- The frontier of the build, a level that is laid there, and what the functions require and ensure. Definitions only.
-use Rattle.std.specs.Prelude.{◌≡◌, Bool, false, cond, List, ℕ, ◌+◌, ◌*◌, ◌≤◌, length, Float}
+use Rattle.refusal.specs.declared.Refusal.{Refusal}
+use Rattle.std.specs.Prelude.{◌≡◌, Bool, false, cond, List, ℕ, ◌+◌, ◌*◌, ◌≤◌, length, Float, Result, Ok, Err}
 use Rattle.store.specs.Region.{part, Kept}
 use Rattle.options.specs.declared.options.MultigridOptions.{MultigridOptions}
 use Rattle.refusal.specs.Outcome.{Outcome, accepted, refused, ◌>>=◌}
@@ -15,7 +16,6 @@ use Rattle.coarsening.specs.declared.coarsen.Held.{Held}
 use Rattle.coarsening.specs.declared.coarsen.Workspace.{Workspace}
 use Rattle.coarsening.specs.CoarsenContract.{pattern_at, mesh_at, next_in, WorkOk}
 use Rattle.build_level.specs.declared.laying.Frontier.{Frontier}
-use Rattle.build_level.specs.declared.laying.Laying.{Laying}
 
 -- the matrix of the level at the frontier, in the temporaries
 abbrev pub frontier_at : List ℕ → List Float → Bool → Workspace → Frontier → Mesh
@@ -67,9 +67,9 @@ laid_of level m = do
   _ ← diagonals_asked level m.pattern
   kernel_asked level m
 
-abbrev pub laying_of : Mesh → Outcome Coefficients → Laying
-laying_of m (accepted c) = Laying.Done (faces_of m.pattern)
-laying_of m (refused q) = Laying.Refused q
+abbrev pub laying_of : Mesh → Outcome Coefficients → Result ℕ Refusal
+laying_of m (accepted c) = Ok (faces_of m.pattern)
+laying_of m (refused q) = Err q
 
 -- A level with a proper pattern stands at p, its words from a on and its floats from b on.
 pub record Stands (w : List ℕ) (t : Workspace) (a b : ℕ) (p : Place) : Type 0 where
@@ -84,7 +84,7 @@ pub record StandsFor (w : List ℕ) (F : List Float) (given : Bool) (t : Workspa
   pub coefficients : coefficients_at F p ≡ c
 
 -- What laying a level ensures: the questions' answer; where they pass, the level stands at its place. Below it nothing changed.
-pub record Laid (w z : List ℕ) (F G : List Float) (given : Bool) (t : Workspace) (s : Frontier) (r : Laying) : Type 0 where
+pub record Laid (w z : List ℕ) (F G : List Float) (given : Bool) (t : Workspace) (s : Frontier) (r : Result ℕ Refusal) : Type 0 where
   pub answer : r ≡ laying_of (frontier_at w F given t s) (laid_of s.level (frontier_at w F given t s))
   pub stands : (c : Coefficients) (p : Place) → laid_of s.level (frontier_at w F given t s) ≡ accepted c
       → Placed s.a s.b p → p.rows ≡ s.rows → p.entries ≡ s.entries → p.faces ≡ faces_of (frontier_at w F given t s).pattern

@@ -10,13 +10,13 @@ use crate::laying::Frontier;
 use coarsening::Workspace;
 use layout::Place;
 use options::MultigridOptions;
-use refusal::{Refusal, Verdict};
+use refusal::Refusal;
 
-// The levels made, and where the floats of the last one end; or a refusal.
+// The levels made, and where the floats of the last one end.
 #[derive(Clone, Copy)]
-pub enum Growth {
-    Made { levels: u64, end: usize },
-    Refused(Refusal),
+pub struct Growth {
+    pub levels: u64,
+    pub end: usize,
 }
 
 // The number of coupled rows of the level at p.
@@ -57,24 +57,19 @@ pub fn last(
     t: Workspace,
     s: Frontier,
     p: Place,
-) -> Growth
+) -> Result<Growth, Refusal>
     requires { LastOk w.old (length f.old) o t s p }
     ensures { Ended w.old w.new f.old f.new o given t s p result }
 {
     let coupled = coupled_in(w, p);
     if coupled as u64 > o.coarsest_cells {
-        return Growth::Refused(refusal::TOO_MANY_COUPLED);
+        return Err(refusal::TOO_MANY_COUPLED);
     }
     list_coupled(w, s.a, p, coupled);
-    let verdict = layout::factor(w, f, p, coupled, s.level);
-    match verdict {
-        Verdict::Passed => {
-            let size = cholesky::triangle(coupled);
-            Growth::Made {
-                levels: s.level + 1,
-                end: p.factor + size,
-            }
-        }
-        Verdict::Refused(q) => Growth::Refused(q),
-    }
+    layout::factor(w, f, p, coupled, s.level)?;
+    let size = cholesky::triangle(coupled);
+    Ok(Growth {
+        levels: s.level + 1,
+        end: p.factor + size,
+    })
 }

@@ -10,7 +10,7 @@ use coarsening::Workspace;
 use faces::{diagonals, mirrors};
 use layout::Place;
 use options::MultigridOptions;
-use refusal::{Refusal, Verdict};
+use refusal::Refusal;
 
 // Where the build has come to: the level to be laid, of so many rows and entries, its matrix in the temporaries; where its words and
 // floats start; the charge so far, its own among them; its number; the pairings made so far; how many levels may follow it.
@@ -25,13 +25,6 @@ pub struct Frontier {
     pub level: u64,
     pub stage: u64,
     pub more: u64,
-}
-
-// The faces of a level that is laid, or a refusal.
-#[derive(Clone, Copy)]
-pub enum Laying {
-    Done(usize),
-    Refused(Refusal),
 }
 
 // The header of a level: its rows; whether it is the last, and with how many coupled rows, is said later.
@@ -52,8 +45,8 @@ fn lay_pattern(w: &mut [u32], t: Workspace, s: Frontier)
 {
     let offsets = s.a + 3;
     lay_header(w, s.a, s.rows);
-    store::copy_words(w, s.rows + 1, t.offsets, offsets);
-    store::copy_words(w, s.entries, t.columns, offsets + s.rows + 1);
+    store::copy(w, s.rows + 1, t.offsets, offsets);
+    store::copy(w, s.entries, t.columns, offsets + s.rows + 1);
 }
 
 // These and the face offsets; the number of faces, on which the rest of the place depends.
@@ -68,7 +61,7 @@ fn lay_words(w: &mut [u32], t: Workspace, s: Frontier) -> usize
 }
 
 // The faces, their mirrors, which are all there, and the diagonal entries: question 11.
-fn lay_faces(w: &mut [u32], p: Place, level: u64) -> Verdict
+fn lay_faces(w: &mut [u32], p: Place, level: u64) -> Result<(), Refusal>
     requires { FacesOk w.old p }
     ensures { FacesLaid w.old w.new p level result }
 {
@@ -79,7 +72,7 @@ fn lay_faces(w: &mut [u32], p: Place, level: u64) -> Verdict
 }
 
 // The values out of the temporaries, and the coefficients: questions 12 and 13.
-fn lay_values(w: &[u32], f: &mut [f64], p: Place, from: usize, level: u64) -> Verdict
+fn lay_values(w: &[u32], f: &mut [f64], p: Place, from: usize, level: u64) -> Result<(), Refusal>
     requires { ValuesOk w.now (length f.old) p from }
     ensures { ValuesLaid w.now f.old f.new p from level result }
 {
@@ -97,23 +90,15 @@ pub fn lay(
     given: bool,
     t: Workspace,
     s: Frontier,
-) -> Laying
+) -> Result<usize, Refusal>
     requires { FrontierOk w.old (length f.old) o t s }
     ensures { Laid w.old w.new f.old f.new given t s result }
 {
     let faces = lay_words(w, t, s);
     let p = layout::place_of(s.a, s.b, s.rows, s.entries, faces);
-    let whole = lay_faces(w, p, s.level);
-    match whole {
-        Verdict::Passed => {
-            let kernel = lay_values(w, f, p, t.values, s.level);
-            match kernel {
-                Verdict::Passed => Laying::Done(faces),
-                Verdict::Refused(refusal) => Laying::Refused(refusal),
-            }
-        }
-        Verdict::Refused(refusal) => Laying::Refused(refusal),
-    }
+    lay_faces(w, p, s.level)?;
+    lay_values(w, f, p, t.values, s.level)?;
+    Ok(faces)
 }
 
 // Whether a level is the last by its pattern alone: few rows are coupled, or none, or no level may follow.
@@ -143,7 +128,7 @@ fn graph_in(given: bool, t: Workspace, p: Place, cap: u64) -> Graph
         map: p.links,
         weights: strengths,
         absolute: !given,
-        cap: cap,
+        cap,
     }
 }
 

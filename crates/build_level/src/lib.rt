@@ -5,4 +5,4 @@ pub mod coarsest;
 pub mod laying;
 
 pub use coarsest::{Growth, last};
-pub use laying::{Frontier, Laying, choose, lay};
+pub use laying::{Frontier, choose, lay};

@@ -1,8 +1,9 @@
 -- One level of the build and the frontier ahead of it: what the functions of a level require and ensure. Definitions only.
-use Rattle.std.specs.Prelude.{◌≡◌, Bool, true, false, cond, List, ◌∷◌, ℕ, ◌+◌, ◌-◌, ◌*◌, ◌≤◌, eqb, length, Float}
+use Rattle.std.specs.Prelude.{◌≡◌, Bool, true, false, cond, List, ◌∷◌, ℕ, ◌+◌, ◌-◌, ◌*◌, ◌≤◌, eqb, length, Float, Result, Ok, Err}
 use Rattle.store.specs.Region.{Kept}
 use Rattle.options.specs.declared.options.MultigridOptions.{MultigridOptions}
 use Rattle.refusal.specs.Refusal.{store_too_small}
+use Rattle.refusal.specs.declared.Refusal.{Refusal}
 use Rattle.refusal.specs.Outcome.{Outcome, accepted, ◌>>=◌}
 use Rattle.coefficients.specs.Update.{Coefficients}
 use Rattle.hierarchy.specs.Level.{Level}
@@ -53,10 +54,11 @@ pub record Ahead (w z : List ℕ) (F G : List Float) (o : MultigridOptions) (giv
   pub words : Kept s.a w z
   pub floats : Kept s.b F G
 
--- What a level whose outcome is `out` ensures: the levels end with it, or the next frontier lies ahead.
-pub record Advanced (w z : List ℕ) (F G : List Float) (o : MultigridOptions) (given : Bool) (t : Workspace) (s : Frontier) (out : Outcome (List Level)) (r : Onward) : Type 0 where
-  pub ended : (g : Growth) → r ≡ Onward.Ended g → Levels w z F G t s.level s.a s.b out g
-  pub next : (n : Frontier) → r ≡ Onward.Next n → Ahead w z F G o given t s out n
+-- What a level whose outcome is `out` ensures: the levels end with it, or it is refused, or the next frontier lies ahead.
+pub record Advanced (w z : List ℕ) (F G : List Float) (o : MultigridOptions) (given : Bool) (t : Workspace) (s : Frontier) (out : Outcome (List Level)) (r : Result Onward Refusal) : Type 0 where
+  pub ended : (g : Growth) → r ≡ Ok (Onward.Ended g) → Levels w z F G t s.level s.a s.b out (Ok g)
+  pub refusal : (q : Refusal) → r ≡ Err q → Levels w z F G t s.level s.a s.b out (Err q)
+  pub next : (n : Frontier) → r ≡ Ok (Onward.Next n) → Ahead w z F G o given t s out n
 
 -- What the choice between the last level and the way down requires: the controls, a level that stands at p, and small enough counts.
 pub record LeadOk (w : List ℕ) (size : ℕ) (o : MultigridOptions) (t : Workspace) (s : Frontier) (p : Place) : Type 0 where
@@ -80,12 +82,12 @@ next_after s p count entries stage = record {
 }
 
 -- the next frontier, or question 9's refusal
-abbrev pub pick_onward : Bool → Frontier → Onward
-pick_onward true n = Onward.Next n
-pick_onward false n = Onward.Ended (Growth.Refused store_too_small)
+abbrev pub pick_onward : Bool → Frontier → Result Frontier Refusal
+pick_onward true n = Ok n
+pick_onward false n = Err store_too_small
 
 -- question 9 of the next level, in stores of so many words and floats
-abbrev pub charged_of : ℕ → ℕ → Frontier → Onward
+abbrev pub charged_of : ℕ → ℕ → Frontier → Result Frontier Refusal
 charged_of words floats n = pick_onward (holds (charge words floats) (charge n.words n.floats)) n
 
 -- What that question requires: no sum wraps.

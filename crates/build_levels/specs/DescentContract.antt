@@ -1,7 +1,8 @@
 -- From a level with aggregates to the matrix of the next: definition, and what the functions require and ensure. Definitions only.
-use Rattle.std.specs.Prelude.{◌≡◌, Bool, List, ℕ, ◌+◌, ◌-◌, ◌≤◌, Float}
+use Rattle.std.specs.Prelude.{◌≡◌, Bool, List, ℕ, ◌+◌, ◌-◌, ◌≤◌, Float, Result, Ok, Err}
 use Rattle.store.specs.Region.{part, Kept}
 use Rattle.options.specs.declared.options.MultigridOptions.{MultigridOptions}
+use Rattle.refusal.specs.declared.Refusal.{Refusal}
 use Rattle.refusal.specs.Outcome.{Outcome, accepted, refused, ◌>>=◌}
 use Rattle.coefficients.specs.Update.{Coefficients}
 use Rattle.pattern.specs.Pattern.{entries, Maps, Onto}
@@ -14,10 +15,10 @@ use Rattle.layout.specs.Layout.{level_at, words_end, floats_end}
 use Rattle.layout.specs.Headers.{head_at, head_of}
 use Rattle.layout.specs.Placed.{coefficients_at}
 use Rattle.coarsening.specs.declared.coarsen.Workspace.{Workspace}
+use Rattle.coarsening.specs.declared.merging.Merging.{Merging}
 use Rattle.coarsening.specs.CoarsenContract.{mesh_at, next_in}
 use Rattle.build_level.specs.declared.laying.Frontier.{Frontier}
 use Rattle.build_level.specs.LayingContract.{level_in, ControlsOk, ChooseOk}
-use Rattle.build_levels.specs.declared.descent.Descending.{Descending}
 
 -- the numbers of a level, what its merged steps made, and the matrix that is summed afresh from it
 pub record Descent : Type 0 where
@@ -38,9 +39,9 @@ descent_of o given level stage m c map count = do
   next ← coarsened_asked given m s.map s.mesh.pattern.rows
   accepted (record { numbers = n; steps = s; next = next })
 
-abbrev pub descending_of : Outcome Descent → Descending
-descending_of (accepted d) = Descending.Done d.steps.mesh.pattern.rows (entries d.next.pattern) d.steps.stage
-descending_of (refused q) = Descending.Refused q
+abbrev pub descending_of : Outcome Descent → Result Merging Refusal
+descending_of (accepted d) = Ok (record { count = d.steps.mesh.pattern.rows; entries = entries d.next.pattern; stage = d.steps.stage })
+descending_of (refused q) = Err q
 
 -- What the descent requires: the controls, a level that stands at p, and its aggregates at the links.
 pub record DescendOk (w : List ℕ) (size : ℕ) (o : MultigridOptions) (t : Workspace) (s : Frontier) (p : Place) (count : ℕ) : Type 0 where
@@ -71,7 +72,7 @@ pub record Arrived (z : List ℕ) (G : List Float) (given : Bool) (t : Workspace
   pub stage : d.steps.stage ≤ s.stage + 4
 
 -- What the descent ensures: the definition's answer, and where it accepts, what was said above. Below the level nothing changed.
-pub record Descended (w z : List ℕ) (F G : List Float) (o : MultigridOptions) (given : Bool) (t : Workspace) (s : Frontier) (p : Place) (count : ℕ) (r : Descending) : Type 0 where
+pub record Descended (w z : List ℕ) (F G : List Float) (o : MultigridOptions) (given : Bool) (t : Workspace) (s : Frontier) (p : Place) (count : ℕ) (r : Result Merging Refusal) : Type 0 where
   pub answer : r ≡ descending_of (descent_at o given w F t s p count)
   pub arrived : (d : Descent) → descent_at o given w F t s p count ≡ accepted d → Arrived z G given t s p (mesh_at w F given (level_in t p)) d
   pub words : Kept s.a w z

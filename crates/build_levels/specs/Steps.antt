@@ -1,7 +1,8 @@
 -- The steps of the descent: what the inner functions require and ensure. Definitions only.
-use Rattle.std.specs.Prelude.{◌≡◌, Bool, List, ℕ, ◌+◌, ◌-◌, Float}
+use Rattle.std.specs.Prelude.{◌≡◌, Bool, List, ℕ, ◌+◌, ◌-◌, Float, Result}
 use Rattle.store.specs.Region.{part, Kept}
 use Rattle.options.specs.declared.options.MultigridOptions.{MultigridOptions}
+use Rattle.refusal.specs.declared.Refusal.{Refusal}
 use Rattle.refusal.specs.Outcome.{Outcome, accepted, ◌>>=◌}
 use Rattle.pattern.specs.Pattern.{entries}
 use Rattle.hierarchy.specs.Build.{Mesh, Merged, merged, coarsened_asked, merge_of}
@@ -26,7 +27,7 @@ steps_at o given w F t s p count =
 
 -- What the steps ensure: the definition's answer; where it accepts, its matrix and its map. Below the links nothing changed.
 pub record StepsDone (w z : List ℕ) (F G : List Float) (o : MultigridOptions) (given : Bool) (t : Workspace) (s : Frontier)
-    (p : Place) (count : ℕ) (r : Merging) : Type 0 where
+    (p : Place) (count : ℕ) (r : Result Merging Refusal) : Type 0 where
   pub answer : r ≡ merging_of (steps_at o given w F t s p count)
   pub mesh : (x : Merged) → steps_at o given w F t s p count ≡ accepted x
       → mesh_at z G given (merged_in t x.mesh.pattern.rows (entries x.mesh.pattern)) ≡ x.mesh

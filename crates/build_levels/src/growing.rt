@@ -5,11 +5,11 @@ ghost use Rattle.build_levels.specs.GrowingContract.{Grown, grow_at};
 ghost use Rattle.build_levels.specs.Ahead.{paired_at, Advanced, LeadOk, next_after, charged_of, ChargeOk};
 
 use crate::descent;
-use crate::descent::Descending;
-use build_level::{Frontier, Growth, Laying};
-use coarsening::Workspace;
+use build_level::{Frontier, Growth};
+use coarsening::{Merging, Workspace};
 use layout::Place;
 use options::MultigridOptions;
+use refusal::Refusal;
 
 // Where a level leads: the levels end with it, or there is a next one.
 #[derive(Clone, Copy)]
@@ -24,30 +24,28 @@ fn charged(
     floats: usize,
     s: Frontier,
     p: Place,
-    count: usize,
-    entries: usize,
-    stage: u64,
-) -> Onward
-    requires { ChargeOk words floats s p count entries }
-    ensures { result ≡ charged_of words floats (next_after s p count entries stage) }
+    next: Merging,
+) -> Result<Frontier, Refusal>
+    requires { ChargeOk words floats s p next.count next.entries }
+    ensures { result ≡ charged_of words floats (next_after s p next.count next.entries next.stage) }
 {
-    let more_words = 5 * count + 4 * entries + 8;
-    let more_floats = 20 * count + 4 * entries;
+    let more_words = 5 * next.count + 4 * next.entries + 8;
+    let more_floats = 20 * next.count + 4 * next.entries;
     if words - s.words < more_words {
-        return Onward::Ended(Growth::Refused(refusal::STORE_TOO_SMALL));
+        return Err(refusal::STORE_TOO_SMALL);
     }
     if floats - s.floats < more_floats {
-        return Onward::Ended(Growth::Refused(refusal::STORE_TOO_SMALL));
+        return Err(refusal::STORE_TOO_SMALL);
     }
-    Onward::Next(Frontier {
-        rows: count,
-        entries: entries,
+    Ok(Frontier {
+        rows: next.count,
+        entries: next.entries,
         a: p.positions + p.entries,
         b: p.factor,
         words: s.words + more_words,
         floats: s.floats + more_floats,
         level: s.level + 1,
-        stage: stage,
+        stage: next.stage,
         more: s.more - 1,
     })
 }
@@ -61,23 +59,18 @@ fn lead(
     t: Workspace,
     s: Frontier,
     p: Place,
-) -> Onward
+) -> Result<Onward, Refusal>
     requires { LeadOk w.old (length f.old) o t s p }
     ensures { Advanced w.old w.new f.old f.new o given t s (paired_at o given w.old f.old t s p) result }
 {
     let count = build_level::choose(w, f, o, given, t, s, p);
     if count == s.rows {
-        let g = build_level::last(w, f, o, given, t, s, p);
-        return Onward::Ended(g);
+        let g = build_level::last(w, f, o, given, t, s, p)?;
+        return Ok(Onward::Ended(g));
     }
-    match descent::descend(w, f, o, given, t, s, p, count) {
-        Descending::Refused(q) => Onward::Ended(Growth::Refused(q)),
-        Descending::Done {
-            count,
-            entries,
-            stage,
-        } => charged(w.len(), f.len(), s, p, count, entries, stage),
-    }
+    let down = descent::descend(w, f, o, given, t, s, p, count)?;
+    let next = charged(w.len(), f.len(), s, p, down)?;
+    Ok(Onward::Next(next))
 }
 
 // The level at the frontier.
@@ -88,17 +81,13 @@ fn advance(
     given: bool,
     t: Workspace,
     s: Frontier,
-) -> Onward
+) -> Result<Onward, Refusal>
     requires { FrontierOk w.old (length f.old) o t s }
     ensures { Advanced w.old w.new f.old f.new o given t s (grow_at o given w.old f.old t s) result }
 {
-    match build_level::lay(w, f, o, given, t, s) {
-        Laying::Refused(q) => Onward::Ended(Growth::Refused(q)),
-        Laying::Done(faces) => {
-            let p = layout::place_of(s.a, s.b, s.rows, s.entries, faces);
-            lead(w, f, o, given, t, s, p)
-        }
-    }
+    let faces = build_level::lay(w, f, o, given, t, s)?;
+    let p = layout::place_of(s.a, s.b, s.rows, s.entries, faces);
+    lead(w, f, o, given, t, s, p)
 }
 
 // The levels from the frontier on.
@@ -109,14 +98,14 @@ pub fn grow(
     given: bool,
     t: Workspace,
     s: Frontier,
-) -> Growth
+) -> Result<Growth, Refusal>
     requires { FrontierOk w.old (length f.old) o t s }
     ensures { Grown w.old w.new f.old f.new o given t s result }
 {
     let mut at = s;
     loop {
-        match advance(w, f, o, given, t, at) {
-            Onward::Ended(g) => return g,
+        match advance(w, f, o, given, t, at)? {
+            Onward::Ended(g) => return Ok(g),
             Onward::Next(n) => at = n,
         }
     }

@@ -1,5 +1,6 @@
 -- The levels of an accepted build are laid, each with a proper pattern and few rows and entries, and the stores hold their charges.
 -- Assumes nothing.
+use Rattle.std.specs.Prelude.{Ok}
 use mathlib.Core.Path.{◌≡◌, refl, sym, ap, ◌∙◌, subst}
 use mathlib.Core.Bool.{Bool, true}
 use mathlib.Core.List.{List}
@@ -12,7 +13,6 @@ use Rattle.store.specs.Region.{idx}
 use Rattle.store.proofs.store.Each.{both_r}
 use Rattle.store.proofs.store.Region.{le_or_lt}
 use Rattle.refusal.specs.Outcome.{Outcome, accepted, verdict_of}
-use Rattle.refusal.specs.declared.Verdict.{Verdict}
 use Rattle.refusal.proofs.Outcome.{verdict_passed}
 use Rattle.options.specs.declared.options.MultigridOptions.{MultigridOptions}
 use Rattle.pattern.specs.Pattern.{how_many, Pattern, entries, coarse, Onto}
@@ -63,7 +63,7 @@ held stores c e = leb-true c.floats stores.floats (both_r (leb c.words stores.wo
 module _ (o : MultigridOptions) (given : Bool) (stores : Charge) where
   -- The matrix of an accepted build passed question 11.
   pub grow_diagonal : (more level stage : ℕ) (used : Charge) (m : Mesh) {levels : List Level}
-      → grow_of o given stores more level stage used m ≡ accepted levels → verdict_of (diagonals_asked level m.pattern) ≡ Verdict.Passed
+      → grow_of o given stores more level stage used m ≡ accepted levels → verdict_of (diagonals_asked level m.pattern) ≡ Ok tt
   unfolding grow_of
   grow_diagonal zero level stage used m e =
       verdict_passed (diagonals_asked level m.pattern) (then_split (diagonals_asked level m.pattern) _ e).1

@@ -1,5 +1,6 @@
 -- What a build left passes question 19.
 -- Assumes nothing.
+use Rattle.std.specs.Prelude.{Ok}
 use mathlib.Core.Path.{◌≡◌, refl, sym, ap, ◌∙◌, subst}
 use mathlib.Core.Bool.{Bool, true, false, ◌&&◌}
 use mathlib.Core.List.{List}
@@ -23,7 +24,6 @@ use Rattle.hierarchy.proofs.Accepted.{fixed_in, charge_in, Built, build_asked, b
 use Rattle.hierarchy.proofs.Depth.{levels_kept, build_levels}
 use Rattle.layout.specs.Layout.{rows_at, last_at, entries_at, words_end, floats_end, levels_at, words_fit, view_of}
 use Rattle.build.specs.Built.{handle_of}
-use Rattle.index_check.specs.declared.sound.Walk.{Walk}
 use Rattle.index_check.specs.Sound.{head_sound, shape_in, arrays_sound, row_placed, targets_of, sums_of, walk_of, is_sound, scratch_end, cycle_start, empty_sound, handle_sound, filled_sound, sound_of}
 use Rattle.index_check.proofs.sound.Walks.{ends_of, head_fits_lem, level_walked_lem, walk_closed, walk_none}
 use Rattle.index_check.proofs.sound.Accepts.{walk_accepts}
@@ -40,7 +40,7 @@ record Walked (w : List ℕ) (a level k : ℕ) (p : Pattern) : Type 0 where
   rows : rows_at w a ≡ p.rows
   long : entries_at w a ≡ entries p
   head : head_sound w a ≡ true
-  walk : walk_of k w level a ≡ Walk.Sound
+  walk : walk_of k w level a ≡ Ok tt
 
 -- Two tests that hold hold together.
 both : {a b : Bool} → a ≡ true → b ≡ true → (a && b) ≡ true
@@ -49,13 +49,13 @@ both e f = rw (e, f) refl
 module _ (w : List ℕ) (level a : ℕ) (head : head_sound w a ≡ true) (placed : (row : ℕ) → row < rows_at w a → row_placed (shape_in w a) row ≡ true) where
   -- A level is walked with those after it,
   walked_on : (k : ℕ) → last_at w a ≡ ends_of k → arrays_sound (targets_of k w a) (sums_of k w a) (shape_in w a) ≡ true
-      → walk_of k w (level + 1) (words_end w a) ≡ Walk.Sound → walk_of (suc k) w level a ≡ Walk.Sound
+      → walk_of k w (level + 1) (words_end w a) ≡ Ok tt → walk_of (suc k) w level a ≡ Ok tt
   walked_on k l arrays rest = walk_closed k w level a
       (record { head = head_fits_lem w a k head l; here = level_walked_lem w a (targets_of k w a) (sums_of k w a) level head arrays placed; rest = rest })
 
   -- and so is one with aggregates, whose links lead to the next.
   walked_inner : (k : ℕ) → 1 ≤ k → last_at w a ≡ false → arrays_sound (rows_at w (words_end w a)) (entries_at w (words_end w a)) (shape_in w a) ≡ true
-      → walk_of k w (level + 1) (words_end w a) ≡ Walk.Sound → walk_of (suc k) w level a ≡ Walk.Sound
+      → walk_of k w (level + 1) (words_end w a) ≡ Ok tt → walk_of (suc k) w level a ≡ Ok tt
   walked_inner zero some l arrays rest = absurd (omega arith)
   walked_inner (suc k) some l arrays rest = walked_on (suc k) l arrays rest
 

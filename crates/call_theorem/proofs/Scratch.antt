@@ -2,6 +2,9 @@
 -- answer, solution and statistics, and leave stores that agree outside scratch. Whatever the handle and the stores: where question 19
 -- refuses the one it refuses the other.
 -- Assumes nothing.
+use Rattle.solver.specs.declared.solver.LinearSolveReport.{LinearSolveReport}
+use Rattle.refusal.specs.declared.Refusal.{Refusal}
+use Rattle.std.specs.Prelude.{Result}
 use mathlib.Core.Path.{◌≡◌, refl, sym, ap, ◌∙◌}
 use mathlib.Core.Bool.{true, false}
 use mathlib.Core.List.{List}
@@ -28,9 +31,7 @@ use Rattle.iterations.specs.Iteration.{system_of}
 use Rattle.iterations.specs.Iterate.{answer_of}
 use Rattle.solve.specs.Solve.{solve_of}
 use Rattle.solve.specs.Solved.{solved_at, solution_of}
-use Rattle.solver.specs.declared.answers.Solved.{Solved}
 use Rattle.solver.specs.declared.statistics.MultigridLevelStatistics.{MultigridLevelStatistics}
-use Rattle.solver.specs.declared.answers.Updated.{Updated}
 use Rattle.update.specs.Updated.{updated_at, hierarchy_of}
 use Rattle.update.specs.Updated as updating
 use Rattle.multigrid.specs.UpdatingCall.{updated_of, UpdateCall}
@@ -92,7 +93,7 @@ module _ (h : Handle) {w w' : List ℕ} {F F' : List Float} (a : Agree h.levels 
 
   -- ---- an update
 
-  module _ {G G' : List Float} {records : ℕ} {offsets columns : List ℕ} {values : List Float} {r r' : Updated}
+  module _ {G G' : List Float} {records : ℕ} {offsets columns : List ℕ} {values : List Float} {r r' : Result Unit Refusal}
       (c : UpdateCall h w F G records offsets columns values r) (c' : UpdateCall h w' F' G' records offsets columns values r') where
     -- Both pass question 19.
     updated_sound : sound_of h w (length F) records ≡ true → (r' ≡ r) × Agree h.levels w w' G G'
@@ -137,7 +138,7 @@ module _ (h : Handle) {w w' : List ℕ} {F F' : List Float} (a : Agree h.levels 
 
   -- ---- a solve
 
-  module _ {G G' : List Float} {t u u' : List MultigridLevelStatistics} {rhs x y y' : List Float} {s : LinearSolverOptions} {r r' : Solved}
+  module _ {G G' : List Float} {t u u' : List MultigridLevelStatistics} {rhs x y y' : List Float} {s : LinearSolverOptions} {r r' : Result LinearSolveReport Refusal}
       (c : SolveCall h w F G t u rhs x y s r) (c' : SolveCall h w' F' G' t u' rhs x y' s r') where
     -- What they told is the same where their outcome is.
     told_same : solved_of h w' F' (length t) rhs x s ≡ solved_of h w F (length t) rhs x s → (r' ≡ r) × (y' ≡ y) × (u' ≡ u)

@@ -1,6 +1,9 @@
 -- Refreshed beside fresh: after a build with face weights, however many updates and solves, accepted and refused in any order, every solve
 -- has the answer and the solution of a fresh build from the latest accepted values, wherever that build is accepted.
 -- Assumes nothing.
+use Rattle.solver.specs.declared.solver.LinearSolveReport.{LinearSolveReport}
+use Rattle.refusal.specs.declared.Refusal.{Refusal}
+use Rattle.std.specs.Prelude.{Result, Ok, Err}
 use mathlib.Core.Path.{◌≡◌, refl, sym, ap, ◌∙◌}
 use mathlib.Core.Bool.{true}
 use mathlib.Core.List.{List, [], ◌∷◌}
@@ -21,17 +24,14 @@ use Rattle.hierarchy.specs.Shapes.{pattern_of}
 use Rattle.hierarchy.specs.First.{shapes_in}
 use Rattle.hierarchy.proofs.First.{build_first}
 use Rattle.layout.specs.Layout.{view_of}
-use Rattle.solver.specs.declared.answers.Built.{Built}
 use Rattle.build.specs.Built.{lent_of}
 use Rattle.index_check.specs.Sound.{sound_of}
 use Rattle.build_sound.proofs.Sound.{built_sound}
 use Rattle.iterations.specs.Iteration.{system_of}
-use Rattle.solver.specs.declared.answers.Solved.{Solved}
 use Rattle.solver.specs.declared.statistics.MultigridLevelStatistics.{MultigridLevelStatistics}
 use Rattle.iterations.specs.Iterate.{answer_of}
 use Rattle.solve.specs.Solve.{solve_of}
 use Rattle.solve.specs.Solved.{solved_at, solution_of}
-use Rattle.solver.specs.declared.answers.Updated.{Updated}
 use Rattle.update.specs.Updated.{updated_at, hierarchy_of}
 use Rattle.update.specs.Updated as refreshing
 use Rattle.multigrid.specs.New.{NewDone}
@@ -99,7 +99,7 @@ module _ {h : Handle} {w : List ℕ} {F : List Float} {t : List MultigridLevelSt
 
   -- ---- a solve
 
-  module _ {G : List Float} {u : List MultigridLevelStatistics} {rhs start y : List Float} {s : LinearSolverOptions} {r : Solved}
+  module _ {G : List Float} {u : List MultigridLevelStatistics} {rhs start y : List Float} {s : LinearSolverOptions} {r : Result LinearSolveReport Refusal}
       (c : SolveCall h w F G t u rhs start y s r) where
     -- A solve has the book's answer and solution,
     solve_fresh : (l : Lent) → Fresh l x rhs start s r y
@@ -136,15 +136,15 @@ module _ {h : Handle} {w : List ℕ} {F : List Float} {t : List MultigridLevelSt
         }
 
     -- a refused one changes nothing; and so it is with the book.
-    booked_holds : (r : Updated) (out : Outcome Hierarchy) → updated_at h w F offsets columns values ≡ out → r ≡ refreshing.updated_answer out
+    booked_holds : (r : Result Unit Refusal) (out : Outcome Hierarchy) → updated_at h w F offsets columns values ≡ out → r ≡ refreshing.updated_answer out
         → view_of h.levels w G 0 ≡ hierarchy_of (view_of h.levels w F 0) out → length G ≡ length F → Holds h w G t (booked x values r)
-    booked_holds Updated.Done (accepted k) e a v size = accepted_holds e v size
-    booked_holds Updated.Done (refused q) e a v size = absurd (let none : ◌≡◌ {A = ℕ} 0 1 = cc in omega arith)
-    booked_holds (Updated.Refused p) (accepted k) e a v size = absurd (let none : ◌≡◌ {A = ℕ} 0 1 = cc in omega arith)
-    booked_holds (Updated.Refused p) (refused q) e a v size = still_holds v size refl
+    booked_holds (Ok tt) (accepted k) e a v size = accepted_holds e v size
+    booked_holds (Ok tt) (refused q) e a v size = absurd (let none : ◌≡◌ {A = ℕ} 0 1 = cc in omega arith)
+    booked_holds (Err p) (accepted k) e a v size = absurd (let none : ◌≡◌ {A = ℕ} 0 1 = cc in omega arith)
+    booked_holds (Err p) (refused q) e a v size = still_holds v size refl
 
   -- What holds before an update holds after it, of what the book then has.
-  update_holds : {G : List Float} {offsets columns : List ℕ} {values : List Float} {r : Updated}
+  update_holds : {G : List Float} {offsets columns : List ℕ} {values : List Float} {r : Result Unit Refusal}
       → UpdateCall h w F G (length t) offsets columns values r → Holds h w G t (booked x values r)
   update_holds {offsets = offsets} {columns = columns} {values = values} {r = r} c =
       let out = updated_at h w F offsets columns values in
@@ -164,7 +164,7 @@ trace_agrees (Trace.solve c rest) i l = Agrees.solve (solve_fresh i c l) (trace_
 
 -- An accepted build with weights leaves what holds, if its stores pass question 19.
 built_holds : {w z : List ℕ} {F G : List Float} {s t : List MultigridLevelStatistics} (x : Input) (h : Handle) → x.given ≡ true
-    → NewDone w z F G s t x (Built.Made h) → sound_of h z (length G) (length t) ≡ true → Holds h z G t x
+    → NewDone w z F G s t x (Ok h) → sound_of h z (length G) (length t) ≡ true → Holds h z G t x
 built_holds {w} {z} {F} {G} {s} {t} x h given d sound =
     let l = lent_of w F (length s) in
     let m = made_is x (build_of l x) d.built.answer in
@@ -181,7 +181,7 @@ built_holds {w} {z} {F} {G} {s} {t} x h given d sound =
     }
 
 -- The stores of an accepted build pass question 19.
-pub new_sound : {w z : List ℕ} {F G : List Float} {s t : List MultigridLevelStatistics} {x : Input} {h : Handle} → NewDone w z F G s t x (Built.Made h)
+pub new_sound : {w z : List ℕ} {F G : List Float} {s t : List MultigridLevelStatistics} {x : Input} {h : Handle} → NewDone w z F G s t x (Ok h)
     → sound_of h z (length G) (length t) ≡ true
 new_sound {w} {z} {F} {G} {s} {t} {x} {h} d =
     let l = lent_of w F (length s) in
@@ -192,15 +192,15 @@ new_sound {w} {z} {F} {G} {s} {t} {x} {h} d =
 
 -- After a build with weights each solve has the answer and the solution of a fresh build and solve, whatever calls came before it.
 pub refreshed_is_fresh : {w z : List ℕ} {F G : List Float} {s t : List MultigridLevelStatistics} (x : Input) (h : Handle) → x.given ≡ true
-    → NewDone w z F G s t x (Built.Made h) → {events : List Event} → Trace h z G t events → (l : Lent) → Agrees l x events
+    → NewDone w z F G s t x (Ok h) → {events : List Event} → Trace h z G t events → (l : Lent) → Agrees l x events
 refreshed_is_fresh x h given d trace l = trace_agrees trace (built_holds x h given d (new_sound d)) l
 
 -- ---- the book's own calls
 
 -- What the book answers is what its own calls give: a build in lent stores, whatever these held, and then that solve.
 pub fresh_call : {w z : List ℕ} {F G H : List Float} {s t u : List MultigridLevelStatistics} {x : Input} {h : Handle} {rhs start y y' : List Float}
-    {o : LinearSolverOptions} {r r' : Solved} → Fresh (lent_of w F (length s)) x rhs start o r y
-    → NewDone w z F G s t x (Built.Made h) → SolveCall h z G H t u rhs start y' o r' → (r ≡ r') × (y ≡ y')
+    {o : LinearSolverOptions} {r r' : Result LinearSolveReport Refusal} → Fresh (lent_of w F (length s)) x rhs start o r y
+    → NewDone w z F G s t x (Ok h) → SolveCall h z G H t u rhs start y' o r' → (r ≡ r') × (y ≡ y')
 fresh_call {w} {z} {F} {G} {H} {s} {t} {u} {x} {h} {rhs} {start} {y} {y'} {o} {r} {r'} f d c =
     let l = lent_of w F (length s) in
     let m = made_is x (build_of l x) d.built.answer in
@@ -224,10 +224,10 @@ trace_holds (Trace.solve c rest) i = trace_holds rest (solve_holds i c)
 -- After a build with weights and any calls, a solve has the answer and the solution of any other build and solve whose build was given
 -- what the book holds after those calls, in whatever stores, and whose solve was given the same as this one.
 pub refreshed_beside_fresh : {w z w' z' : List ℕ} {F G H F' G' H' : List Float} {s t u s' t' u' : List MultigridLevelStatistics} {x : Input} {h h' : Handle}
-    {events : List Event} {rhs start y y' : List Float} {o : LinearSolverOptions} {r r' : Solved}
-    → x.given ≡ true → NewDone w z F G s t x (Built.Made h) → (trace : Trace h z G t events)
+    {events : List Event} {rhs start y y' : List Float} {o : LinearSolverOptions} {r r' : Result LinearSolveReport Refusal}
+    → x.given ≡ true → NewDone w z F G s t x (Ok h) → (trace : Trace h z G t events)
     → SolveCall h z (floats_after trace) H (statistics_after trace) u rhs start y o r
-    → NewDone w' z' F' G' s' t' (book_of x events) (Built.Made h') → SolveCall h' z' G' H' t' u' rhs start y' o r'
+    → NewDone w' z' F' G' s' t' (book_of x events) (Ok h') → SolveCall h' z' G' H' t' u' rhs start y' o r'
     → (r ≡ r') × (y ≡ y')
 refreshed_beside_fresh {w' = w'} {F' = F'} {s' = s'} {x = x} {h = h} given d trace c d' c' =
     let i = trace_holds trace (built_holds x h given d (new_sound d)) in

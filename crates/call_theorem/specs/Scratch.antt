@@ -1,12 +1,12 @@
 -- What is scratch in the two stores, and what calls in stores that agree outside of it have in common. Definitions only.
 -- The law that no answer depends on scratch is `scratch-unread` of proofs/Scratch.antt.
-use Rattle.std.specs.Prelude.{◌≡◌, Bool, false, ◌&&◌, ◌||◌, List, ℕ, zero, suc, ◌+◌, leb, ltb, length, Float}
+use Rattle.solver.specs.declared.solver.LinearSolveReport.{LinearSolveReport}
+use Rattle.refusal.specs.declared.Refusal.{Refusal}
+use Rattle.std.specs.Prelude.{◌≡◌, Bool, false, ◌&&◌, ◌||◌, List, ℕ, zero, suc, ◌+◌, leb, ltb, length, Float, Result}
 use Rattle.store.specs.Region.{at, idx}
 use Rattle.options.specs.declared.options.Handle.{Handle}
 use Rattle.solver.specs.declared.solver.LinearSolverOptions.{LinearSolverOptions}
 use Rattle.layout.specs.Layout.{locate, words_end, floats_end, words_to, image_of}
-use Rattle.solver.specs.declared.answers.Solved.{Solved}
-use Rattle.solver.specs.declared.answers.Updated.{Updated}
 use Rattle.solver.specs.declared.statistics.MultigridLevelStatistics.{MultigridLevelStatistics}
 use Rattle.multigrid.specs.UpdatingCall.{UpdateCall}
 use Rattle.multigrid.specs.SolvingCall.{SolveCall}
@@ -43,10 +43,10 @@ pub record Agree (levels : ℕ) (w w' : List ℕ) (F F' : List Float) : Type 0 w
 -- What one call in w and F and one in w' and F' have in common, whatever the handle and the stores, if all else that they are given is
 -- the same: the answer, the solution, the statistics, and all that the stores hold outside scratch. An update and a solve write no words.
 pub record Unread (h : Handle) (w w' : List ℕ) (F F' : List Float) (t : List MultigridLevelStatistics) : Type 0 where
-  pub update : {G G' : List Float} {offsets columns : List ℕ} {values : List Float} {r r' : Updated}
+  pub update : {G G' : List Float} {offsets columns : List ℕ} {values : List Float} {r r' : Result Unit Refusal}
       → UpdateCall h w F G (length t) offsets columns values r → UpdateCall h w' F' G' (length t) offsets columns values r'
       → (r' ≡ r) × Agree h.levels w w' G G'
-  pub solve : {G G' : List Float} {u u' : List MultigridLevelStatistics} {rhs x y y' : List Float} {s : LinearSolverOptions} {r r' : Solved}
+  pub solve : {G G' : List Float} {u u' : List MultigridLevelStatistics} {rhs x y y' : List Float} {s : LinearSolverOptions} {r r' : Result LinearSolveReport Refusal}
       → SolveCall h w F G t u rhs x y s r → SolveCall h w' F' G' t u' rhs x y' s r'
       → (r' ≡ r) × (y' ≡ y) × (u' ≡ u) × Agree h.levels w w' G G'
   pub statistics : counted_of h w' F' (length t) ≡ counted_of h w F (length t)

@@ -1,6 +1,7 @@
 -- Stores for `max_levels` levels of the finest size are never refused by question 9: no level of a build has more rows or entries than
 -- the finest, and there are at most `max_levels` of them.
 -- Assumes nothing.
+use Rattle.std.specs.Prelude.{Ok}
 use mathlib.Core.Path.{◌≡◌, refl, sym, ap, ◌∙◌, subst}
 use mathlib.Core.Bool.{Bool, true, false, cond, ◌&&◌}
 use mathlib.Core.List.{List}
@@ -10,7 +11,6 @@ use native.Mathlib.Omega.{arith}
 use lib.Dec.{eqb, leb}
 use borrow.Author.Tests.{le-leb, eq-eqb}
 use Rattle.store.specs.Region.{idx}
-use Rattle.refusal.specs.declared.Verdict.{Verdict}
 use Rattle.refusal.specs.Refusal.{store_too_small, not_symmetric}
 use Rattle.refusal.specs.Outcome.{Outcome, accepted, passed, verdict_of}
 use Rattle.options.specs.declared.options.MultigridOptions.{MultigridOptions}
@@ -221,7 +221,7 @@ module _ (l : Lent) (x : Input) (lends : Lends l (sizes_for x.options x.rows (en
 -- Questions 1 to 7 that passed, one by one.
 arrays_passed : (x : Input) {a b c : Unit} → matrix_asked x.rows x.offsets x.columns x.values ≡ accepted a
     → cond x.given (weights_asked (entries (pattern_in x)) x.weights) passed ≡ accepted b → controls_asked x.options ≡ accepted c
-    → verdict_of (arrays_asked x) ≡ Verdict.Passed
+    → verdict_of (arrays_asked x) ≡ Ok tt
 unfolding arrays_asked
 arrays_passed x m w c = rw (m, w, c)
 

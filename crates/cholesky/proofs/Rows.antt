@@ -1,5 +1,7 @@
 -- The factor row by row: the loops over the store compute the definitions over lists.
 -- Assumes nothing.
+use Rattle.refusal.specs.declared.Refusal.{Refusal}
+use Rattle.std.specs.Prelude.{Result, Ok, Err}
 use mathlib.Core.Path.{◌≡◌, sym, ap, ◌∙◌}
 use mathlib.Core.Bool.{Bool, true, false}
 use mathlib.Core.List.{List}
@@ -11,8 +13,8 @@ use lib.ListN.{length, set, length-set}
 use Rattle.float.specs.Float.{div64, zero64, is_positive}
 use Rattle.float.specs.Sqrt.{sqrt_of}
 use Rattle.refusal.specs.Refusal.{bad_pivot}
-use Rattle.refusal.specs.declared.Verdict.{Verdict}
-use Rattle.refusal.specs.Outcome.{accepted, refused, ask}
+use Rattle.refusal.specs.Outcome.{accepted, refused}
+use Rattle.refusal.proofs.Outcome.{refuses}
 use Rattle.store.specs.Loop.{for}
 use Rattle.store.specs.Region.{at, idx, splice, Wrote}
 use Rattle.store.specs.Vector.{filled}
@@ -23,7 +25,7 @@ use Rattle.cholesky.specs.TriangleContract.{RowAt, LessOk, Less}
 use Rattle.cholesky.specs.Turns.{less_of, column_of}
 use Rattle.cholesky.specs.declared.Terminal.{Terminal}
 use Rattle.cholesky.specs.Factor.{rest_of, columns_of, factor_row_of, rows_of, cholesky_of}
-use Rattle.cholesky.specs.Contract.{csr_at, coupled_at, factor_at, entry_at, TerminalOk, PivotOk, RowDone, Factored}
+use Rattle.cholesky.specs.Contract.{csr_at, coupled_at, factor_at, entry_at, TerminalOk, PivotOk, Factored}
 use Rattle.cholesky.proofs.packed.Triangles.{tri_zero, tri_on, tri_row, tri_at}
 
 -- ---- the running starts
@@ -155,7 +157,7 @@ module _ {F G : List Float} {t : Terminal} {w : List ℕ} {row start : ℕ} {val
 
   -- A good pivot: its root ends the row.
   pub row_good : {root : Float} → b ≡ true → root ≡ sqrt_of value
-      → RowDone t (bad_pivot level (idx (coupled_at t w) row)) (factor_row_of level (coupled_at t w) (entry_at t w F) row (factor_at t F)) F (set G (t.factor + start + row) root) true
+      → Factored t (factor_row_of level (coupled_at t w) (entry_at t w F) row (factor_at t F)) F (set G (t.factor + start + row) root) (Ok tt)
   unfolding factor_row_of
   row_good {root} y s =
       let good = sym p ∙ y in
@@ -165,19 +167,25 @@ module _ {F G : List Float} {t : Terminal} {w : List ℕ} {row start : ℕ} {val
       let h : Wrote t.factor (tri t.size) (set c (tri row + row) root) F (set G (t.factor + start + row) root) =
       wrote z (length-set c (tri row + row) root ∙ g.long) in
       let i = wrote_at h ok.factor in
-      record { is = rw (← value_is, good, i, s); frame = rw i h }
+      let o : accepted (factor_at t (set G (t.factor + start + row) root)) ≡ factor_row_of level (coupled_at t w) (entry_at t w F) row (factor_at t F) =
+      rw (← value_is, good, i, s) in
+      record { answer = rw (← o); factor = λ _. sym o; frame = rw i h }
 
   -- A bad one: the row is refused.
   pub row_bad : b ≡ false
-      → RowDone t (bad_pivot level (idx (coupled_at t w) row)) (factor_row_of level (coupled_at t w) (entry_at t w F) row (factor_at t F)) F G false
+      → Factored t (factor_row_of level (coupled_at t w) (entry_at t w F) row (factor_at t F)) F G (Err (bad_pivot level (idx (coupled_at t w) row)))
   unfolding factor_row_of
-  row_bad y = let bad = sym p ∙ y in record { is = rw (← value_is, bad); frame = rw factor_is_lem g }
+  row_bad y =
+      let bad = sym p ∙ y in
+      let o : refused (bad_pivot level (idx (coupled_at t w) row)) ≡ factor_row_of level (coupled_at t w) (entry_at t w F) row (factor_at t F) =
+      rw (← value_is, bad) in
+      record { answer = rw (← o); factor = λ z. let n : ◌≡◌ {A = ℕ} 0 1 = cc in absurd (omega arith); frame = rw factor_is_lem g }
 
 -- ---- all rows
 
 -- The row that a refusal names.
 pub pivot_told : {w : List ℕ} {t : Terminal} {row own : ℕ} (level : ℕ) → PivotOk w t row → own ≡ idx w (t.coupled + row)
-    → Verdict.Refused (bad_pivot level own) ≡ Verdict.Refused (bad_pivot level (idx (coupled_at t w) row))
+    → bad_pivot level own ≡ bad_pivot level (idx (coupled_at t w) row)
 pivot_told {w} {t} {row} level ok e = rw (e, get_d_part t.coupled t.size w row 0 ok.within)
 
 -- What `bad_pivot` requires.
@@ -201,36 +209,35 @@ module _ {t : Terminal} {w : List ℕ} {level row : ℕ} {F G : List Float} (ok 
   pub factoring_ok : TerminalOk w (length G) t
   factoring_ok = rw s.frame.size ok
 
-  module _ {H : List Float} {r : Bool} (h : row < t.size) (d : RowDone t (bad_pivot level (idx (coupled_at t w) row))
-      (factor_row_of level (coupled_at t w) (entry_at t w G) row (factor_at t G)) G H r) where
+  module _ {H : List Float} {v : Result Unit Refusal} (h : row < t.size)
+      (d : Factored t (factor_row_of level (coupled_at t w) (entry_at t w G) row (factor_at t G)) G H v) where
     next : t.size - row ≡ suc (t.size - (row + 1))
     next = omega arith
 
-    done : ask r (bad_pivot level (idx (coupled_at t w) row)) (accepted (factor_at t H)) ≡ factor_row_of level (coupled_at t w) (entry_at t w F) row (factor_at t G)
-    done = rw (wrote_off s.frame t.values t.entries (omega (arith, ok.values))) at d.is
+    same : entry_at t w G ≡ entry_at t w F
+    same = rw (wrote_off s.frame t.values t.entries (omega (arith, ok.values)))
 
     -- A row that passes.
-    pub factoring_on : r ≡ true → Factoring t w level (row + 1) F H
+    pub factoring_on : v ≡ Ok tt → Factoring t w level (row + 1) F H
     unfolding rows_of
     factoring_on y =
-        let e : accepted (factor_at t H) ≡ factor_row_of level (coupled_at t w) (entry_at t w F) row (factor_at t G) = rw y at done in
-        record { left = rw (next, ← e) at s.left; frame = wrote_again s.frame d.frame }
+        let e : factor_row_of level (coupled_at t w) (entry_at t w F) row (factor_at t G) ≡ accepted (factor_at t H) = rw same at (d.factor y) in
+        record { left = rw (next, e) at s.left; frame = wrote_again s.frame d.frame }
 
     -- A row that is refused ends the factor.
-    pub factoring_no : {v : Verdict} → r ≡ false → v ≡ Verdict.Refused (bad_pivot level (idx (coupled_at t w) row))
-        → Factored t (rows_of level (coupled_at t w) (entry_at t w F) t.size 0 (factor_at t F)) F H v
+    pub factoring_no : {q : Refusal} → v ≡ Err q → Factored t (rows_of level (coupled_at t w) (entry_at t w F) t.size 0 (factor_at t F)) F H (Err q)
     unfolding rows_of
-    factoring_no y x =
-        let e : refused (bad_pivot level (idx (coupled_at t w) row)) ≡ factor_row_of level (coupled_at t w) (entry_at t w F) row (factor_at t G) = rw y at done in
-        let o : refused (bad_pivot level (idx (coupled_at t w) row)) ≡ rows_of level (coupled_at t w) (entry_at t w F) t.size 0 (factor_at t F) = rw (next, ← e) at s.left in
+    factoring_no {q} y =
+        let e : factor_row_of level (coupled_at t w) (entry_at t w F) row (factor_at t G) ≡ refused q = rw same at (refuses _ d.answer y) in
+        let o : refused q ≡ rows_of level (coupled_at t w) (entry_at t w F) t.size 0 (factor_at t F) = rw (next, e) at s.left in
         record {
-          answer = rw (← o) x;
+          answer = rw (← o);
           factor = λ z. let n : ◌≡◌ {A = ℕ} 0 1 = cc in absurd (omega arith);
           frame = wrote_again s.frame d.frame;
         }
 
   -- The last row is done.
-  pub factoring_end : t.size ≤ row → Factored t (rows_of level (coupled_at t w) (entry_at t w F) t.size 0 (factor_at t F)) F G Verdict.Passed
+  pub factoring_end : t.size ≤ row → Factored t (rows_of level (coupled_at t w) (entry_at t w F) t.size 0 (factor_at t F)) F G (Ok tt)
   unfolding rows_of
   factoring_end h =
       let z : t.size - row ≡ 0 = omega arith in
@@ -242,7 +249,7 @@ module _ {t : Terminal} {w : List ℕ} {level row : ℕ} {F G : List Float} (ok 
 module _ {w : List ℕ} {F G : List Float} {t : Terminal} {end : ℕ} (ok : TerminalOk w (length F) t) (e : end ≡ tri t.size)
     (g : Wrote t.factor end (filled end zero64) F G) where
   -- `cholesky` as the code has it.
-  pub cholesky_done : {H : List Float} {v : Verdict} (level : ℕ)
+  pub cholesky_done : {H : List Float} {v : Result Unit Refusal} (level : ℕ)
       → Factored t (rows_of level (coupled_at t w) (entry_at t w G) t.size 0 (factor_at t G)) G H v
       → Factored t (cholesky_of level (csr_at t w F) t.size (coupled_at t w)) F H v
   unfolding cholesky_of

@@ -1,8 +1,7 @@
 -- The terminal level in the stores, and what the functions that factor it require and ensure. Definitions only.
-use Rattle.std.specs.Prelude.{◌≡◌, Bool, List, ℕ, ◌+◌, ◌≤◌, ◌<◌, Float, length}
+use Rattle.std.specs.Prelude.{◌≡◌, List, ℕ, ◌+◌, ◌≤◌, ◌<◌, Float, length, Result, Ok}
 use Rattle.refusal.specs.declared.Refusal.{Refusal}
-use Rattle.refusal.specs.declared.Verdict.{Verdict}
-use Rattle.refusal.specs.Outcome.{Outcome, accepted, ask, verdict_of}
+use Rattle.refusal.specs.Outcome.{Outcome, accepted, verdict_of}
 use Rattle.store.specs.Region.{idx, part, Wrote}
 use Rattle.cholesky.specs.Triangle.{tri}
 use Rattle.cholesky.specs.declared.Terminal.{Terminal}
@@ -51,13 +50,8 @@ pub record PivotOk (w : List ℕ) (t : Terminal) (row : ℕ) : Type 0 where
   pub coupled : t.coupled + t.size ≤ length w
   pub within : row < t.size
 
--- one row of the factor: r tells whether `outcome` is accepted, with the factor so far left in G
-pub record RowDone (t : Terminal) (refusal : Refusal) (outcome : Outcome (List Float)) (F G : List Float) (r : Bool) : Type 0 where
-  pub is : ask r refusal (accepted (factor_at t G)) ≡ outcome
-  pub frame : Wrote t.factor (tri t.size) (factor_at t G) F G
-
 -- the verdict; where it passed, the factor; nothing but the factor has changed
-pub record Factored (t : Terminal) (outcome : Outcome (List Float)) (F G : List Float) (v : Verdict) : Type 0 where
+pub record Factored (t : Terminal) (outcome : Outcome (List Float)) (F G : List Float) (v : Result Unit Refusal) : Type 0 where
   pub answer : v ≡ verdict_of outcome
-  pub factor : v ≡ Verdict.Passed → outcome ≡ accepted (factor_at t G)
+  pub factor : v ≡ Ok tt → outcome ≡ accepted (factor_at t G)
   pub frame : Wrote t.factor (tri t.size) (factor_at t G) F G

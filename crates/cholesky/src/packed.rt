@@ -9,24 +9,20 @@ pub fn less(f: &[f64], p: usize, q: usize, m: usize, own: f64) -> f64
     ensures { Less f.now p q m own result }
 {
     let mut value = own;
-    let mut k = 0;
-    while k < m {
-        value = value - f[p + k] * f[q + k];
-        k += 1;
+    for k in 0..m {
+        value -= f[p + k] * f[q + k];
     }
     value
 }
 
-// Where a packed triangle of n rows ends.
+// Where a packed triangle of n rows ends: a sum, since n * (n + 1) might not fit where its half does.
 pub fn triangle(n: usize) -> usize
     requires { tri n ≤ 18446744073709551615 }
     ensures { result ≡ tri n }
 {
     let mut end = 0;
-    let mut row = 0;
-    while row < n {
+    for row in 0..n {
         end += row + 1;
-        row += 1;
     }
     end
 }

@@ -14,13 +14,11 @@ fn lower_solve(f: &mut [f64], n: usize, l: usize, x: usize) -> usize
     ensures { Lowered n l x f.old f.new result }
 {
     let mut start = 0;
-    let mut row = 0;
-    while row < n {
+    for row in 0..n {
         let own = f[x + row];
         let value = packed::less(f, l + start, x, row, own);
         f[x + row] = value / f[l + start + row];
         start += row + 1;
-        row += 1;
     }
     start
 }
@@ -33,29 +31,26 @@ fn high_rest(f: &[f64], n: usize, l: usize, x: usize, row: usize, start: usize) 
 {
     let mut value = f[x + row];
     let mut own = start + row + 1;
-    let mut k = row + 1;
-    while k < n {
-        value = value - f[l + own + row] * f[x + k];
+    for k in row + 1..n {
+        value -= f[l + own + row] * f[x + k];
         own += k + 1;
-        k += 1;
     }
     value
 }
 
 // Backward substitution in place; the factor ends at top.
+// No `rev`: `Raised` speaks of the count j of the rows done.
 fn upper_solve(f: &mut [f64], n: usize, l: usize, x: usize, top: usize)
     requires solve_ok { SolveOk (length f.old) n l x }
     requires top_value { top ≡ tri n }
     ensures { Raised n l x f.old f.new }
 {
     let mut start = top;
-    let mut j = 0;
-    while j < n {
+    for j in 0..n {
         let row = n - 1 - j;
         start -= row + 1;
         let value = high_rest(f, n, l, x, row, start);
         f[x + row] = value / f[l + start + row];
-        j += 1;
     }
 }
 

@@ -1,5 +1,6 @@
 -- The terminal solve: the loops over the store compute the definitions over lists, and the ways out of `solve`.
 -- Assumes nothing.
+use Rattle.std.specs.Prelude.{Ok, Err}
 use mathlib.Core.Path.{◌≡◌, sym, ap, ◌∙◌}
 use mathlib.Core.Bool.{Bool, true, false}
 use mathlib.Core.List.{List}
@@ -9,7 +10,6 @@ use lib.Ieee.{Float, nan}
 use lib.ListN.{length, set, length-set}
 use Rattle.float.specs.Float.{mul64}
 use Rattle.refusal.specs.Refusal.{bad_coarse_solution}
-use Rattle.refusal.specs.declared.Verdict.{Verdict}
 use Rattle.store.specs.Loop.{for}
 use Rattle.store.specs.Region.{at, idx, part, splice, Wrote}
 use Rattle.store.proofs.store.Loop.{for_map, Left, left_end}
@@ -182,11 +182,11 @@ module _ {w : List ℕ} {F G : List Float} {inverse rhs x work : ℕ} {t : Termi
         }
 
     -- 24 passed.
-    pub solve_yes : r ≡ true → Solved t w inverse rhs x work F H Verdict.Passed
+    pub solve_yes : r ≡ true → Solved t w inverse rhs x work F H (Ok tt)
     unfolding terminal_of
     solve_yes y = let z = rw solution_is at (sym e ∙ y) in record { answer = rw z; solution = solution_is; frame = frame }
 
     -- 24 refused.
-    pub solve_no : r ≡ false → Solved t w inverse rhs x work F H (Verdict.Refused bad_coarse_solution)
+    pub solve_no : r ≡ false → Solved t w inverse rhs x work F H (Err bad_coarse_solution)
     unfolding terminal_of
     solve_no y = let z = rw solution_is at (sym e ∙ y) in record { answer = rw z; solution = solution_is; frame = frame }

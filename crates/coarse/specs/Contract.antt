@@ -1,6 +1,6 @@
 -- What the functions of the terminal solve require and ensure. Definitions only.
-use Rattle.std.specs.Prelude.{◌≡◌, List, ℕ, ◌+◌, ◌≤◌, ◌<◌, Float, length}
-use Rattle.refusal.specs.declared.Verdict.{Verdict}
+use Rattle.refusal.specs.declared.Refusal.{Refusal}
+use Rattle.std.specs.Prelude.{◌≡◌, List, ℕ, ◌+◌, ◌≤◌, ◌<◌, Float, length, Result}
 use Rattle.refusal.specs.Outcome.{verdict_of}
 use Rattle.store.specs.Region.{idx, part, Clear}
 use Rattle.cholesky.specs.Triangle.{tri}
@@ -51,7 +51,7 @@ pub record CoupledSolved (t : Terminal) (w : List ℕ) (rhs x work : ℕ) (F G :
   pub frame : Outside t.rows x work (work + t.size + t.size) F G
 
 -- the verdict, and x whether passed or refused
-pub record Solved (t : Terminal) (w : List ℕ) (inverse rhs x work : ℕ) (F G : List Float) (v : Verdict) : Type 0 where
+pub record Solved (t : Terminal) (w : List ℕ) (inverse rhs x work : ℕ) (F G : List Float) (v : Result Unit Refusal) : Type 0 where
   pub answer : v
       ≡ verdict_of (terminal_of t.rows (part inverse t.rows F) t.size (coupled_at t w) (factor_at t F) (part rhs t.rows F))
   pub solution : part x t.rows G

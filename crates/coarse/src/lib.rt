@@ -7,7 +7,7 @@ ghost use Rattle.coarse.specs.Turns.{diagonal_of, gather_of, scatter_of};
 ghost use Rattle.coarse.specs.Contract.{DiagonalOk, SpreadOk, CoupledOk, CoupledSolved, SolutionOk, Solved};
 
 use cholesky::{Terminal, solve_factor};
-use refusal::Verdict;
+use refusal::Refusal;
 
 // x = rhs / diagonal, by the reciprocals.
 fn diagonal(f: &mut [f64], n: usize, inverse: usize, rhs: usize, x: usize)
@@ -15,10 +15,8 @@ fn diagonal(f: &mut [f64], n: usize, inverse: usize, rhs: usize, x: usize)
     ensures { Wrote x n (diagonal_of n (part inverse n f.old) (part rhs n f.old)) f.old
         f.new }
 {
-    let mut row = 0;
-    while row < n {
+    for row in 0..n {
         f[x + row] = f[rhs + row] * f[inverse + row];
-        row += 1;
     }
 }
 
@@ -28,26 +26,22 @@ fn gather(w: &[u32], f: &mut [f64], n: usize, count: usize, coupled: usize, rhs:
     ensures { Wrote u count (gather_of count (part coupled count w.now) (part rhs n f.old))
         f.old f.new }
 {
-    let mut k = 0;
-    while k < count {
+    for k in 0..count {
         let row = store::index_at(w, coupled, k, n);
         f[u + k] = f[rhs + row];
-        k += 1;
     }
 }
 
-// The compact solution at u, into the coupled rows of x.
+// The compact solution at u, into the coupled rows of x. It is no twin of `gather`: what it writes may go to any row of x.
 fn scatter(w: &[u32], f: &mut [f64], n: usize, count: usize, coupled: usize, u: usize, x: usize)
     requires { SpreadOk w.now (length f.old) n count coupled x u }
     ensures { Wrote x n
         (scatter_of count (part coupled count w.now) (part u count f.old) (part x n f.old))
         f.old f.new }
 {
-    let mut k = 0;
-    while k < count {
+    for k in 0..count {
         let row = store::index_at(w, coupled, k, n);
         f[x + row] = f[u + k];
-        k += 1;
     }
 }
 
@@ -56,14 +50,10 @@ fn solve_coupled(w: &[u32], f: &mut [f64], t: Terminal, rhs: usize, x: usize, wo
     requires { CoupledOk w.now (length f.old) t rhs x work }
     ensures { CoupledSolved t w.now rhs x work f.old f.new }
 {
-    let n = t.rows;
-    let count = t.size;
-    let coupled = t.coupled;
-    let l = t.factor;
-    let solution = work + count;
-    gather(w, f, n, count, coupled, rhs, work);
-    solve_factor(f, count, l, work, solution);
-    scatter(w, f, n, count, coupled, solution, x);
+    let solution = work + t.size;
+    gather(w, f, t.rows, t.size, t.coupled, rhs, work);
+    solve_factor(f, t.size, t.factor, work, solution);
+    scatter(w, f, t.rows, t.size, t.coupled, solution, x);
 }
 
 // The terminal level: every row by its diagonal, the coupled ones by the factor, and question 24 over all of x.
@@ -75,7 +65,7 @@ pub fn solve(
     rhs: usize,
     x: usize,
     work: usize,
-) -> Verdict
+) -> Result<(), Refusal>
     requires { SolutionOk w.now (length f.old) t inverse rhs x work }
     ensures { Solved t w.now inverse rhs x work f.old f.new result }
 {
@@ -83,8 +73,8 @@ pub fn solve(
     diagonal(f, n, inverse, rhs, x);
     solve_coupled(w, f, t, rhs, x, work);
     if vector::all_finite(f, n, x) {
-        Verdict::Passed
+        Ok(())
     } else {
-        Verdict::Refused(refusal::BAD_COARSE_SOLUTION)
+        Err(refusal::BAD_COARSE_SOLUTION)
     }
 }

@@ -1,7 +1,8 @@
 -- Merged steps in the stores: what the functions require and ensure. Definitions only.
-use Rattle.std.specs.Prelude.{◌≡◌, Bool, List, ℕ, ◌+◌, ◌≤◌, length, Float}
+use Rattle.std.specs.Prelude.{◌≡◌, Bool, List, ℕ, ◌+◌, ◌≤◌, length, Float, Result, Ok, Err}
 use Rattle.store.specs.Region.{part, Kept}
 use Rattle.options.specs.declared.options.MultigridOptions.{MultigridOptions}
+use Rattle.refusal.specs.declared.Refusal.{Refusal}
 use Rattle.refusal.specs.Outcome.{Outcome, accepted, refused}
 use Rattle.pattern.specs.Pattern.{entries, Maps, Onto}
 use Rattle.hierarchy.specs.Proper.{Proper}
@@ -11,9 +12,9 @@ use Rattle.coarsening.specs.CoarsenContract.{pattern_at, mesh_at, merged_in, Wor
 use Rattle.coarsening.specs.declared.merging.Merging.{Merging}
 
 -- the answer of merged steps
-abbrev pub merging_of : Outcome Merged → Merging
-merging_of (accepted s) = Merging.Done s.mesh.pattern.rows (entries s.mesh.pattern) s.stage
-merging_of (refused q) = Merging.Refused q
+abbrev pub merging_of : Outcome Merged → Result Merging Refusal
+merging_of (accepted s) = Ok (record { count = s.mesh.pattern.rows; entries = entries s.mesh.pattern; stage = s.stage })
+merging_of (refused q) = Err q
 
 -- The matrix made last, of `count` rows and so many entries, stands in the temporaries with a proper pattern, and at `map`, below the
 -- temporaries, the aggregate in it of each of `rows` rows.
@@ -34,7 +35,7 @@ merge_at o given w F t rows map count most stage steps level =
     merge_of o given steps level (merged (mesh_at w F given (merged_in t count most)) (part map rows w) stage)
 
 -- What they ensure: the definition's answer; where it accepts, its matrix and its map. Below the map nothing changed.
-pub record MergeDone (o : MultigridOptions) (given : Bool) (w z : List ℕ) (F G : List Float) (t : Workspace) (rows map count most stage steps level : ℕ) (r : Merging) : Type 0 where
+pub record MergeDone (o : MultigridOptions) (given : Bool) (w z : List ℕ) (F G : List Float) (t : Workspace) (rows map count most stage steps level : ℕ) (r : Result Merging Refusal) : Type 0 where
   pub answer : r ≡ merging_of (merge_at o given w F t rows map count most stage steps level)
   pub mesh : (s : Merged) → merge_at o given w F t rows map count most stage steps level ≡ accepted s
       → mesh_at z G given (merged_in t s.mesh.pattern.rows (entries s.mesh.pattern)) ≡ s.mesh

@@ -1,8 +1,8 @@
 -- One merged step in the stores, up to its pairing and after it: what the inner functions require and ensure. Definitions only.
-use Rattle.std.specs.Prelude.{◌≡◌, Bool, not, cond, List, ℕ, ◌+◌, ◌≤◌, ◌<◌, length, Float}
+use Rattle.refusal.specs.declared.Refusal.{Refusal}
+use Rattle.std.specs.Prelude.{◌≡◌, Bool, not, cond, List, ℕ, ◌+◌, ◌≤◌, ◌<◌, length, Float, Result, Ok, Err, Option, Some, None}
 use Rattle.store.specs.Region.{idx, part, Kept}
 use Rattle.options.specs.declared.options.MultigridOptions.{MultigridOptions}
-use Rattle.refusal.specs.declared.Verdict.{Verdict}
 use Rattle.refusal.specs.Outcome.{Outcome, accepted, refused, ask_each}
 use Rattle.vector.specs.Finite.{all_finite}
 use Rattle.coefficients.specs.Update.{Coefficients, diagonal_asked}
@@ -17,7 +17,6 @@ use Rattle.hierarchy.specs.Steps.{joined_step, merge_step}
 use Rattle.coarsening.specs.declared.coarsen.Workspace.{Workspace}
 use Rattle.coarsening.specs.declared.coarsen.Formation.{Formation}
 use Rattle.coarsening.specs.CoarsenContract.{pattern_at, mesh_at, merged_in, coarse_at, WorkOk}
-use Rattle.coarsening.specs.declared.merging.Attempt.{Attempt}
 
 -- the matrix made last as `faces` takes it
 abbrev pub faces_in : Workspace → ℕ → ℕ → Faces
@@ -56,7 +55,7 @@ pub record RowsOk (w : List ℕ) (floats rows entries places values : ℕ) : Typ
   pub image : values + entries ≤ floats
 
 -- The verdict decides how the questions go on.
-pub record RowsAsked (w : List ℕ) (F : List Float) (rows entries places values level : ℕ) (r : Verdict) : Type 0 where
+pub record RowsAsked (w : List ℕ) (F : List Float) (rows entries places values level : ℕ) (r : Result Unit Refusal) : Type 0 where
   pub asked : (rest : Outcome Coefficients)
       → ask_each rows (λ row. diagonal_asked level row (diagonal_at w rows entries places values F row)) rest ≡ after r rest
 
@@ -74,19 +73,19 @@ abbrev pub paired_at : MultigridOptions → Bool → List ℕ → List Float →
 paired_at o given w F t count most stage = paired o given stage (mesh_at w F given (merged_in t count most))
 
 -- how a step goes on after an attempt
-abbrev pub step_by : MultigridOptions → Bool → (Merged → Outcome Merged) → Merged → Attempt → Outcome Merged
-step_by o given further s (Attempt.Refused q) = refused q
-step_by o given further s Attempt.Few = accepted s
-step_by o given further s (Attempt.Paired c) = joined_step o given further s (paired o given s.stage s.mesh)
+abbrev pub step_by : MultigridOptions → Bool → (Merged → Outcome Merged) → Merged → Result (Option ℕ) Refusal → Outcome Merged
+step_by o given further s (Err q) = refused q
+step_by o given further s (Ok None) = accepted s
+step_by o given further s (Ok (Some c)) = joined_step o given further s (paired o given s.stage s.mesh)
 
 -- The attempt decides how the step goes on; a pairing's count, and its map in the temporaries. Below that nothing changed.
 pub record PairDone (o : MultigridOptions) (given : Bool) (w z : List ℕ) (F : List Float) (t : Workspace) (count most stage level : ℕ)
-    (r : Attempt) : Type 0 where
+    (r : Result (Option ℕ) Refusal) : Type 0 where
   pub step : (further : Merged → Outcome Merged) (map : List ℕ)
       → merge_step o given further level (merged (mesh_at w F given (merged_in t count most)) map stage)
       ≡ step_by o given further (merged (mesh_at w F given (merged_in t count most)) map stage) r
-  pub joined : (c : ℕ) → r ≡ Attempt.Paired c → c ≡ (paired_at o given w F t count most stage).count
-  pub map : (c : ℕ) → r ≡ Attempt.Paired c → part t.map count z ≡ (paired_at o given w F t count most stage).map
+  pub joined : (c : ℕ) → r ≡ Ok (Some c) → c ≡ (paired_at o given w F t count most stage).count
+  pub map : (c : ℕ) → r ≡ Ok (Some c) → part t.map count z ≡ (paired_at o given w F t count most stage).map
   pub words : Kept t.map w z
 
 -- ---- after the pairing

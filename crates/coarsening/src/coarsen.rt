@@ -9,7 +9,7 @@ use faces::mirrors::mirrors;
 use faces::{Faces, face_offsets, fill_faces};
 use galerkin::{restrict_weights, sum_entries, symmetrize};
 use pattern::{Coarsening, coarse_pattern};
-use store::{copy, copy_words};
+use store::copy;
 use vector::all_finite;
 
 // A matrix in the stores: its pattern in the words, its values and weights in the floats.
@@ -52,6 +52,7 @@ pub struct Workspace {
 }
 
 // The entries of a coarse matrix, and whether all its values are finite: question 18.
+// No Option: `Stepped` and `Repaired` promise the matrix and the number of its entries where a value is not finite too.
 #[derive(Clone, Copy)]
 pub struct Formation {
     pub entries: usize,
@@ -66,7 +67,7 @@ fn couple(w: &mut [u32], count: usize, entries: usize, t: Workspace) -> usize
 {
     let mut s = Faces {
         rows: count,
-        entries: entries,
+        entries,
         faces: 0,
         offsets: t.coarse_offsets,
         columns: t.coarse_columns,
@@ -109,10 +110,10 @@ fn form(w: &mut [u32], f: &mut [f64], m: Held, map: usize, count: usize, t: Work
     let c = Coarsening {
         rows: m.rows,
         entries: m.entries,
-        count: count,
+        count,
         offsets: m.offsets,
         columns: m.columns,
-        map: map,
+        map,
         positions: t.positions,
         coarse_offsets: t.coarse_offsets,
         coarse_columns: t.coarse_columns,
@@ -121,10 +122,7 @@ fn form(w: &mut [u32], f: &mut [f64], m: Held, map: usize, count: usize, t: Work
     let entries = coarse_pattern(w, c);
     let faces = couple(w, count, entries, t);
     let finite = total(w, f, m, t, entries, faces);
-    Formation {
-        entries: entries,
-        finite: finite,
-    }
+    Formation { entries, finite }
 }
 
 // Its weights, where weights are given.
@@ -160,8 +158,8 @@ fn settle_words(
     requires { SettleOk (length w.old) count entries t offsets columns }
     ensures { Settled w.old w.new count entries t offsets columns }
 {
-    copy_words(w, count + 1, t.coarse_offsets, offsets);
-    copy_words(w, entries, t.coarse_columns, columns);
+    copy(w, count + 1, t.coarse_offsets, offsets);
+    copy(w, entries, t.coarse_columns, columns);
 }
 
 // n values and, where they are given, n weights, copied to where they are to stand.
@@ -227,7 +225,7 @@ pub fn repair(
     ensures { Repaired w.old w.new f.old f.new given m map count t to result }
 {
     let r = form(w, f, m, map, count, t);
-    copy_words(w, m.entries, t.positions, to);
+    copy(w, m.entries, t.positions, to);
     settle_words(w, count, r.entries, t, t.offsets, t.columns);
     settle_floats(
         f,

@@ -11,25 +11,14 @@ use crate::coarsen::{Formation, Held, Workspace};
 use aggregation::Graph;
 use faces::{Faces, diagonals};
 use options::MultigridOptions;
-use refusal::{Refusal, Verdict};
+use refusal::Refusal;
 
-// The matrix that merged steps ended with, and the pairings made so far; or a refusal.
+// What merged steps end with: the rows and entries of their matrix, and the pairings made so far.
 #[derive(Clone, Copy)]
-pub enum Merging {
-    Done {
-        count: usize,
-        entries: usize,
-        stage: u64,
-    },
-    Refused(Refusal),
-}
-
-// What a step comes to: a refusal, few coupled rows, or a pairing into so many aggregates.
-#[derive(Clone, Copy)]
-enum Attempt {
-    Refused(Refusal),
-    Few,
-    Paired(usize),
+pub struct Merging {
+    pub count: usize,
+    pub entries: usize,
+    pub stage: u64,
 }
 
 // The matrix that merged steps made last, in the temporaries.
@@ -37,8 +26,8 @@ fn merged_in(t: Workspace, rows: usize, entries: usize) -> Held
     ensures { result ≡ merged_in t rows entries }
 {
     Held {
-        rows: rows,
-        entries: entries,
+        rows,
+        entries,
         offsets: t.merged_offsets,
         columns: t.merged_columns,
         values: t.merged_values,
@@ -51,8 +40,8 @@ fn faces_in(t: Workspace, rows: usize, entries: usize) -> Faces
     ensures { result ≡ faces_in t rows entries }
 {
     Faces {
-        rows: rows,
-        entries: entries,
+        rows,
+        entries,
         faces: 0,
         offsets: t.merged_offsets,
         columns: t.merged_columns,
@@ -69,8 +58,8 @@ fn graph_in(t: Workspace, rows: usize, entries: usize, given: bool, cap: u64) ->
     ensures { result ≡ graph_in t rows entries given cap }
 {
     Graph {
-        rows: rows,
-        entries: entries,
+        rows,
+        entries,
         offsets: t.merged_offsets,
         columns: t.merged_columns,
         map: t.map,
@@ -80,28 +69,28 @@ fn graph_in(t: Workspace, rows: usize, entries: usize, given: bool, cap: u64) ->
             t.merged_values
         },
         absolute: !given,
-        cap: cap,
+        cap,
     }
 }
 
 // Questions 12 and 13 of a row whose diagonal is d.
-fn check_row(d: f64, level: u64, row: u64) -> Verdict
+fn check_row(d: f64, level: u64, row: u64) -> Result<(), Refusal>
     ensures { result ≡ verdict_of (diagonal_asked level row d) }
 {
     if float::is_positive(d) {
         if float::is_finite(1.0 / d) {
-            return Verdict::Passed;
+            return Ok(());
         }
-        return Verdict::Refused(Refusal {
+        return Err(Refusal {
             number: refusal::BAD_RECIPROCAL,
-            level: level,
-            row: row,
+            level,
+            row,
         });
     }
-    Verdict::Refused(Refusal {
+    Err(Refusal {
         number: refusal::BAD_DIAGONAL,
-        level: level,
-        row: row,
+        level,
+        row,
     })
 }
 
@@ -114,27 +103,18 @@ fn check_rows(
     places: usize,
     values: usize,
     level: u64,
-) -> Verdict
+) -> Result<(), Refusal>
     requires { RowsOk w.now (length f.now) rows entries places values }
     ensures { RowsAsked w.now f.now rows entries places values level result }
 {
-    let mut row = 0;
-    while row < rows {
+    for row in 0..rows {
         let entry = store::index_at(w, places, row, entries);
-        let asked = check_row(f[values + entry], level, row as u64);
-        match asked {
-            Verdict::Passed => {
-                row += 1;
-            }
-            Verdict::Refused(refusal) => {
-                return Verdict::Refused(refusal);
-            }
-        }
+        check_row(f[values + entry], level, row as u64)?;
     }
-    Verdict::Passed
+    Ok(())
 }
 
-// A step up to the pairing, which goes to the temporary map.
+// A step up to the pairing, which goes to the temporary map: the number of aggregates, or none where few rows are coupled.
 fn pair(
     w: &mut [u32],
     f: &[f64],
@@ -145,26 +125,21 @@ fn pair(
     entries: usize,
     stage: u64,
     level: u64,
-) -> Attempt
+) -> Result<Option<usize>, Refusal>
     requires { PairOk w.old (length f.now) t count entries }
     ensures { PairDone o given w.old w.new f.now t count entries stage level result }
 {
     let s = faces_in(t, count, entries);
-    // a merged matrix has every diagonal entry
-    diagonals::diagonals(w, s, level);
-    let asked = check_rows(w, f, count, entries, t.diagonals, t.merged_values, level);
-    match asked {
-        Verdict::Refused(refusal) => Attempt::Refused(refusal),
-        Verdict::Passed => {
-            let coupled = faces::coupled_count(w, s);
-            if coupled as u64 <= o.coarsest_cells {
-                return Attempt::Few;
-            }
-            let g = graph_in(t, count, entries, given, o.max_aggregate_cells);
-            let joined = aggregation::pairs(w, f, g, stage % 2 == 0);
-            Attempt::Paired(joined)
-        }
+    // The answer is known: a merged matrix has every diagonal entry.
+    let _ = diagonals::diagonals(w, s, level);
+    check_rows(w, f, count, entries, t.diagonals, t.merged_values, level)?;
+    let coupled = faces::coupled_count(w, s);
+    if coupled as u64 <= o.coarsest_cells {
+        return Ok(None);
     }
+    let g = graph_in(t, count, entries, given, o.max_aggregate_cells);
+    let joined = aggregation::pairs(w, f, g, stage % 2 == 0);
+    Ok(Some(joined))
 }
 
 // A step after a pairing: the level's map follows it, and the matrix of the aggregates takes the place of the last.
@@ -201,52 +176,49 @@ pub fn merge(
     stage: u64,
     steps: u64,
     level: u64,
-) -> Merging
+) -> Result<Merging, Refusal>
     requires { MergeOk w.old (length f.old) t rows map count entries stage steps }
     ensures { MergeDone o given w.old w.new f.old f.new
         t rows map count entries stage steps level result }
 {
     if steps == 0 {
-        return Merging::Done {
-            count: count,
-            entries: entries,
-            stage: stage,
-        };
+        return Ok(Merging {
+            count,
+            entries,
+            stage,
+        });
     }
-    let found = pair(w, f, o, given, t, count, entries, stage, level);
-    match found {
-        Attempt::Refused(refusal) => Merging::Refused(refusal),
-        Attempt::Few => Merging::Done {
-            count: count,
-            entries: entries,
-            stage: stage,
-        },
-        Attempt::Paired(joined) => {
-            if joined == count {
-                return Merging::Done {
-                    count: count,
-                    entries: entries,
-                    stage: stage + 1,
-                };
-            }
-            let made = join(w, f, given, t, rows, map, count, entries, joined);
-            if made.finite {
-                return merge(
-                    w,
-                    f,
-                    o,
-                    given,
-                    t,
-                    rows,
-                    map,
-                    joined,
-                    made.entries,
-                    stage + 1,
-                    steps - 1,
-                    level,
-                );
-            }
-            Merging::Refused(refusal::BAD_COARSE_VALUE)
-        }
+    let found = pair(w, f, o, given, t, count, entries, stage, level)?;
+    let Some(joined) = found else {
+        return Ok(Merging {
+            count,
+            entries,
+            stage,
+        });
+    };
+    if joined == count {
+        return Ok(Merging {
+            count,
+            entries,
+            stage: stage + 1,
+        });
     }
+    let made = join(w, f, given, t, rows, map, count, entries, joined);
+    if !made.finite {
+        return Err(refusal::BAD_COARSE_VALUE);
+    }
+    merge(
+        w,
+        f,
+        o,
+        given,
+        t,
+        rows,
+        map,
+        joined,
+        made.entries,
+        stage + 1,
+        steps - 1,
+        level,
+    )
 }

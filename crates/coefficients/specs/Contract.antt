@@ -1,7 +1,7 @@
 -- Values taken from an image, and mirrors that agree: what the functions require and ensure. Definitions only.
-use Rattle.std.specs.Prelude.{Bool, ◌&&◌, List, ◌≡◌, ℕ, ◌+◌, ◌≤◌, ◌<◌, length, set, take, drop, Float}
+use Rattle.refusal.specs.declared.Refusal.{Refusal}
+use Rattle.std.specs.Prelude.{Bool, ◌&&◌, List, ◌≡◌, ℕ, ◌+◌, ◌≤◌, ◌<◌, length, set, take, drop, Float, Result, Ok, Err}
 use Rattle.float.specs.Float.{div64, one64, is_finite, is_positive}
-use Rattle.refusal.specs.declared.Verdict.{Verdict}
 use Rattle.refusal.specs.Outcome.{Outcome, accepted, refused, ask_each, verdict_of}
 use Rattle.store.specs.Region.{at, idx, part, splice, Wrote}
 use Rattle.store.specs.Vector.{tab, each}
@@ -55,7 +55,7 @@ pub record UpdateOk (w : List ℕ) (size : ℕ) (s : SymmetricMatrix) (e : Entri
   pub recips : s.inverse + s.rows ≤ size
 
 -- What it ensures: the definition's answer, its values where it accepts, and in any case nothing else changed.
-pub record Updated (w : List ℕ) (s : SymmetricMatrix) (o : Outcome Coefficients) (F G : List Float) (r : Verdict) : Type 0 where
+pub record Updated (w : List ℕ) (s : SymmetricMatrix) (o : Outcome Coefficients) (F G : List Float) (r : Result Unit Refusal) : Type 0 where
   pub verdict : r ≡ verdict_of o
   pub holds : (k : Coefficients) → o ≡ accepted k → Holds w s k G
   pub within : Within s.coefficients (s.inverse + s.rows) F G
@@ -83,9 +83,9 @@ pub record Inverted (rows diagonal inverse : ℕ) (F G : List Float) (r : Bool) 
   pub all : r ≡ each (λ row. diagonal_good (at F (diagonal + row))) rows
 
 -- a verdict, then the rest
-unfoldable pub after : Verdict → Outcome Coefficients → Outcome Coefficients
-after Verdict.Passed rest = rest
-after (Verdict.Refused q) rest = refused q
+unfoldable pub after : Result Unit Refusal → Outcome Coefficients → Outcome Coefficients
+after (Ok tt) rest = rest
+after (Err q) rest = refused q
 
 module _ (w : List ℕ) (rows entries places values : ℕ) (F : List Float) where
   -- the diagonal of a row, read in the stores
@@ -93,11 +93,11 @@ module _ (w : List ℕ) (rows entries places values : ℕ) (F : List Float) wher
   diagonal_at = entry_of (part places rows w) (part values entries F)
 
 -- the verdict on the rows whose diagonal stands in F decides how the questions go on
-pub record RowsAsked (level rows diagonal : ℕ) (F : List Float) (r : Verdict) : Type 0 where
+pub record RowsAsked (level rows diagonal : ℕ) (F : List Float) (r : Result Unit Refusal) : Type 0 where
   pub asked : (rest : Outcome Coefficients) → ask_each rows (λ row. diagonal_asked level row (at F (diagonal + row))) rest ≡ after r rest
 
 -- the same, and each reciprocal written
-pub record RowsTold (level rows diagonal inverse : ℕ) (F G : List Float) (r : Verdict) : Type 0 where
+pub record RowsTold (level rows diagonal inverse : ℕ) (F G : List Float) (r : Result Unit Refusal) : Type 0 where
   pub is : G ≡ splice inverse (tab (λ row. div64 one64 (at F (diagonal + row))) rows) F
   pub asked : (rest : Outcome Coefficients) → ask_each rows (λ row. diagonal_asked level row (at F (diagonal + row))) rest ≡ after r rest
 

@@ -18,12 +18,10 @@ pub fn mirrors_agree(w: &[u32], values: &[f64], faces: usize, upper: usize, lowe
 {
     let count = values.len();
     let mut ok = true;
-    let mut face = 0;
-    while face < faces {
+    for face in 0..faces {
         let a = store::index_at(w, upper, face, count);
         let b = store::index_at(w, lower, face, count);
         ok = ok & pair_agrees(values[a], values[b]);
-        face += 1;
     }
     ok
 }
@@ -45,14 +43,12 @@ pub fn take_faces(
 {
     let count = values.len();
     let mut ok = true;
-    let mut face = 0;
-    while face < faces {
+    for face in 0..faces {
         let a = store::index_at(w, upper, face, count);
         let b = store::index_at(w, lower, face, count);
         let v = values[a];
         ok = ok & pair_agrees(v, values[b]);
         f[to + face] = v;
-        face += 1;
     }
     ok
 }

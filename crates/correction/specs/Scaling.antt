@@ -1,5 +1,6 @@
 -- The factor by which a correction is scaled (cycle.rs), over lists. Definitions only.
-use Rattle.std.specs.Prelude.{cond, ◌&&◌, List, ℕ, ◌+◌, ◌≤◌, Float}
+use Rattle.refusal.specs.declared.Refusal.{Refusal}
+use Rattle.std.specs.Prelude.{cond, ◌&&◌, List, ℕ, ◌+◌, ◌≤◌, Float, Result, Ok, Err}
 use Rattle.std.specs.Float.Ieee.{lt}
 use Rattle.float.specs.Float.{add64, mul64, div64, zero64, is_finite}
 use Rattle.refusal.specs.Refusal.{bad_correction_product, bad_correction_scale}
@@ -7,7 +8,6 @@ use Rattle.refusal.specs.Outcome.{Outcome, accepted, refused, ask, ◌>>◌}
 use Rattle.store.specs.Loop.{for}
 use Rattle.store.specs.Region.{at}
 use Rattle.correction.specs.declared.scaling.Products.{Products}
-use Rattle.correction.specs.declared.scaling.Factor.{Factor}
 
 -- both products
 abbrev pub both : Float → Float → Products
@@ -29,9 +29,9 @@ correction_factor_of n correction residual product = do
   accepted factor
 
 -- what a function that scales answers
-abbrev pub factor_of : Outcome Float → Factor
-factor_of (accepted factor) = Factor.Factor factor
-factor_of (refused q) = Factor.Refused q
+abbrev pub factor_of : Outcome Float → Result Float Refusal
+factor_of (accepted factor) = Ok factor
+factor_of (refused q) = Err q
 
 -- three regions of n elements in a store of that size
 pub record ProductsOk (size n correction residual product : ℕ) : Type 0 where

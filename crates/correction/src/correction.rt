@@ -11,10 +11,8 @@ pub fn subtract(f: &mut [f64], n: usize, rhs: usize, product: usize, out: usize)
         (subtract_of n (part rhs n f.old) (part product n f.old))
         f.old f.new }
 {
-    let mut row = 0;
-    while row < n {
+    for row in 0..n {
         f[out + row] = f[rhs + row] - f[product + row];
-        row += 1;
     }
 }
 
@@ -25,9 +23,7 @@ pub fn add_plain(f: &mut [f64], n: usize, correction: usize, x: usize)
         (add_plain_of n (part correction n f.old) (part x n f.old))
         f.old f.new }
 {
-    let mut row = 0;
-    while row < n {
-        f[x + row] = f[x + row] + f[correction + row];
-        row += 1;
+    for row in 0..n {
+        f[x + row] += f[correction + row];
     }
 }

@@ -8,5 +8,5 @@ pub mod transfer;
 
 pub use correction::{add_plain, subtract};
 pub use scaled::add_scaled;
-pub use scaling::{Factor, correction_factor};
+pub use scaling::correction_factor;
 pub use transfer::{add_prolonged, prolong, restrict};

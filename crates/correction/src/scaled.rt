@@ -20,10 +20,8 @@ pub fn add_scaled(
         (part product n f.old) (part inverse n f.old) (part x n f.old))
         f.old f.new }
 {
-    let mut row = 0;
-    while row < n {
+    for row in 0..n {
         let step = (f[residual + row] - factor * f[product + row]) * f[inverse + row];
-        f[x + row] = f[x + row] + (factor * f[correction + row] + step);
-        row += 1;
+        f[x + row] += factor * f[correction + row] + step;
     }
 }

@@ -12,13 +12,6 @@ pub struct Products {
     pub denominator: f64,
 }
 
-// The factor by which a correction is scaled, or the refusal of one that is not finite.
-#[derive(Clone, Copy)]
-pub enum Factor {
-    Factor(f64),
-    Refused(Refusal),
-}
-
 // The two products of a correction, each in row order.
 pub fn correction_products(
     f: &[f64],
@@ -33,11 +26,9 @@ pub fn correction_products(
 {
     let mut numerator = 0.0;
     let mut denominator = 0.0;
-    let mut row = 0;
-    while row < n {
-        numerator = numerator + f[correction + row] * f[residual + row];
-        denominator = denominator + f[correction + row] * f[product + row];
-        row += 1;
+    for row in 0..n {
+        numerator += f[correction + row] * f[residual + row];
+        denominator += f[correction + row] * f[product + row];
     }
     Products {
         numerator,
@@ -57,17 +48,17 @@ fn quotient(numerator: f64, denominator: f64) -> f64
 }
 
 // Questions 26 and 27: the products are finite, and so is their quotient.
-fn scale(numerator: f64, denominator: f64) -> Factor
+fn scale(numerator: f64, denominator: f64) -> Result<f64, Refusal>
     ensures { result ≡ factor_of (scale_of numerator denominator) }
 {
     if !(float::is_finite(numerator) & float::is_finite(denominator)) {
-        return Factor::Refused(refusal::BAD_CORRECTION_PRODUCT);
+        return Err(refusal::BAD_CORRECTION_PRODUCT);
     }
     let factor = quotient(numerator, denominator);
     if float::is_finite(factor) {
-        Factor::Factor(factor)
+        Ok(factor)
     } else {
-        Factor::Refused(refusal::BAD_CORRECTION_SCALE)
+        Err(refusal::BAD_CORRECTION_SCALE)
     }
 }
 
@@ -78,11 +69,14 @@ pub fn correction_factor(
     correction: usize,
     residual: usize,
     product: usize,
-) -> Factor
+) -> Result<f64, Refusal>
     requires { ProductsOk (length f.now) n correction residual product }
     ensures { result ≡ factor_of (correction_factor_of n (part correction n f.now)
         (part residual n f.now) (part product n f.now)) }
 {
-    let products = correction_products(f, n, correction, residual, product);
-    scale(products.numerator, products.denominator)
+    let Products {
+        numerator,
+        denominator,
+    } = correction_products(f, n, correction, residual, product);
+    scale(numerator, denominator)
 }

@@ -12,11 +12,9 @@ fn gather(w: &[u32], f: &mut [f64], n: usize, count: usize, map: usize, residual
         (part out count f.old))
         f.old f.new }
 {
-    let mut row = 0;
-    while row < n {
+    for row in 0..n {
         let aggregate = store::index_at(w, map, row, count);
-        f[out + aggregate] = f[out + aggregate] + f[residual + row];
-        row += 1;
+        f[out + aggregate] += f[residual + row];
     }
 }
 
@@ -54,11 +52,9 @@ pub fn prolong(
         (prolong_of n (part map n w.now) (part coarse count f.old))
         f.old f.new }
 {
-    let mut row = 0;
-    while row < n {
+    for row in 0..n {
         let aggregate = store::index_at(w, map, row, count);
         f[out + row] = f[coarse + aggregate];
-        row += 1;
     }
 }
 
@@ -77,10 +73,8 @@ pub fn add_prolonged(
         (add_plain_of n (prolong_of n (part map n w.now) (part coarse count f.old)) (part x n f.old))
         f.old f.new }
 {
-    let mut row = 0;
-    while row < n {
+    for row in 0..n {
         let aggregate = store::index_at(w, map, row, count);
-        f[x + row] = f[x + row] + f[coarse + aggregate];
-        row += 1;
+        f[x + row] += f[coarse + aggregate];
     }
 }

@@ -1,2 +1,3 @@
 pub mod Walk
 pub mod Laws
+pub mod Chains

@@ -4,7 +4,7 @@ ghost use Rattle.refusal.specs.Outcome.{verdict_of};
 ghost use Rattle.csr.specs.Questions.{size_ok, never_fall, offsets_ok, entry_ok, row_ok, columns_ok, matrix_asked};
 ghost use Rattle.csr.specs.Contract.{Rowed};
 
-use refusal::Verdict;
+use refusal::Refusal;
 
 // Question 1.
 fn size_fits(rows: usize, columns: &[u32]) -> bool
@@ -18,11 +18,8 @@ fn never_fall(rows: usize, offsets: &[u32]) -> bool
     requires { length offsets.now ≡ rows + 1 }
     ensures { result ≡ never_fall rows offsets.now }
 {
-    let mut row = 0;
-    while row < rows {
-        if offsets[row] <= offsets[row + 1] {
-            row += 1;
-        } else {
+    for row in 0..rows {
+        if offsets[row] > offsets[row + 1] {
             return false;
         }
     }
@@ -63,16 +60,7 @@ fn row_rises(rows: usize, columns: &[u32], first: usize, last: usize) -> bool
     requires last_in_bounds { last ≤ length columns.now }
     ensures { result ≡ row_ok rows columns.now first last }
 {
-    let count = last - first;
-    let mut k = 0;
-    while k < count {
-        if entry_fits(rows, columns, last, first + k) {
-            k += 1;
-        } else {
-            return false;
-        }
-    }
-    true
+    (first..last).all(|entry| entry_fits(rows, columns, last, entry))
 }
 
 // Question 3. As question 2 has passed, each row lies among the entries.
@@ -80,13 +68,10 @@ fn columns_rise(rows: usize, offsets: &[u32], columns: &[u32]) -> bool
     requires { Rowed rows offsets.now columns.now }
     ensures { result ≡ columns_ok rows offsets.now columns.now }
 {
-    let mut row = 0;
-    while row < rows {
+    for row in 0..rows {
         let first = store::wide(offsets[row]);
         let last = store::wide(offsets[row + 1]);
-        if row_rises(rows, columns, first, last) {
-            row += 1;
-        } else {
+        if !row_rises(rows, columns, first, last) {
             return false;
         }
     }
@@ -94,17 +79,22 @@ fn columns_rise(rows: usize, offsets: &[u32], columns: &[u32]) -> bool
 }
 
 // Questions 1 to 3, of a square matrix in compressed rows.
-pub fn check_matrix(rows: usize, offsets: &[u32], columns: &[u32], values: &[f64]) -> Verdict
+pub fn check_matrix(
+    rows: usize,
+    offsets: &[u32],
+    columns: &[u32],
+    values: &[f64],
+) -> Result<(), Refusal>
     ensures { result ≡ verdict_of (matrix_asked rows offsets.now columns.now values.now) }
 {
     if !size_fits(rows, columns) {
-        return Verdict::Refused(refusal::TOO_LARGE);
+        return Err(refusal::TOO_LARGE);
     }
     if !offsets_fit(rows, offsets, columns, values) {
-        return Verdict::Refused(refusal::BAD_OFFSETS);
+        return Err(refusal::BAD_OFFSETS);
     }
     if !columns_rise(rows, offsets, columns) {
-        return Verdict::Refused(refusal::BAD_COLUMNS);
+        return Err(refusal::BAD_COLUMNS);
     }
-    Verdict::Passed
+    Ok(())
 }

@@ -3,32 +3,24 @@ ghost use Rattle.std.specs.Prelude.{◌≡◌};
 ghost use Rattle.refusal.specs.Outcome.{verdict_of};
 ghost use Rattle.csr.specs.Weights.{weights_ok, weights_asked};
 
-use refusal::Verdict;
+use refusal::Refusal;
 
 // Question 5. Minus zero is not below zero.
 fn weights_fit(weights: &[f64]) -> bool
     ensures { result ≡ weights_ok weights.now }
 {
-    let mut k = 0;
-    while k < weights.len() {
-        if options::is_tolerable(weights[k]) {
-            k += 1;
-        } else {
-            return false;
-        }
-    }
-    true
+    weights.iter().all(|weight| options::is_tolerable(*weight))
 }
 
 // Questions 4 and 5, of the weights of a matrix with that many entries.
-pub fn check_weights(weights: &[f64], entries: usize) -> Verdict
+pub fn check_weights(weights: &[f64], entries: usize) -> Result<(), Refusal>
     ensures { result ≡ verdict_of (weights_asked entries weights.now) }
 {
     if weights.len() != entries {
-        return Verdict::Refused(refusal::WEIGHT_COUNT);
+        return Err(refusal::WEIGHT_COUNT);
     }
     if !weights_fit(weights) {
-        return Verdict::Refused(refusal::BAD_WEIGHT);
+        return Err(refusal::BAD_WEIGHT);
     }
-    Verdict::Passed
+    Ok(())
 }

@@ -1,5 +1,6 @@
 -- What the work at one level does, said of the definitions.
 -- Assumes nothing.
+use Rattle.std.specs.Prelude.{Result, Ok, Err}
 use mathlib.Core.Path.{◌≡◌, refl, sym, ap, ◌∙◌}
 use mathlib.Core.Bool.{Bool, true, false}
 use mathlib.Core.List.{List}
@@ -13,7 +14,6 @@ use Rattle.options.specs.declared.options.MultigridOptions.{MultigridOptions}
 use Rattle.options.specs.Counts.{pre_sweeps_of, post_sweeps_of}
 use Rattle.refusal.specs.declared.Refusal.{Refusal}
 use Rattle.refusal.specs.Refusal.{bad_coarse_solution}
-use Rattle.refusal.specs.declared.Verdict.{Verdict}
 use Rattle.refusal.specs.Outcome.{Outcome, accepted, refused, ask, verdict_of, ◌>>=◌}
 use Rattle.refusal.proofs.Outcome.{then_accepted, verdict_passed, verdict_refused, refuses, never, accepts_it}
 use Rattle.vector.specs.Finite.{all_finite}
@@ -59,11 +59,11 @@ visit_ok ok e = rw e ok.inner
 
 module _ (o : MultigridOptions) (w : List ℕ) (depth a b s : ℕ) {g : Inner} (e : g ≡ inner_at w a b s) where
   -- The way down.
-  pub down_done : {F G : List Float} {pre : ℕ} {r : Verdict} → pre ≡ pre_sweeps_of o depth → Downed o.smoother w F G g pre r
+  pub down_done : {F G : List Float} {pre : ℕ} {r : Result Unit Refusal} → pre ≡ pre_sweeps_of o depth → Downed o.smoother w F G g pre r
       → WentDown o w F G depth a b s r
   down_done p d = record { visit = rw (e, p) at d }
 
-module _ (o : MultigridOptions) (w : List ℕ) {F G : List Float} (t : List ℕ) (depth a b s : ℕ) {g : Inner} {pre post : ℕ} {v : Verdict}
+module _ (o : MultigridOptions) (w : List ℕ) {F G : List Float} (t : List ℕ) (depth a b s : ℕ) {g : Inner} {pre post : ℕ} {v : Result Unit Refusal}
     (e : g ≡ inner_at w a b s) (p : pre ≡ pre_sweeps_of o depth) (q : post ≡ post_sweeps_of o depth)
     (m : Moved g.vectors.x g.matrix.rows (raised_at w F g o.smoother o.scale_correction pre post) F G v) where
   -- the way up of the level with the sweeps of the controls
@@ -74,8 +74,8 @@ module _ (o : MultigridOptions) (w : List ℕ) {F G : List Float} (t : List ℕ)
   m' = rw (e, p, q) at m
 
   -- The way up refuses.
-  pub up_no : (u : List ℕ) {q : Refusal} → v ≡ Verdict.Refused q
-      → Visited s (rows_at w a) (up_at o w F t depth a b s) F G u (Verdict.Refused q)
+  pub up_no : (u : List ℕ) {q : Refusal} → v ≡ Err q
+      → Visited s (rows_at w a) (up_at o w F t depth a b s) F G u (Err q)
   unfolding up_at
   up_no u {q} told =
       let out = up_at o w F t depth a b s in
@@ -84,8 +84,8 @@ module _ (o : MultigridOptions) (w : List ℕ) {F G : List Float} (t : List ℕ)
       record { answer = sym (verdict_refused out all); x = λ c y. never all y; counts = λ c y. never all y; floats = m'.floats }
 
   -- The sweeps are counted.
-  pub up_yes : {t₁ u : List ℕ} → v ≡ Verdict.Passed → t₁ ≡ count_of (4 * depth + 1) pre t → u ≡ count_of (4 * depth + 2) post t₁
-      → Visited s (rows_at w a) (up_at o w F t depth a b s) F G u Verdict.Passed
+  pub up_yes : {t₁ u : List ℕ} → v ≡ Ok tt → t₁ ≡ count_of (4 * depth + 1) pre t → u ≡ count_of (4 * depth + 2) post t₁
+      → Visited s (rows_at w a) (up_at o w F t depth a b s) F G u (Ok tt)
   unfolding up_at
   up_yes {t₁} {u} told before behind =
       let out = up_at o w F t depth a b s in
@@ -140,7 +140,7 @@ terminal_is n size inverse factor rhs v coupled e =
     let y = terminal_solution n inverse size coupled factor rhs in ask_is (all_finite n y) bad_coarse_solution y v e
 
 -- An x with its counters, by the cases of its outcome.
-visit_of : {s n : ℕ} {F G : List Float} {u : List ℕ} {r : Verdict} (out : Outcome (List Float)) (counts : List ℕ) → r ≡ verdict_of out
+visit_of : {s n : ℕ} {F G : List Float} {u : List ℕ} {r : Result Unit Refusal} (out : Outcome (List Float)) (counts : List ℕ) → r ≡ verdict_of out
     → ((v : List Float) → out ≡ accepted v → part (s + n) n G ≡ v) → u ≡ counts → Kept (s + n) F G
     → Visited s n (◌>>=◌ out (λ x. accepted (cycled x counts))) F G u r
 visit_of (accepted a) counts e x c k = record {
@@ -157,7 +157,7 @@ visit_of (refused q) counts e x c k = record {
 }
 
 -- The last level's visit.
-pub end_done : {w : List ℕ} {F G : List Float} (t : List ℕ) {u : List ℕ} {depth a b s : ℕ} {p : Place} {coupled : ℕ} {k : Terminal} {v : LevelScratch} {r : Verdict}
+pub end_done : {w : List ℕ} {F G : List Float} (t : List ℕ) {u : List ℕ} {depth a b s : ℕ} {p : Place} {coupled : ℕ} {k : Terminal} {v : LevelScratch} {r : Result Unit Refusal}
     → EndOk w (length F) depth a b s → p ≡ locate w a b → coupled ≡ idx w (a + 2) → k ≡ parts.terminal_in p coupled
     → v ≡ scratch_of s p.rows → Solved k w p.inverse v.rhs v.x v.work F G r → u ≡ count_of (4 * depth + 3) 0 t
     → Visited s (rows_at w a) (end_at w F t depth a b s) F G u r
@@ -189,7 +189,7 @@ module _ {way : Way} {w : List ℕ} {size depth a b s : ℕ} (ok : work_ok way w
   pub up_asks : way ≡ Way.Up → StepOk w size depth a b s
   up_asks e = rw e at ok
 
-module _ {way : Way} (o : MultigridOptions) (w : List ℕ) {F G : List Float} (t : List ℕ) {u : List ℕ} (depth a b s : ℕ) {r : Verdict} where
+module _ {way : Way} (o : MultigridOptions) (w : List ℕ) {F G : List Float} (t : List ℕ) {u : List ℕ} (depth a b s : ℕ) {r : Result Unit Refusal} where
   -- What the last level ensures,
   pub last_told : way ≡ Way.Last → Visited s (rows_at w a) (end_at w F t depth a b s) F G u r
       → work_done way o w F G t u depth a b s r

@@ -1,5 +1,6 @@
 -- The cycle over the levels: what its calls require, and a law for each way out.
 -- Assumes nothing.
+use Rattle.std.specs.Prelude.{Result, Ok, Err}
 use mathlib.Core.Path.{◌≡◌, refl, sym, ap, ◌∙◌, subst}
 use mathlib.Core.Bool.{Bool, true, false}
 use mathlib.Core.List.{List, ◌∷◌}
@@ -15,9 +16,8 @@ use Rattle.store.proofs.store.Region.{kept_on, kept_less, kept_self, kept_part}
 use Rattle.options.specs.declared.options.MultigridOptions.{MultigridOptions}
 use Rattle.options.specs.Counts.{pre_sweeps_of, post_sweeps_of}
 use Rattle.refusal.specs.declared.Refusal.{Refusal}
-use Rattle.refusal.specs.declared.Verdict.{Verdict}
-use Rattle.refusal.specs.Outcome.{Outcome, accepted, refused, verdict_of, is_refused, ◌>>=◌}
-use Rattle.refusal.proofs.Outcome.{then_accepted, then_refused, verdict_refused, refuses, went_on_lem, stopped, then_then, never, accepts_it}
+use Rattle.refusal.specs.Outcome.{Outcome, accepted, refused, verdict_of, ◌>>=◌}
+use Rattle.refusal.proofs.Outcome.{then_accepted, then_refused, verdict_refused, refuses, then_then, never, accepts_it}
 use Rattle.cholesky.specs.Triangle.{tri}
 use Rattle.matrix.specs.Kernel.{Kernel, kernel_at}
 use Rattle.matrix.proofs.matrix.Kernel.{kernel_kept}
@@ -28,7 +28,6 @@ use Rattle.layout.specs.declared.Place.{Place}
 use Rattle.layout.specs.Layout.{rows_at, last_at, entries_at, faces_at, locate, level_at, words_end, floats_end, levels_at, words_to, image_end}
 use Rattle.layout.specs.PlaceContract.{PlaceOk}
 use Rattle.layout.proofs.Views.{floats_to, levels_kept}
-use Rattle.index_check.specs.declared.sound.Walk.{Walk}
 use Rattle.index_check.specs.Sound.{walk_of, scratch_end}
 use Rattle.index_check.proofs.sound.Facts.{Here, Passed, passed, ends_of, targets_of, sums_of}
 use Rattle.cycle.specs.declared.visit.Inner.{Inner}
@@ -73,7 +72,7 @@ scratch_to zero w a s = omega arith
 scratch_to (suc k) w a s = omega (arith, scratch_to k w (words_end w a) (s + 5 * rows_at w a))
 
 -- The words of levels that the index check passed end in the store.
-pub walk_to : (k : ℕ) (w : List ℕ) (level a : ℕ) → a ≤ length w → walk_of k w level a ≡ Walk.Sound → words_to k w a ≤ length w
+pub walk_to : (k : ℕ) (w : List ℕ) (level a : ℕ) → a ≤ length w → walk_of k w level a ≡ Ok tt → words_to k w a ≤ length w
 unfolding words_to
 walk_to zero w level a h e = h
 walk_to (suc k) w level a h e = let p = passed k e in walk_to k w (level + 1) (words_end w a) p.here.words p.rest
@@ -88,7 +87,7 @@ floats_from w a b = omega arith
 module _ {left : ℕ} {w : List ℕ} {size depth a b s : ℕ} (ok : CycleOk left w size depth a b s) where
   -- The index check passed it,
   opened : Passed (left - 1) w depth a
-  opened = passed (left - 1) (subst (λ (k : ℕ). walk_of k w depth a ≡ Walk.Sound) (more_than left ok.some) ok.sound)
+  opened = passed (left - 1) (subst (λ (k : ℕ). walk_of k w depth a ≡ Ok tt) (more_than left ok.some) ok.sound)
 
   -- its floats end below the scratch,
   first_image : floats_end w a b ≤ s
@@ -186,7 +185,7 @@ module _ {left : ℕ} {w : List ℕ} {size depth a b s : ℕ} (ok : CycleOk left
         opened_deep : Passed (left - 1 - 1) w (depth + 1) (words_end w a)
         opened_deep =
             passed (left - 1 - 1)
-            (subst (λ (k : ℕ). walk_of k w (depth + 1) (words_end w a) ≡ Walk.Sound) (more_than (left - 1) two) opened.rest)
+            (subst (λ (k : ℕ). walk_of k w (depth + 1) (words_end w a) ≡ Ok tt) (more_than (left - 1) two) opened.rest)
 
     -- What the visit of the level requires.
     inner_ok : InnerOk w size (inner_at w a b s)
@@ -355,7 +354,7 @@ module _ (o : MultigridOptions) (left : ℕ) (w : List ℕ) (F : List Float) (t 
   whole = cycle_at o left w F t depth a b s
 
   -- what a visit gives is the cycle's
-  done_as : {G : List Float} {u : List ℕ} {r : Verdict} (out : Outcome Cycled) → whole ≡ out → Visited s n out F G u r
+  done_as : {G : List Float} {u : List ℕ} {r : Result Unit Refusal} (out : Outcome Cycled) → whole ≡ out → Visited s n out F G u r
       → CycleDone o left w F G t u depth a b s r
   done_as out e v = record {
     answer = v.answer ∙ ap verdict_of (sym e);
@@ -366,7 +365,7 @@ module _ (o : MultigridOptions) (left : ℕ) (w : List ℕ) (F : List Float) (t 
 
   -- and so is a refusal
   refused_as : {G : List Float} (u : List ℕ) {q : Refusal} → whole ≡ refused q → Kept (s + n) F G
-      → CycleDone o left w F G t u depth a b s (Verdict.Refused q)
+      → CycleDone o left w F G t u depth a b s (Err q)
   refused_as u e k = record {
     answer = sym (verdict_refused whole e);
     x = λ c y. never e y;
@@ -375,7 +374,7 @@ module _ (o : MultigridOptions) (left : ℕ) (w : List ℕ) (F : List Float) (t 
   }
 
   -- The last level.
-  pub done_last : {G : List Float} {u : List ℕ} {r : Verdict} → left ≡ 1 → Visited s n (end_at w F t₁ depth a b s) F G u r
+  pub done_last : {G : List Float} {u : List ℕ} {r : Result Unit Refusal} → left ≡ 1 → Visited s n (end_at w F t₁ depth a b s) F G u r
       → CycleDone o left w F G t u depth a b s r
   done_last {G} {u} {r} one v =
       let v' : Visited s n (end_at w F (visited depth t) depth a b s) F G u r = rw ct at v in
@@ -384,7 +383,7 @@ module _ (o : MultigridOptions) (left : ℕ) (w : List ℕ) (F : List Float) (t 
       done_as (end_at w F (visited depth t) depth a b s)
       (ap (λ (ls : List Level). cycle_of o ls depth (part s n F) (part (s + n) n F) t) levels ∙ cycle_last o w F depth a b s rest t (part (s + n) n F)) v'
 
-  module _ (more : left ≡ 1 → ⊥) {D : List Float} {t₂ : List ℕ} {v : Verdict} (d : DownDone o w F D t₁ t₂ depth a b s v) where
+  module _ (more : left ≡ 1 → ⊥) {D : List Float} {t₂ : List ℕ} {v : Result Unit Refusal} (d : DownDone o w F D t₁ t₂ depth a b s v) where
     -- the levels after it, the next one's rows, and the outcomes on the way
     abbrev deeper : List Level
     deeper = levels_at (left - 1) w F (words_end w a) (floats_end w a b)
@@ -410,20 +409,13 @@ module _ (o : MultigridOptions) (left : ℕ) (w : List ℕ) (F : List Float) (t 
         ∙ ap (inner_of o w F depth a b s deeper t) (first_rows (left - 1) (two ok more) w F (words_end w a) (floats_end w a b) ∙ sym (next_is ok more))
 
     -- Question 25 before the deeper levels.
-    done_down : {q : Refusal} → v ≡ Verdict.Refused q → CycleDone o left w F D t t₂ depth a b s (Verdict.Refused q)
+    pub done_down : {q : Refusal} → v ≡ Err q → CycleDone o left w F D t t₂ depth a b s (Err q)
     done_down {q} told =
         let no = refuses out d.down.visit.moved.answer told in
         refused_as t₂ (whole_is ∙ then_refused out (λ y. ◌>>=◌ (deep_out y) (λ c. after y c)) no) d.down.visit.moved.floats
 
-    pub stop_down : {c : Bool} → c ≡ is_refused v → c ≡ true → CycleDone o left w F D t t₂ depth a b s v
-    stop_down e f = let told = (stopped v (sym e ∙ f)).1 in rw told (done_down told)
-
-    module _ {g₁ : Bool} (went : g₁ ≡ is_refused v) (on : g₁ ≡ false) {p : Place} (at : p ≡ locate w a b) {E : List Float} {u : List ℕ} {v' : Verdict}
+    module _ (told : v ≡ Ok tt) {p : Place} (at : p ≡ locate w a b) {E : List Float} {u : List ℕ} {v' : Result Unit Refusal}
         (c : CycleDone o (left - 1) w D E t₂ u (depth + 1) (p.positions + p.entries) p.factor (s + 5 * p.rows) v') where
-      -- The way down passed.
-      told : v ≡ Verdict.Passed
-      told = went_on_lem v (sym went ∙ on)
-
       -- x after the way down.
       y_as : (y : List Float) × (out ≡ accepted y)
       y_as = accepts_it out d.down.visit.moved.answer told
@@ -464,20 +456,13 @@ module _ (o : MultigridOptions) (left : ℕ) (w : List ℕ) (F : List Float) (t 
       held = kept_on d.down.visit.moved.floats (kept_less c'.floats (omega arith))
 
       -- A refusal of the deeper levels.
-      done_deep : {q : Refusal} → v' ≡ Verdict.Refused q → CycleDone o left w F E t u depth a b s (Verdict.Refused q)
+      pub done_deep : {q : Refusal} → v' ≡ Err q → CycleDone o left w F E t u depth a b s (Err q)
       done_deep {q} q-told =
           let no = refuses (deep_out y_as.0) (c'.answer ∙ ap verdict_of same) q-told in
           refused_as u (whole_deep ∙ then_refused (deep_out y_as.0) (λ z. after y_as.0 z) no) held
 
-      pub stop_deep : {c : Bool} → c ≡ is_refused v' → c ≡ true → CycleDone o left w F E t u depth a b s v'
-      stop_deep e f = let no = (stopped v' (sym e ∙ f)).1 in rw no (done_deep no)
-
-      module _ {g₂ : Bool} (came : g₂ ≡ is_refused v') (up : g₂ ≡ false) {G : List Float} {u' : List ℕ} {r : Verdict}
+      module _ (passed_on : v' ≡ Ok tt) {G : List Float} {u' : List ℕ} {r : Result Unit Refusal}
           (h : Visited s n (up_at o w E u depth a b s) E G u' r) where
-        -- They passed.
-        passed_on : v' ≡ Verdict.Passed
-        passed_on = went_on_lem v' (sym came ∙ up)
-
         -- What the deeper levels gave.
         z_as : (z : Cycled) × (deep_out y_as.0 ≡ accepted z)
         z_as = accepts_it (deep_out y_as.0) (c'.answer ∙ ap verdict_of same) passed_on

@@ -1,11 +1,11 @@
 -- A cycle in the stores: what its functions require and ensure. Definitions only.
 -- A level is told by three offsets: a into the words, b into the floats, s into the scratch. There stand five vectors of its rows:
 -- right-hand side, x, work (which also holds the residual), correction, product; the next level's follow.
-use Rattle.std.specs.Prelude.{◌≡◌, Bool, true, false, List, ℕ, ◌+◌, ◌*◌, ◌≤◌, ◌<◌, length, Float}
+use Rattle.refusal.specs.declared.Refusal.{Refusal}
+use Rattle.std.specs.Prelude.{◌≡◌, Bool, true, false, List, ℕ, ◌+◌, ◌*◌, ◌≤◌, ◌<◌, length, Float, Result, Ok}
 use Rattle.store.specs.Region.{idx, part, Kept}
 use Rattle.options.specs.declared.options.MultigridOptions.{MultigridOptions}
 use Rattle.options.specs.Counts.{pre_sweeps_of, post_sweeps_of}
-use Rattle.refusal.specs.declared.Verdict.{Verdict}
 use Rattle.refusal.specs.Outcome.{Outcome, accepted, verdict_of, ◌>>=◌}
 use Rattle.cholesky.specs.Triangle.{tri}
 use Rattle.smoother.specs.Scratch.{scratch_of}
@@ -14,7 +14,6 @@ use Rattle.layout.specs.declared.Place.{Place}
 use Rattle.layout.specs.Layout.{rows_at, shape_at, numbers_at, locate, levels_at, image_end}
 use Rattle.layout.specs.Parts.{kernel_in}
 use Rattle.layout.specs.PlaceContract.{PlaceOk}
-use Rattle.index_check.specs.declared.sound.Walk.{Walk}
 use Rattle.index_check.specs.Sound.{walk_of, scratch_end}
 use Rattle.cycle.specs.declared.visit.Inner.{Inner}
 use Rattle.cycle.specs.Visit.{InnerOk, raised_at, Downed}
@@ -32,13 +31,13 @@ cycle_at o left w F t depth a b s =
 -- ends in the store; and few enough levels.
 pub record CycleOk (left : ℕ) (w : List ℕ) (size depth a b s : ℕ) : Type 0 where
   pub some : 1 ≤ left
-  pub sound : walk_of left w depth a ≡ Walk.Sound
+  pub sound : walk_of left w depth a ≡ Ok tt
   pub image : image_end left w a b ≤ s
   pub scratch : scratch_end left w a s ≤ size
   pub deep : depth + left ≤ 128
 
 -- What it ensures: the definition's verdict; accepted, its x and its counters. Below the level's x nothing changed.
-pub record CycleDone (o : MultigridOptions) (left : ℕ) (w : List ℕ) (F G : List Float) (t u : List ℕ) (depth a b s : ℕ) (r : Verdict) : Type 0 where
+pub record CycleDone (o : MultigridOptions) (left : ℕ) (w : List ℕ) (F G : List Float) (t u : List ℕ) (depth a b s : ℕ) (r : Result Unit Refusal) : Type 0 where
   pub answer : r ≡ verdict_of (cycle_at o left w F t depth a b s)
   pub x : (c : Cycled) → cycle_at o left w F t depth a b s ≡ accepted c → part (s + rows_at w a) (rows_at w a) G ≡ c.x
   pub counts : (c : Cycled) → cycle_at o left w F t depth a b s ≡ accepted c → u ≡ c.counts
@@ -87,7 +86,7 @@ pub record LastOk (w : List ℕ) (size : ℕ) (p : Place) (s coupled : ℕ) : Ty
   pub room : s + 5 * p.rows ≤ size
 
 -- x and what lies above it apart, nothing changed; `out` is the verdict's, and accepted it gives x and the counters
-pub record Visited (s n : ℕ) (out : Outcome Cycled) (F G : List Float) (u : List ℕ) (r : Verdict) : Type 0 where
+pub record Visited (s n : ℕ) (out : Outcome Cycled) (F G : List Float) (u : List ℕ) (r : Result Unit Refusal) : Type 0 where
   pub answer : r ≡ verdict_of out
   pub x : (c : Cycled) → out ≡ accepted c → part (s + n) n G ≡ c.x
   pub counts : (c : Cycled) → out ≡ accepted c → u ≡ c.counts
@@ -120,11 +119,11 @@ up_at o w F t depth a b s = do
   accepted (cycled z (swept depth (pre_sweeps_of o depth) (post_sweeps_of o depth) t))
 
 -- The way down of a level with the sweeps of the controls.
-pub record WentDown (o : MultigridOptions) (w : List ℕ) (F G : List Float) (depth a b s : ℕ) (r : Verdict) : Type 0 where
+pub record WentDown (o : MultigridOptions) (w : List ℕ) (F G : List Float) (depth a b s : ℕ) (r : Result Unit Refusal) : Type 0 where
   pub visit : Downed o.smoother w F G (inner_at w a b s) (pre_sweeps_of o depth) r
 
 -- It counts nothing.
-pub record DownDone (o : MultigridOptions) (w : List ℕ) (F G : List Float) (t u : List ℕ) (depth a b s : ℕ) (r : Verdict) : Type 0 where
+pub record DownDone (o : MultigridOptions) (w : List ℕ) (F G : List Float) (t u : List ℕ) (depth a b s : ℕ) (r : Result Unit Refusal) : Type 0 where
   pub down : WentDown o w F G depth a b s r
   pub counts : u ≡ t
 
@@ -135,7 +134,7 @@ work_ok Way.Down w size depth a b s = StepOk w size depth a b s
 work_ok Way.Up w size depth a b s = StepOk w size depth a b s
 
 -- and what it ensures
-abbrev pub work_done : Way → MultigridOptions → List ℕ → List Float → List Float → List ℕ → List ℕ → ℕ → ℕ → ℕ → ℕ → Verdict → Type 0
+abbrev pub work_done : Way → MultigridOptions → List ℕ → List Float → List Float → List ℕ → List ℕ → ℕ → ℕ → ℕ → ℕ → Result Unit Refusal → Type 0
 work_done Way.Last o w F G t u depth a b s r = Visited s (rows_at w a) (end_at w F t depth a b s) F G u r
 work_done Way.Down o w F G t u depth a b s r = DownDone o w F G t u depth a b s r
 work_done Way.Up o w F G t u depth a b s r = Visited s (rows_at w a) (up_at o w F t depth a b s) F G u r

@@ -1,3 +1,4 @@
 pub mod Cycle
 pub mod Visit
 pub mod Contract
+pub mod Counters

@@ -1,11 +1,11 @@
 -- A level that is not the last, on the way down and on the way up: what is made of its vectors, and what the functions require and
 -- ensure. Definitions only.
-use Rattle.std.specs.Prelude.{◌≡◌, Bool, cond, List, ℕ, ◌+◌, ◌≤◌, ◌<◌, eqb, length, Float}
+use Rattle.refusal.specs.declared.Refusal.{Refusal}
+use Rattle.std.specs.Prelude.{◌≡◌, Bool, cond, List, ℕ, ◌+◌, ◌≤◌, ◌<◌, eqb, length, Float, Result}
 use Rattle.float.specs.Float.{zero64}
 use Rattle.store.specs.Region.{idx, part, Kept}
 use Rattle.store.specs.Vector.{filled}
 use Rattle.options.specs.declared.options.MultigridSmoother.{MultigridSmoother}
-use Rattle.refusal.specs.declared.Verdict.{Verdict}
 use Rattle.refusal.specs.Outcome.{Outcome, accepted, verdict_of, ◌>>=◌}
 use Rattle.matrix.specs.Kernel.{Kernel, KernelOk, kernel_at}
 use Rattle.smoother.specs.declared.LevelScratch.{LevelScratch}
@@ -98,7 +98,7 @@ pub record InnerOk (w : List ℕ) (size : ℕ) (g : Inner) : Type 0 where
   pub room : g.below.x + g.next ≤ size
 
 -- x and what lies above it apart, nothing changed; `out` is the verdict's, and accepted it is x
-pub record Moved (x n : ℕ) (out : Outcome (List Float)) (F G : List Float) (r : Verdict) : Type 0 where
+pub record Moved (x n : ℕ) (out : Outcome (List Float)) (F G : List Float) (r : Result Unit Refusal) : Type 0 where
   pub answer : r ≡ verdict_of out
   pub is : (v : List Float) → out ≡ accepted v → part x n G ≡ v
   pub floats : Kept x F G
@@ -120,6 +120,6 @@ pub record Restricted (w : List ℕ) (F G : List Float) (g : Inner) (sweeps : �
   pub floats : Kept g.vectors.work F G
 
 -- The way down: x smoothed, and its residual left.
-pub record Downed (kind : MultigridSmoother) (w : List ℕ) (F G : List Float) (g : Inner) (sweeps : ℕ) (r : Verdict) : Type 0 where
+pub record Downed (kind : MultigridSmoother) (w : List ℕ) (F G : List Float) (g : Inner) (sweeps : ℕ) (r : Result Unit Refusal) : Type 0 where
   pub moved : Moved g.vectors.x g.matrix.rows (smoothed_at w F g kind sweeps) F G r
   pub left : (v : List Float) → smoothed_at w F g kind sweeps ≡ accepted v → Left w G g sweeps (residual_in w F g sweeps v)

@@ -4,11 +4,12 @@
 ghost use Rattle.std.specs.Prelude.{◌≡◌, ◌+◌, ◌*◌, ◌<◌, length};
 ghost use Rattle.layout.specs.Layout.{rows_at};
 ghost use Rattle.cycle.specs.Cycle.{count_of};
+ghost use Rattle.cycle.specs.Counters.{place_of};
 ghost use Rattle.cycle.specs.Contract.{CycleOk, CycleDone, NextOk, inner_at, EndOk, StepOk};
 ghost use Rattle.cycle.specs.Contract.{Visited, WentDown, end_at, up_at, work_ok, work_done};
 
 use options::MultigridOptions;
-use refusal::Verdict;
+use refusal::Refusal;
 use visit::Inner;
 
 pub mod visit;
@@ -21,13 +22,36 @@ pub enum Way {
     Up,
 }
 
-// Adds to a counter of the level at that depth: 0 its visits, 1 its sweeps before the correction, 2 those after it, 3 its coarse iterations.
-fn count(t: &mut [u64; 512], depth: u64, counter: u64, more: u64)
-    requires { 4 * depth + counter < 512 }
-    ensures { t.new ≡ count_of (4 * depth + counter) more t.old }
+// What is counted on a level: its visits, its sweeps before the correction, those after it, its coarse iterations.
+#[derive(Clone, Copy)]
+enum Counter {
+    Visits,
+    PreSweeps,
+    PostSweeps,
+    CoarseIterations,
+}
+
+impl Counter {
+    // Where it stands among the four counters of a level.
+    fn place(self) -> u64
+        ensures { result ≡ place_of self }
+    {
+        match self {
+            Counter::Visits => 0,
+            Counter::PreSweeps => 1,
+            Counter::PostSweeps => 2,
+            Counter::CoarseIterations => 3,
+        }
+    }
+}
+
+// Adds to a counter of the level at that depth.
+fn count(t: &mut [u64; 512], depth: u64, counter: Counter, more: u64)
+    requires { 4 * depth + place_of counter < 512 }
+    ensures { t.new ≡ count_of (4 * depth + place_of counter) more t.old }
 {
-    let i = (4 * depth + counter) as usize;
-    t[i] = float::saturating_add(t[i], more);
+    let i = (4 * depth + counter.place()) as usize;
+    t[i] = t[i].saturating_add(more);
 }
 
 // The last level: every row by its diagonal, the coupled ones by the factor, which takes no iteration.
@@ -39,7 +63,7 @@ fn end(
     a: usize,
     b: usize,
     s: usize,
-) -> Verdict
+) -> Result<(), Refusal>
     requires { EndOk w.now (length f.old) depth a b s }
     ensures { Visited s (rows_at w.now a) (end_at w.now f.old t.old depth a b s) f.old f.new t.new result }
 {
@@ -47,7 +71,7 @@ fn end(
     let terminal = layout::terminal_in(p, store::wide(w[a + 2]));
     let v = smoother::level_scratch(s, p.rows);
     let r = coarse::solve(w, f, terminal, p.inverse, v.rhs, v.x, v.work);
-    count(t, depth, 3, 0);
+    count(t, depth, Counter::CoarseIterations, 0);
     r
 }
 
@@ -63,12 +87,12 @@ fn inner_at(w: &[u32], a: usize, b: usize, s: usize) -> Inner
     let vectors = smoother::level_scratch(s, p.rows);
     let below = smoother::level_scratch(s + 5 * p.rows, next);
     Inner {
-        matrix: matrix,
+        matrix,
         dic: p.dic,
         links: p.links,
-        vectors: vectors,
-        below: below,
-        next: next,
+        vectors,
+        below,
+        next,
     }
 }
 
@@ -81,13 +105,12 @@ fn down(
     a: usize,
     b: usize,
     s: usize,
-) -> Verdict
+) -> Result<(), Refusal>
     requires { StepOk w.now (length f.old) depth a b s }
     ensures { WentDown o w.now f.old f.new depth a b s result }
 {
     let g = inner_at(w, a, b, s);
-    let kind = o.smoother;
-    visit::down(w, f, g, kind, options::pre_sweeps_at(o, depth))
+    visit::down(w, f, g, o.smoother, options::pre_sweeps_at(o, depth))
 }
 
 // The way up of a level, after which its sweeps are counted.
@@ -100,22 +123,17 @@ fn up(
     a: usize,
     b: usize,
     s: usize,
-) -> Verdict
+) -> Result<(), Refusal>
     requires { StepOk w.now (length f.old) depth a b s }
     ensures { Visited s (rows_at w.now a) (up_at o w.now f.old t.old depth a b s) f.old f.new t.new result }
 {
     let g = inner_at(w, a, b, s);
-    let kind = o.smoother;
     let pre = options::pre_sweeps_at(o, depth);
     let post = options::post_sweeps_at(o, depth);
-    match visit::up(w, f, g, kind, o.scale_correction, pre, post) {
-        Verdict::Refused(q) => Verdict::Refused(q),
-        Verdict::Passed => {
-            count(t, depth, 1, pre);
-            count(t, depth, 2, post);
-            Verdict::Passed
-        }
-    }
+    visit::up(w, f, g, o.smoother, o.scale_correction, pre, post)?;
+    count(t, depth, Counter::PreSweeps, pre);
+    count(t, depth, Counter::PostSweeps, post);
+    Ok(())
 }
 
 // The work at a level, whichever way the cycle goes. One function for all of it, called from several places, so that the compiled
@@ -130,7 +148,7 @@ fn work(
     a: usize,
     b: usize,
     s: usize,
-) -> Verdict
+) -> Result<(), Refusal>
     requires { work_ok way w.now (length f.old) depth a b s }
     ensures { work_done way o w.now f.old f.new t.old t.new depth a b s result }
 {
@@ -152,24 +170,18 @@ pub fn cycle(
     a: usize,
     b: usize,
     s: usize,
-) -> Verdict
+) -> Result<(), Refusal>
     requires { CycleOk left w.now (length f.old) depth a b s }
     ensures { CycleDone o left w.now f.old f.new t.old t.new depth a b s result }
 {
-    count(t, depth, 0, 1);
+    count(t, depth, Counter::Visits, 1);
     if left == 1 {
         return work(w, f, t, o, Way::Last, depth, a, b, s);
     }
-    let down = work(w, f, t, o, Way::Down, depth, a, b, s);
-    if down.refused() {
-        return down;
-    }
+    work(w, f, t, o, Way::Down, depth, a, b, s)?;
     let p = layout::place_at(w, a, b);
     let deeper = p.positions + p.entries;
     let scratch = s + 5 * p.rows;
-    let below = cycle(w, f, t, o, left - 1, depth + 1, deeper, p.factor, scratch);
-    if below.refused() {
-        return below;
-    }
+    cycle(w, f, t, o, left - 1, depth + 1, deeper, p.factor, scratch)?;
     work(w, f, t, o, Way::Up, depth, a, b, s)
 }

@@ -3,10 +3,9 @@ ghost use Rattle.std.specs.Prelude.{◌≡◌, length};
 ghost use Rattle.cycle.specs.Visit.{residual_place, smoothed_at, scaled_at, corrected_at, raised_at};
 ghost use Rattle.cycle.specs.Visit.{InnerOk, Moved, Resided, Restricted, Downed};
 
-use correction::Factor;
 use matrix::SymmetricMatrix;
 use options::MultigridSmoother;
-use refusal::Verdict;
+use refusal::Refusal;
 use smoother::LevelScratch;
 
 // A level that is not the last: its matrix, its DIC reciprocals, the aggregate of each row, its vectors, and those of the next level with
@@ -22,7 +21,13 @@ pub struct Inner {
 }
 
 // So many sweeps on a level.
-fn smooth(w: &[u32], f: &mut [f64], g: Inner, kind: MultigridSmoother, sweeps: u64) -> Verdict
+fn smooth(
+    w: &[u32],
+    f: &mut [f64],
+    g: Inner,
+    kind: MultigridSmoother,
+    sweeps: u64,
+) -> Result<(), Refusal>
     requires { InnerOk w.now (length f.old) g }
     ensures { Moved g.vectors.x g.matrix.rows (smoothed_at w.now f.old g kind sweeps) f.old f.new result }
 {
@@ -64,21 +69,23 @@ fn restrict(w: &[u32], f: &mut [f64], g: Inner, sweeps: u64)
 }
 
 // The way down: sweeps, and the next level's right-hand side.
-pub fn down(w: &[u32], f: &mut [f64], g: Inner, kind: MultigridSmoother, sweeps: u64) -> Verdict
+pub fn down(
+    w: &[u32],
+    f: &mut [f64],
+    g: Inner,
+    kind: MultigridSmoother,
+    sweeps: u64,
+) -> Result<(), Refusal>
     requires { InnerOk w.now (length f.old) g }
     ensures { Downed kind w.now f.old f.new g sweeps result }
 {
-    match smooth(w, f, g, kind, sweeps) {
-        Verdict::Refused(q) => Verdict::Refused(q),
-        Verdict::Passed => {
-            restrict(w, f, g, sweeps);
-            Verdict::Passed
-        }
-    }
+    smooth(w, f, g, kind, sweeps)?;
+    restrict(w, f, g, sweeps);
+    Ok(())
 }
 
 // The correction scaled, and a Jacobi step on the residual that it leaves.
-fn correct_scaled(w: &[u32], f: &mut [f64], g: Inner, sweeps: u64) -> Verdict
+fn correct_scaled(w: &[u32], f: &mut [f64], g: Inner, sweeps: u64) -> Result<(), Refusal>
     requires { InnerOk w.now (length f.old) g }
     ensures { Moved g.vectors.x g.matrix.rows (scaled_at w.now f.old g sweeps) f.old f.new result }
 {
@@ -87,18 +94,14 @@ fn correct_scaled(w: &[u32], f: &mut [f64], g: Inner, sweeps: u64) -> Verdict
     let e = v.correction;
     let from = residual_at(v, sweeps);
     matrix::apply(w, f, g.matrix, e, v.product);
-    match correction::correction_factor(f, n, e, from, v.product) {
-        Factor::Refused(q) => Verdict::Refused(q),
-        Factor::Factor(factor) => {
-            correction::add_scaled(f, n, factor, e, from, v.product, g.matrix.inverse, v.x);
-            Verdict::Passed
-        }
-    }
+    let factor = correction::correction_factor(f, n, e, from, v.product)?;
+    correction::add_scaled(f, n, factor, e, from, v.product, g.matrix.inverse, v.x);
+    Ok(())
 }
 
 // The next level's x, added to x: scaled, it comes up as the correction first; as it is, straight through the aggregate numbers, and no
 // word but those of x is written.
-fn correct(w: &[u32], f: &mut [f64], g: Inner, scale: bool, sweeps: u64) -> Verdict
+fn correct(w: &[u32], f: &mut [f64], g: Inner, scale: bool, sweeps: u64) -> Result<(), Refusal>
     requires { InnerOk w.now (length f.old) g }
     ensures { Moved g.vectors.x g.matrix.rows (corrected_at w.now f.old g scale sweeps) f.old f.new result }
 {
@@ -108,7 +111,7 @@ fn correct(w: &[u32], f: &mut [f64], g: Inner, scale: bool, sweeps: u64) -> Verd
         return correct_scaled(w, f, g, sweeps);
     }
     correction::add_prolonged(w, f, n, g.next, g.links, g.below.x, g.vectors.x);
-    Verdict::Passed
+    Ok(())
 }
 
 // The way up: the next level's x is added, and sweeps follow.
@@ -120,12 +123,10 @@ pub fn up(
     scale: bool,
     pre: u64,
     post: u64,
-) -> Verdict
+) -> Result<(), Refusal>
     requires { InnerOk w.now (length f.old) g }
     ensures { Moved g.vectors.x g.matrix.rows (raised_at w.now f.old g kind scale pre post) f.old f.new result }
 {
-    match correct(w, f, g, scale, pre) {
-        Verdict::Refused(q) => Verdict::Refused(q),
-        Verdict::Passed => smooth(w, f, g, kind, post),
-    }
+    correct(w, f, g, scale, pre)?;
+    smooth(w, f, g, kind, post)
 }

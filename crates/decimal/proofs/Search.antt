@@ -10,7 +10,7 @@ use lib.Dec.{T, ltb, eqb}
 use lib.Ieee.{Float, nan, inf, fin, up, down, lt, eq, le}
 use lib.Ieee.Fits.{down_pos}
 use lib.Ieee.Positive.{through}
-use Rattle.decimal.specs.declared.Found.TheVariants.{At, Nothing}
+use Rattle.std.specs.Prelude.{Some, None}
 use Rattle.decimal.specs.Decimal.{value_of, plus, pick_found, first_of, gives, find_of}
 use Rattle.decimal.specs.Contract.{Reached}
 use Rattle.decimal.proofs.Order.{value_plus, value_mono, le_lt, lt_or_eq, and_true}
@@ -154,7 +154,7 @@ false_of false h = refl
 
 -- ---- the first that passes
 
-first_at : (count : ℕ) (test : ℕ → Bool) (i m : ℕ) → i ≤ m → m < i + count → test m ≡ true → ((k : ℕ) → k < m → test k ≡ false) → first_of count test i ≡ At m
+first_at : (count : ℕ) (test : ℕ → Bool) (i m : ℕ) → i ≤ m → m < i + count → test m ≡ true → ((k : ℕ) → k < m → test k ≡ false) → first_of count test i ≡ Some m
 unfolding first_of
 first_at zero test i m g h t f = absurd (none i m g h)
   where
@@ -162,17 +162,17 @@ first_at zero test i m g h t f = absurd (none i m g h)
     none i m g h = omega arith
 first_at (suc count) test i m g h t f =
     elim (eq-or-lt_of_le g) [
-      | inl e ↦ ap (λ (b : Bool). pick_found b (At i) (first_of count test (i + 1))) (ap test e ∙ t) ∙ ap At e
+      | inl e ↦ ap (λ (b : Bool). pick_found b (Some i) (first_of count test (i + 1))) (ap test e ∙ t) ∙ ap Some e
       | inr l ↦
-          ap (λ (b : Bool). pick_found b (At i) (first_of count test (i + 1))) (f i l)
+          ap (λ (b : Bool). pick_found b (Some i) (first_of count test (i + 1))) (f i l)
           ∙ first_at count test (i + 1) m (omega arith) (omega arith) t f
     ]
 
-first_none : (count : ℕ) (test : ℕ → Bool) (i : ℕ) → ((k : ℕ) → k < i + count → test k ≡ false) → first_of count test i ≡ Nothing
+first_none : (count : ℕ) (test : ℕ → Bool) (i : ℕ) → ((k : ℕ) → k < i + count → test k ≡ false) → first_of count test i ≡ None
 unfolding first_of
 first_none zero test i f = refl
 first_none (suc count) test i f =
-    ap (λ (b : Bool). pick_found b (At i) (first_of count test (i + 1))) (f i (omega arith))
+    ap (λ (b : Bool). pick_found b (Some i) (first_of count test (i + 1))) (f i (omega arith))
     ∙ first_none count test (i + 1) (λ (k : ℕ) (h : k < i + 1 + count). f k (omega arith))
 
 -- ---- what the bisection's end says
@@ -180,13 +180,13 @@ module _ {v : Float} {n : Bool} {p m : ℕ} (r : Reached v n p m) where
   under : (k : ℕ) → k < m → gives v n p k ≡ false
   under k h = lt_not_eq (value_of k n p) v (value_plus k n p) (r.before k h)
 
-  pub found_here : {x : Float} → m < 10 ^ 15 → x ≡ value_of m n p → eq x v ≡ true → At m ≡ find_of v n p
+  pub found_here : {x : Float} → m < 10 ^ 15 → x ≡ value_of m n p → eq x v ≡ true → Some m ≡ find_of v n p
   found_here {x} h e t = sym (first_at (10 ^ 15) (gives v n p) 0 m (omega arith) (omega arith) (ap (λ (y : Float). eq y v) (sym e) ∙ t) under)
 
-  pub none_beyond : 10 ^ 15 ≤ m → Nothing ≡ find_of v n p
+  pub none_beyond : 10 ^ 15 ≤ m → None ≡ find_of v n p
   none_beyond h = sym (first_none (10 ^ 15) (gives v n p) 0 (λ (k : ℕ) (g : k < 0 + 10 ^ 15). under k (omega arith)))
 
-  pub none_here : {x : Float} → m < 10 ^ 15 → x ≡ value_of m n p → eq x v ≡ false → Nothing ≡ find_of v n p
+  pub none_here : {x : Float} → m < 10 ^ 15 → x ≡ value_of m n p → eq x v ≡ false → None ≡ find_of v n p
   none_here {x} h e t = sym (first_none (10 ^ 15) (gives v n p) 0 other)
     where
       other : (k : ℕ) → k < 0 + 10 ^ 15 → gives v n p k ≡ false

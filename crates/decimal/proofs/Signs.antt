@@ -9,7 +9,7 @@ use lib.IntN.{ℤ, pos}
 use lib.Dec.{T}
 use lib.Ieee.{Float, nan, inf, fin, binary64, up, down, of_bits, neg, lt, eq, fits}
 use lib.Ieee.Fits.{neg-fits}
-use Rattle.decimal.specs.declared.Written.TheVariants.{Number}
+use Rattle.std.specs.Prelude.{Some}
 use Rattle.decimal.specs.Decimal.{value_of, plus, gives, write_of, is_minus, magnitude_of, signed_of}
 use Rattle.decimal.proofs.Laws.{write_nearest, round_trip}
 
@@ -32,7 +32,7 @@ eq_neg (fin false m e) (fin true n d) = refl
 eq_neg (fin false m e) (fin false n d) = refl
 
 -- Reading what was written, with its sign, gives a value that equals v: v itself, but for +0 in the place of -0.
-pub signed_trip : (v : Float) (m : ℕ) (n : Bool) (q : ℕ) → write_of (magnitude_of v) ≡ Number m n q → eq (signed_of (is_minus v) (value_of m n q)) v ≡ true
+pub signed_trip : (v : Float) (m : ℕ) (n : Bool) (q : ℕ) → write_of (magnitude_of v) ≡ Some (m, n, q) → eq (signed_of (is_minus v) (value_of m n q)) v ≡ true
 signed_trip v m n q e = go (is_minus v) (write_nearest (magnitude_of v) m n q e).value
   where
     go : (b : Bool) → gives (cond b (neg v) v) n q m ≡ true → eq (signed_of b (value_of m n q)) v ≡ true
@@ -70,5 +70,5 @@ minus_plus (fin true m e) h = tt
 minus_plus (fin false m e) h = absurd (false≢true (sym (not_minus m e) ∙ h))
 
 -- Below zero it is v itself; `round_trip` says so of a v without a minus sign.
-pub minus_trip : (v : Float) (m : ℕ) (n : Bool) (q : ℕ) → T (fits binary64 v) → is_minus v ≡ true → write_of (neg v) ≡ Number m n q → neg (value_of m n q) ≡ v
+pub minus_trip : (v : Float) (m : ℕ) (n : Bool) (q : ℕ) → T (fits binary64 v) → is_minus v ≡ true → write_of (neg v) ≡ Some (m, n, q) → neg (value_of m n q) ≡ v
 minus_trip v m n q F h e = ap neg (round_trip (neg v) m n q (neg-fits binary64 v F) (minus_plus v h) e) ∙ neg_neg v

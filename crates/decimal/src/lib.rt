@@ -6,19 +6,6 @@ ghost use Rattle.std.specs.Float.Ieee.Exact.{HasValue};
 ghost use Rattle.decimal.specs.Contract.{Reached};
 ghost use Rattle.decimal.specs.Decimal.{value_of, find_of, attempt_of, write_of, magnitude_of, signed_of};
 
-#[derive(Clone, Copy)]
-pub enum Found {
-    At(u64),
-    Nothing,
-}
-
-// The digits, whether the power of ten is below zero, and its size.
-#[derive(Clone, Copy)]
-pub enum Written {
-    Number(u64, bool, u64),
-    Refused,
-}
-
 const POWERS: [f64; 23] = [
     1e0, 1e1, 1e2, 1e3, 1e4, 1e5, 1e6, 1e7, 1e8, 1e9, 1e10, 1e11, 1e12, 1e13, 1e14, 1e15, 1e16,
     1e17, 1e18, 1e19, 1e20, 1e21, 1e22,
@@ -29,8 +16,7 @@ fn power_of(k: u64) -> f64
     requires { k ≤ 22 }
     ensures { HasValue result false (10 ^ k) 1 }
 {
-    let i = k as usize;
-    POWERS[i]
+    POWERS[k as usize]
 }
 
 // The f64 nearest to m * 10^power, or where `negative` to m * 10^-power: m and the power of ten are f64, so that one operation rounds once.
@@ -52,8 +38,7 @@ fn reach(v: f64, negative: bool, power: u64) -> u64
     let mut high: u64 = 1_000_000_000_000_000;
     while low < high {
         let middle = low + (high - low) / 2;
-        let x = read(middle, negative, power);
-        if x < v {
+        if read(middle, negative, power) < v {
             low = middle + 1;
         } else {
             high = middle;
@@ -63,57 +48,43 @@ fn reach(v: f64, negative: bool, power: u64) -> u64
 }
 
 // The m with which the power gives v, if there is one. Asks nothing of v: a NaN, an infinity and a number below zero have none, and -0 has 0.
-pub fn find(v: f64, negative: bool, power: u64) -> Found
+pub fn find(v: f64, negative: bool, power: u64) -> Option<u64>
     requires { power ≤ 22 }
     ensures { result ≡ find_of v negative power }
 {
     let m = reach(v, negative, power);
-    if m < 1_000_000_000_000_000 {
-        let x = read(m, negative, power);
-        if x == v { Found::At(m) } else { Found::Nothing }
+    if m < 1_000_000_000_000_000 && read(m, negative, power) == v {
+        Some(m)
     } else {
-        Found::Nothing
+        None
     }
 }
 
-// v with the power 10^power, or else 10^-power.
-fn attempt(v: f64, power: u64) -> Written
+// v with the power 10^power, or else 10^-power: the digits, whether the power of ten is below zero, and its size.
+fn attempt(v: f64, power: u64) -> Option<(u64, bool, u64)>
     requires { power ≤ 22 }
     ensures { result ≡ attempt_of v power }
 {
-    let above = find(v, false, power);
-    match above {
-        Found::At(m) => Written::Number(m, false, power),
-        Found::Nothing => {
-            let below = find(v, true, power);
-            match below {
-                Found::At(k) => Written::Number(k, true, power),
-                Found::Nothing => Written::Refused,
-            }
-        }
+    if let Some(m) = find(v, false, power) {
+        return Some((m, false, power));
     }
+    let m = find(v, true, power)?;
+    Some((m, true, power))
 }
 
-// v with the power nearest zero that gives it, if one from -22 to 22 does.
-pub fn write(v: f64) -> Written
+// v with the power nearest zero that gives it, if one from -22 to 22 does, said as by `attempt`.
+pub fn write(v: f64) -> Option<(u64, bool, u64)>
     ensures { result ≡ write_of v }
 {
-    let mut power: u64 = 0;
-    while power <= 22 {
-        let w = attempt(v, power);
-        match w {
-            Written::Number(m, negative, p) => {
-                return Written::Number(m, negative, p);
-            }
-            Written::Refused => {
-                power += 1;
-            }
+    for power in 0..=22 {
+        if let Some(written) = attempt(v, power) {
+            return Some(written);
         }
     }
-    Written::Refused
+    None
 }
 
-// v without its minus sign, if it is below zero: what `write` takes.
+// v without its minus sign, if it is below zero: what `write` takes. Not `abs`, which takes the sign of -0 and of a NaN too.
 pub fn magnitude(v: f64) -> f64
     ensures { result ≡ magnitude_of v }
 {

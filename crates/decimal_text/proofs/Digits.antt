@@ -9,10 +9,10 @@ use native.Mathlib.Omega.{arith}
 use lib.Dec.{eqb, leb}
 use lib.ListN.{length, take, drop, get_or, drop_of_length-le, length-drop}
 use lib.Seq.{drop-cons, take_all}
-use borrow.Author.Tests.{lt-leb, le-leb}
+use borrow.Author.Tests.{le-leb}
 use Rattle.store.proofs.store.Region.{le_or_lt}
-use Rattle.decimal_text.specs.declared.field.Digits.{Digits}
-use Rattle.decimal_text.specs.Field.{is_digit, all_digits, number_from, place_of, sign_of, pick_digits, digits_from}
+use Rattle.std.specs.Prelude.{Some, None}
+use Rattle.decimal_text.specs.Field.{is_digit, all_digits, number_from, place_of, pick_digits, digits_from}
 
 -- ---- places
 
@@ -45,14 +45,6 @@ module _ (a b : ℕ) (s : List ℕ) (i : ℕ) (inv : i + place_of a b (drop i s)
       let e : place_of a b (drop i s) ≡ 0 = ap (place_of a b) (drop_of_length-le s h) in
       omega arith
 
-pub sign_within : (l : List ℕ) → sign_of l ≤ length l
-sign_within [] = omega arith
-sign_within (x ∷ l) = go (eqb x 43 || eqb x 45)
-  where
-    go : (t : Bool) → cond t 1 0 ≤ suc (length l)
-    go true = omega arith
-    go false = omega arith
-
 -- what follows a place is what follows it within the list
 pub drop_past : (p : ℕ) (l : List ℕ) → drop (min (p + 1) (length l)) l ≡ drop (p + 1) l
 drop_past p l =
@@ -70,16 +62,9 @@ tail_part a l = take_all (length l - a) (drop a l) (omega (arith, length-drop a 
 
 -- ---- digits
 
--- a byte below `0` or above `9` is no digit, and any other is one
-pub low_no_digit : (b : ℕ) → b < 48 → is_digit b ≡ false
-low_no_digit b h = ap (λ (x : Bool). x && leb b 57) (lt-leb 48 b h)
-
 and_false : (x : Bool) → (x && false) ≡ false
 and_false true = refl
 and_false false = refl
-
-pub high_no_digit : (b : ℕ) → 57 < b → is_digit b ≡ false
-high_no_digit b h = ap (λ (x : Bool). leb 48 b && x) (lt-leb b 57 h) ∙ and_false (leb 48 b)
 
 pub is_digit_lem : (b : ℕ) → 48 ≤ b → b ≤ 57 → is_digit b ≡ true
 is_digit_lem b h k = ap (λ (x : Bool). x && leb b 57) (le-leb 48 b h) ∙ le-leb b 57 k
@@ -116,11 +101,11 @@ number_append n [] l = refl
 number_append n (b ∷ k) l = number_append (n * 10 + (b - 48)) k l
 
 module _ (n m : ℕ) (s : List ℕ) (i : ℕ) (inv : digits_from m (drop i s) ≡ digits_from n s) where
-  pub digits_bad : i < length s → is_digit (get_or s i 0) ≡ false → Digits.Other ≡ digits_from n s
+  pub digits_bad : i < length s → is_digit (get_or s i 0) ≡ false → None ≡ digits_from n s
   unfolding all_digits
   digits_bad h t =
       let e : all_digits (drop i s) ≡ false = ap all_digits (drop-cons s i 0 h) ∙ ap (λ (x : Bool). x && all_digits (drop (suc i) s)) t in
-      sym (ap (λ (x : Bool). pick_digits x (Digits.Number (min (number_from m (drop i s)) (10 ^ 19))) Digits.Other) e) ∙ inv
+      sym (ap (λ (x : Bool). pick_digits x (Some (min (number_from m (drop i s)) (10 ^ 19))) None) e) ∙ inv
 
   pub digits_on : {k : ℕ} → i < length s → is_digit (get_or s i 0) ≡ true → k ≡ min (m * 10 + (get_or s i 0 - 48)) (10 ^ 19) → digits_from k (drop (i + 1) s) ≡ digits_from n s
   unfolding all_digits number_from
@@ -128,13 +113,13 @@ module _ (n m : ℕ) (s : List ℕ) (i : ℕ) (inv : digits_from m (drop i s) �
       let r = drop (suc i) s in
       let d : drop i s ≡ get_or s i 0 ∷ r = drop-cons s i 0 h in
       ap (λ (j : ℕ). digits_from k (drop j s)) (add-one i)
-      ∙ ap (λ (j : ℕ). pick_digits (all_digits r) (Digits.Number j) Digits.Other) (ap (λ (j : ℕ). min (number_from j r) (10 ^ 19)) e ∙ number_cut (m * 10 + (get_or s i 0 - 48)) r)
-      ∙ ap (λ (x : Bool). pick_digits (x && all_digits r) (Digits.Number (min (number_from (m * 10 + (get_or s i 0 - 48)) r) (10 ^ 19))) Digits.Other) (sym t)
+      ∙ ap (λ (j : ℕ). pick_digits (all_digits r) (Some j) None) (ap (λ (j : ℕ). min (number_from j r) (10 ^ 19)) e ∙ number_cut (m * 10 + (get_or s i 0 - 48)) r)
+      ∙ ap (λ (x : Bool). pick_digits (x && all_digits r) (Some (min (number_from (m * 10 + (get_or s i 0 - 48)) r) (10 ^ 19))) None) (sym t)
       ∙ ap (digits_from m) (sym d)
       ∙ inv
 
-  pub digits_end : length s ≤ i → m ≤ 10 ^ 19 → Digits.Number m ≡ digits_from n s
+  pub digits_end : length s ≤ i → m ≤ 10 ^ 19 → Some m ≡ digits_from n s
   unfolding all_digits number_from
   digits_end h c =
       let e : m ≡ min m (10 ^ 19) = omega arith in
-      ap Digits.Number e ∙ ap (digits_from m) (sym (drop_of_length-le s h)) ∙ inv
+      ap Some e ∙ ap (digits_from m) (sym (drop_of_length-le s h)) ∙ inv

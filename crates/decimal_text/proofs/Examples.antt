@@ -4,16 +4,16 @@ use mathlib.Core.List.{[], ◌∷◌}
 use Prim.Native.Nat.{ℕ}
 use lib.Dec.{T, eqb}
 use lib.Ieee.{binary64, to_bits, round, neg}
-use Rattle.decimal_text.specs.declared.field.Reading.{Reading}
+use Rattle.std.specs.Prelude.{Float, Option, Some, None}
 use Rattle.decimal_text.specs.Field.{all_digits, number_from, place_of, value_in}
 
-abbrev is_value : Reading → ℕ → Bool
-is_value (Reading.Value x) bits = eqb (to_bits binary64 x) bits
-is_value Reading.Outside bits = false
+abbrev is_value : Option Float → ℕ → Bool
+is_value (Some x) bits = eqb (to_bits binary64 x) bits
+is_value None bits = false
 
-abbrev is_outside : Reading → Bool
-is_outside (Reading.Value x) = false
-is_outside Reading.Outside = true
+abbrev is_outside : Option Float → Bool
+is_outside (Some x) = false
+is_outside None = true
 
 -- `5.`, `.5`, `-0`, `+1.50e3`, `0001e-00022`, `123456789012345E22`, `0.000000000000000000000000010e25`, `00000000000000000000000000000000000000000001`, `0.1e+0`
 given : T (

@@ -3,6 +3,7 @@ use mathlib.Core.Path.{◌≡◌, refl, sym, ap, ◌∙◌, subst}
 use mathlib.Core.Bool.{Bool, true, false}
 use mathlib.Core.List.{List, [], ◌∷◌}
 use Prim.Native.Nat.{ℕ, zero, suc, ◌+◌, ◌-◌, ◌*◌, ◌≤◌, ◌<◌}
+use native.Mathlib.Nat.{sub-zero}
 use native.Mathlib.Omega.{arith}
 use lib.Dec.{eqb, leb}
 use lib.ListN.{length, take, get_or}
@@ -53,8 +54,11 @@ last_some l (suc n) {d} h k e =
 pub record SameTo (i j : ℕ) (a b : List ℕ) : Type 0 where
   pub is : eqb (number_of (take i a)) (number_of (take j b)) ≡ eqb (number_of a) (number_of b)
 
-pub same_start : (a b : List ℕ) → SameTo (length a) (length b) a b
-same_start a b = record { is = ap (λ (l : List ℕ). eqb (number_of l) (number_of (take (length b) b))) (take-length a) ∙ ap (λ (l : List ℕ). eqb (number_of a) (number_of l)) (take-length b) }
+pub same_start : (a b : List ℕ) → SameTo (length a - 0) (length b - 0) a b
+same_start a b = record { is = ap (λ (l : List ℕ). eqb (number_of l) (number_of (take (length b - 0) b))) (whole a) ∙ ap (λ (l : List ℕ). eqb (number_of a) (number_of l)) (whole b) }
+  where
+    whole : (l : List ℕ) → take (length l - 0) l ≡ l
+    whole l = ap (λ (n : ℕ). take n l) (sub-zero (length l)) ∙ take-length l
 
 -- with a last digit each
 tens_apart : (x y d e : ℕ) → d < 10 → e < 10 → (d ≡ e → ⊥) → eqb (x * 10 + d) (y * 10 + e) ≡ false
@@ -67,7 +71,13 @@ tens_same x y d e h = go (eqb x y) refl
     go true f = eq-eqb (x * 10 + d) (y * 10 + e) (omega (arith, eqb-true x y f, h)) ∙ sym f
     go false f = ne_eqb (x * 10 + d) (y * 10 + e) (λ (g : x * 10 + d ≡ y * 10 + e). eqb-false x y f (omega arith)) ∙ sym f
 
-module _ {i j d e : ℕ} {a b : List ℕ} (s : SameTo i j a b) (p : LastDigit i a d) (q : LastDigit j b e) where
+module _ {i j x y d e : ℕ} {a b : List ℕ} (s : SameTo i j a b) (f : x ≡ i) (g : y ≡ j) (first : LastDigit x a d) (second : LastDigit y b e) where
+  p : LastDigit i a d
+  p = subst (λ (n : ℕ). LastDigit n a d) f first
+
+  q : LastDigit j b e
+  q = subst (λ (n : ℕ). LastDigit n b e) g second
+
   shown : eqb (number_of (take (i - 1) a) * 10 + d) (number_of (take (j - 1) b) * 10 + e) ≡ eqb (number_of a) (number_of b)
   shown = ap (λ (x : ℕ). eqb x (number_of (take (j - 1) b) * 10 + e)) (sym p.is) ∙ ap (λ (x : ℕ). eqb (number_of (take i a)) x) (sym q.is) ∙ s.is
 

@@ -13,11 +13,10 @@ use lib.Ieee.{Float, eq}
 use borrow.Author.Tests.{lt-ltb, le-ltb, leb-true, ne_eqb}
 use Rattle.store.proofs.store.Region.{le_or_lt}
 use Rattle.store.proofs.store.Each.{both_l, both_r}
-use Rattle.decimal.specs.declared.Written.{Written}
+use Rattle.std.specs.Prelude.{Option, Some, None}
 use Rattle.decimal.specs.Decimal.{value_of, signed_of, is_minus, magnitude_of, write_of}
 use Rattle.decimal.proofs.Laws.{write_nearest}
 use Rattle.decimal.proofs.Signs.{signed_trip}
-use Rattle.decimal_text.specs.declared.field.Reading.{Reading}
 use Rattle.decimal_text.specs.Field.{is_digit, all_digits, number_from, number_of, is_number, place_of, starts_minus, sign_of, unsigned, head_of, has_power, power_of, whole_of, fraction_of, both_of, pick_reading, shifted_of, form_of, value_in}
 use Rattle.decimal_text.specs.Figures.{figures_of, figures, sign_text, power_text, number_text, text_of, value_text}
 use Rattle.decimal_text.proofs.Digits.{is_digit_lem, digits_append, number_append}
@@ -139,10 +138,10 @@ form_read minus d has p h g =
     let a = both_r (ltb 0 (length d)) (all_digits d) h in
     let b : both_of d ≡ d = both_same d a in
     let c : fraction_of d ≡ [] = fraction_nil d a in
-    ap (λ (l : List ℕ). pick_reading (is_number l && (not has || is_number (unsigned p))) (shifted_of minus (number_of l) (length (fraction_of d)) (starts_minus p) (number_of (unsigned p))) Reading.Outside) b
-    ∙ ap (λ (l : List ℕ). pick_reading (is_number d && (not has || is_number (unsigned p))) (shifted_of minus (number_of d) (length l) (starts_minus p) (number_of (unsigned p))) Reading.Outside) c
-    ∙ ap (λ (x : Bool). pick_reading (x && (not has || is_number (unsigned p))) (shifted_of minus (number_of d) 0 (starts_minus p) (number_of (unsigned p))) Reading.Outside) h
-    ∙ ap (λ (x : Bool). pick_reading x (shifted_of minus (number_of d) 0 (starts_minus p) (number_of (unsigned p))) Reading.Outside) g
+    ap (λ (l : List ℕ). pick_reading (is_number l && (not has || is_number (unsigned p))) (shifted_of minus (number_of l) (length (fraction_of d)) (starts_minus p) (number_of (unsigned p))) None) b
+    ∙ ap (λ (l : List ℕ). pick_reading (is_number d && (not has || is_number (unsigned p))) (shifted_of minus (number_of d) (length l) (starts_minus p) (number_of (unsigned p))) None) c
+    ∙ ap (λ (x : Bool). pick_reading (x && (not has || is_number (unsigned p))) (shifted_of minus (number_of d) 0 (starts_minus p) (number_of (unsigned p))) None) h
+    ∙ ap (λ (x : Bool). pick_reading x (shifted_of minus (number_of d) 0 (starts_minus p) (number_of (unsigned p))) None) g
 
 module _ (d : List ℕ) (h : is_number d ≡ true) where
   private_digits : all_digits d ≡ true
@@ -183,7 +182,7 @@ module _ (d : List ℕ) (h : is_number d ≡ true) where
 
 -- ---- the value
 
-scaled_plain : (minus : Bool) (m : ℕ) (negative : Bool) (power : ℕ) → m < 10 ^ 15 → power ≤ 22 → shifted_of minus m 0 negative power ≡ Reading.Value (signed_of minus (value_of m negative power))
+scaled_plain : (minus : Bool) (m : ℕ) (negative : Bool) (power : ℕ) → m < 10 ^ 15 → power ≤ 22 → shifted_of minus m 0 negative power ≡ Some (signed_of minus (value_of m negative power))
 scaled_plain minus m true zero h g = sym (scaled_in minus m 0 0 h refl (omega arith) refl refl)
 scaled_plain minus m true (suc power) h g = sym (scaled_in minus m 0 (0 + suc power) {d = suc power} {b = true} h (omega arith) g (lt-ltb 0 (0 + suc power) (omega arith)) refl)
 scaled_plain minus m false power h g = sym (scaled_in minus m power (0 + 0) {d = power} {b = false} h (omega arith) g (le-ltb power (0 + 0) (omega arith)) refl)
@@ -195,7 +194,7 @@ power_shown negative power = ap (λ (b : Bool). cond b [] (101 ∷ sign_text neg
     none n e = omega arith
 
 -- A number that is written with its sign and power is read as its value.
-pub number_trip : (minus : Bool) (m : ℕ) (negative : Bool) (power : ℕ) → m < 10 ^ 15 → power ≤ 22 → value_in (number_text minus m negative power) ≡ Reading.Value (signed_of minus (value_of m negative power))
+pub number_trip : (minus : Bool) (m : ℕ) (negative : Bool) (power : ℕ) → m < 10 ^ 15 → power ≤ 22 → value_in (number_text minus m negative power) ≡ Some (signed_of minus (value_of m negative power))
 number_trip minus m negative power h g =
     let d = figures m in
     let t = power_text negative power in
@@ -204,14 +203,14 @@ number_trip minus m negative power h g =
     ∙ ap (λ (l : List ℕ). form_of minus (head_of l) (has_power l) (power_of l)) (sign_read d t n minus)
     ∙ tail power g
   where
-    tail : (power : ℕ) → power ≤ 22 → form_of minus (head_of (figures m ++ power_text negative power)) (has_power (figures m ++ power_text negative power)) (power_of (figures m ++ power_text negative power)) ≡ Reading.Value (signed_of minus (value_of m negative power))
+    tail : (power : ℕ) → power ≤ 22 → form_of minus (head_of (figures m ++ power_text negative power)) (has_power (figures m ++ power_text negative power)) (power_of (figures m ++ power_text negative power)) ≡ Some (signed_of minus (value_of m negative power))
     tail zero g =
         plain_read (figures m) (figures_number m) minus
         ∙ ap (λ (k : ℕ). shifted_of minus k 0 false 0) (figures_read m (omega arith))
         ∙ scaled_plain minus m false 0 h (omega arith)
         ∙ zero_power negative
       where
-        zero_power : (b : Bool) → Reading.Value (signed_of minus (value_of m false 0)) ≡ Reading.Value (signed_of minus (value_of m b 0))
+        zero_power : (b : Bool) → Some (signed_of minus (value_of m false 0)) ≡ Some (signed_of minus (value_of m b 0))
         zero_power true = refl
         zero_power false = refl
     tail (suc power) g =
@@ -229,8 +228,8 @@ number_trip minus m negative power h g =
         ∙ scaled_plain minus m negative (suc power) h g
 
 -- What is written of a value is in the grammar, and is read as a value that equals it: itself, but for +0 in the place of -0.
-pub value_trip : (v : Float) (m : ℕ) (n : Bool) (q : ℕ) → write_of (magnitude_of v) ≡ Written.Number m n q
-    → (value_in (value_text v) ≡ Reading.Value (signed_of (is_minus v) (value_of m n q))) × (eq (signed_of (is_minus v) (value_of m n q)) v ≡ true)
+pub value_trip : (v : Float) (m : ℕ) (n : Bool) (q : ℕ) → write_of (magnitude_of v) ≡ Some (m, n, q)
+    → (value_in (value_text v) ≡ Some (signed_of (is_minus v) (value_of m n q))) × (eq (signed_of (is_minus v) (value_of m n q)) v ≡ true)
 value_trip v m n q e =
     let w = write_nearest (magnitude_of v) m n q e in
-    (ap (λ (x : Written). value_in (text_of (is_minus v) x)) e ∙ number_trip (is_minus v) m n q w.digits w.power, signed_trip v m n q e)
+    (ap (λ (x : Option (ℕ × Bool × ℕ)). value_in (text_of (is_minus v) x)) e ∙ number_trip (is_minus v) m n q w.digits w.power, signed_trip v m n q e)

@@ -12,9 +12,8 @@ use lib.Ieee.{Float}
 use borrow.Author.Tests.{lt-ltb, le-ltb, eq-eqb, ne_eqb}
 use Rattle.store.specs.Region.{lay, splice}
 use Rattle.store.proofs.store.Region.{splice_nil}
-use Rattle.decimal.specs.declared.Written.{Written}
+use Rattle.std.specs.Prelude.{Option, None}
 use Rattle.decimal.specs.Decimal.{is_minus, magnitude_of, write_of}
-use Rattle.decimal_text.specs.declared.figures.Placed.{Placed}
 use Rattle.decimal_text.specs.Figures.{figures_of, figures, sign_text, power_text, number_text, text_of}
 use Rattle.decimal_text.specs.Contract.{Laid, placed_of, PlacedValue}
 
@@ -123,20 +122,12 @@ power_on negative power e x y z =
 pub number_on : {at a b r : ℕ} {F G H I : List ℕ} (minus : Bool) (m : ℕ) (negative : Bool) (power : ℕ) → Laid (sign_text minus) at F G a → Laid (figures m) a G H b → Laid (power_text negative power) b H I r → Laid (number_text minus m negative power) at F I r
 number_on minus m negative power x y z = laid_on (laid_on x y) z
 
-pub placed_none : {v : Float} {at : ℕ} {F : List ℕ} {w : Written} {x : Float} → x ≡ magnitude_of v → w ≡ write_of x → w ≡ Written.Refused → PlacedValue v at F F Placed.Outside
+pub placed_none : {v : Float} {at : ℕ} {F : List ℕ} {w : Option (ℕ × Bool × ℕ)} {x : Float} → x ≡ magnitude_of v → w ≡ write_of x → w ≡ None → PlacedValue v at F F None
 placed_none {v} {at} {F} {w} {x} e f g =
-    let h : write_of (magnitude_of v) ≡ Written.Refused = ap write_of (sym e) ∙ sym f ∙ g in
+    let h : write_of (magnitude_of v) ≡ None = ap write_of (sym e) ∙ sym f ∙ g in
     record {
-      is = sym (splice_nil at F) ∙ ap (λ (k : Written). splice at (text_of (is_minus v) k) F) (sym h);
+      is = sym (splice_nil at F) ∙ ap (λ (k : Option (ℕ × Bool × ℕ)). splice at (text_of (is_minus v) k) F) (sym h);
       next = ap (placed_of at (is_minus v)) (sym h);
-    }
-
-pub placed_some : {v : Float} {at r : ℕ} {F G : List ℕ} {w : Written} {x : Float} {minus negative : Bool} {m power : ℕ} → minus ≡ is_minus v → x ≡ magnitude_of v → w ≡ write_of x → w ≡ Written.Number m negative power → Laid (number_text minus m negative power) at F G r → PlacedValue v at F G (Placed.At r)
-placed_some {v} {at} {r} {F} {G} {w} {x} {minus} {negative} {m} {power} s e f g a =
-    let h : write_of (magnitude_of v) ≡ Written.Number m negative power = ap write_of (sym e) ∙ sym f ∙ g in
-    record {
-      is = a.is ∙ ap (λ (b : Bool). splice at (number_text b m negative power) F) s ∙ ap (λ (k : Written). splice at (text_of (is_minus v) k) F) (sym h);
-      next = ap Placed.At a.next ∙ ap (λ (b : Bool). Placed.At (at + length (number_text b m negative power))) s ∙ ap (placed_of at (is_minus v)) (sym h);
     }
 
 pub sign_length : (minus : Bool) → length (sign_text minus) ≤ 1

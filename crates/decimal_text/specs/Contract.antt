@@ -1,9 +1,7 @@
 -- What functions over digits and over text ask and ensure. Definitions only.
-use Rattle.std.specs.Prelude.{◌≡◌, Bool, true, List, ℕ, ◌+◌, ◌-◌, ◌*◌, ◌≤◌, ◌<◌, length, take, Float}
+use Rattle.std.specs.Prelude.{Option, Some, None, ◌≡◌, Bool, true, List, ℕ, ◌+◌, ◌-◌, ◌*◌, ◌≤◌, ◌<◌, length, take, Float}
 use Rattle.store.specs.Region.{splice}
-use Rattle.decimal.specs.declared.Written.{Written}
 use Rattle.decimal.specs.Decimal.{write_of, is_minus, magnitude_of}
-use Rattle.decimal_text.specs.declared.figures.Placed.{Placed}
 use Rattle.decimal_text.specs.Field.{all_digits, number_of}
 use Rattle.decimal_text.specs.Figures.{number_text, value_text}
 
@@ -23,11 +21,11 @@ pub record Laid (text : List ℕ) (at : ℕ) (F G : List ℕ) (r : ℕ) : Type 0
   pub next : r ≡ at + length text
 
 -- where the text of a value that was placed at `at` ends
-abbrev pub placed_of : ℕ → Bool → Written → Placed
-placed_of at minus (Written.Number m negative power) = Placed.At (at + length (number_text minus m negative power))
-placed_of at minus Written.Refused = Placed.Outside
+abbrev pub placed_of : ℕ → Bool → Option (ℕ × Bool × ℕ) → Option ℕ
+placed_of at minus (Some (m, negative, power)) = Some (at + length (number_text minus m negative power))
+placed_of at minus None = None
 
 -- Of F it made G, which has the text of the value v from `at` on, if v can be written.
-pub record PlacedValue (v : Float) (at : ℕ) (F G : List ℕ) (r : Placed) : Type 0 where
+pub record PlacedValue (v : Float) (at : ℕ) (F G : List ℕ) (r : Option ℕ) : Type 0 where
   pub is : G ≡ splice at (value_text v) F
   pub next : r ≡ placed_of at (is_minus v) (write_of (magnitude_of v))

@@ -1,10 +1,6 @@
 -- What a field of bytes says: digits, and a value with its sign, point and power of ten. Definitions only.
-use Rattle.std.specs.Prelude.{Bool, true, false, not, cond, ◌&&◌, ◌||◌, List, [], ◌∷◌, ◌++◌, ℕ, suc, ◌+◌, ◌-◌, ◌*◌, ◌^◌, min, eqb, ltb, leb, length, take, drop, get_or}
+use Rattle.std.specs.Prelude.{Option, Some, None, Bool, true, false, not, cond, ◌&&◌, ◌||◌, List, [], ◌∷◌, ◌++◌, ℕ, suc, ◌+◌, ◌-◌, ◌*◌, ◌^◌, min, eqb, ltb, leb, length, take, drop, get_or, Float}
 use Rattle.decimal.specs.Decimal.{value_of, signed_of}
-use Rattle.decimal_text.specs.declared.field.Digits.{Digits}
-use Rattle.decimal_text.specs.declared.field.Mantissa.{Mantissa}
-use Rattle.decimal_text.specs.declared.field.Exponent.{Exponent}
-use Rattle.decimal_text.specs.declared.field.Reading.{Reading}
 
 -- ---- digits
 
@@ -77,70 +73,74 @@ both_of l = whole_of l ++ fraction_of l
 
 -- ---- the value
 
-abbrev pub pick_reading : Bool → Reading → Reading → Reading
+-- the first, where the test holds, else the second
+abbrev pub pick_reading : Bool → Option Float → Option Float → Option Float
 pick_reading true x y = x
 pick_reading false x y = y
 
 -- m * 10^(up - down) after its sign, correctly rounded, if m has at most 15 digits and the power is from -22 to 22
-abbrev pub scaled_of : Bool → ℕ → ℕ → ℕ → Reading
+abbrev pub scaled_of : Bool → ℕ → ℕ → ℕ → Option Float
 scaled_of minus m up down =
     pick_reading (ltb m (10 ^ 15) && leb (up - down + (down - up)) 22)
-    (Reading.Value (signed_of minus (value_of m (ltb up down) (up - down + (down - up)))))
-    Reading.Outside
+    (Some (signed_of minus (value_of m (ltb up down) (up - down + (down - up)))))
+    None
 
 -- m digits with so many of them after the point, times ten to a power with its sign
-abbrev pub shifted_of : Bool → ℕ → ℕ → Bool → ℕ → Reading
+abbrev pub shifted_of : Bool → ℕ → ℕ → Bool → ℕ → Option Float
 shifted_of minus m fraction negative power = scaled_of minus m (cond negative 0 power) (fraction + cond negative power 0)
 
 -- digits with a point or none, then nothing or, after an e or E, a sign or none and digits
-abbrev pub form_of : Bool → List ℕ → Bool → List ℕ → Reading
+abbrev pub form_of : Bool → List ℕ → Bool → List ℕ → Option Float
 form_of minus head has power =
     pick_reading (is_number (both_of head) && (not has || is_number (unsigned power)))
     (shifted_of minus (number_of (both_of head)) (length (fraction_of head)) (starts_minus power) (number_of (unsigned power)))
-    Reading.Outside
+    None
 
 -- the value of a field: a sign or none, digits with a point or none, and a power of ten or none
-abbrev pub value_in : List ℕ → Reading
+abbrev pub value_in : List ℕ → Option Float
 value_in l = form_of (starts_minus l) (head_of (unsigned l)) (has_power (unsigned l)) (power_of (unsigned l))
 
 -- ---- what the code keeps of long digit strings: numbers up to 10^19
 
-abbrev pub pick_digits : Bool → Digits → Digits → Digits
+-- the first, where the test holds, else the second
+abbrev pub pick_digits : Bool → Option ℕ → Option ℕ → Option ℕ
 pick_digits true x y = x
 pick_digits false x y = y
 
-abbrev pub digits_from : ℕ → List ℕ → Digits
-digits_from n l = pick_digits (all_digits l) (Digits.Number (min (number_from n l) (10 ^ 19))) Digits.Other
+abbrev pub digits_from : ℕ → List ℕ → Option ℕ
+digits_from n l = pick_digits (all_digits l) (Some (min (number_from n l) (10 ^ 19))) None
 
 -- a digit string of any length as a number, up to 10^19
-abbrev pub number_in : List ℕ → Digits
-number_in l = pick_digits (is_number l) (Digits.Number (min (number_of l) (10 ^ 19))) Digits.Other
+abbrev pub number_in : List ℕ → Option ℕ
+number_in l = pick_digits (is_number l) (Some (min (number_of l) (10 ^ 19))) None
 
-abbrev pub pick_mantissa : Bool → Mantissa → Mantissa → Mantissa
+-- the first, where the test holds, else the second
+abbrev pub pick_mantissa : Bool → Option (ℕ × ℕ) → Option (ℕ × ℕ) → Option (ℕ × ℕ)
 pick_mantissa true x y = x
 pick_mantissa false x y = y
 
 -- the digits of l behind `whole` digits that write n
-abbrev pub fraction_in : ℕ → ℕ → List ℕ → Mantissa
-fraction_in n whole l = pick_mantissa (ltb 0 (whole + length l) && all_digits l) (Mantissa.Digits (min (number_from n l) (10 ^ 19)) (length l)) Mantissa.Other
+abbrev pub fraction_in : ℕ → ℕ → List ℕ → Option (ℕ × ℕ)
+fraction_in n whole l = pick_mantissa (ltb 0 (whole + length l) && all_digits l) (Some (min (number_from n l) (10 ^ 19), length l)) None
 
 -- the digits around the point
-abbrev pub mantissa_in : List ℕ → Mantissa
-mantissa_in l = pick_mantissa (is_number (both_of l)) (Mantissa.Digits (min (number_of (both_of l)) (10 ^ 19)) (length (fraction_of l))) Mantissa.Other
+abbrev pub mantissa_in : List ℕ → Option (ℕ × ℕ)
+mantissa_in l = pick_mantissa (is_number (both_of l)) (Some (min (number_of (both_of l)) (10 ^ 19), length (fraction_of l))) None
 
-abbrev pub pick_exponent : Bool → Exponent → Exponent → Exponent
+-- the first, where the test holds, else the second
+abbrev pub pick_exponent : Bool → Option (Bool × ℕ) → Option (Bool × ℕ) → Option (Bool × ℕ)
 pick_exponent true x y = x
 pick_exponent false x y = y
 
 -- a power of ten behind its e or E
-abbrev pub exponent_in : List ℕ → Exponent
-exponent_in l = pick_exponent (is_number (unsigned l)) (Exponent.Power (starts_minus l) (min (number_of (unsigned l)) (10 ^ 19))) Exponent.Other
+abbrev pub exponent_in : List ℕ → Option (Bool × ℕ)
+exponent_in l = pick_exponent (is_number (unsigned l)) (Some (starts_minus l, min (number_of (unsigned l)) (10 ^ 19))) None
 
 -- the power of ten of a field whose e or E stands at `mark`, if that is no end
-abbrev pub power_in : List ℕ → ℕ → Exponent
-power_in l mark = pick_exponent (ltb mark (length l)) (exponent_in (drop (mark + 1) l)) (Exponent.Power false 0)
+abbrev pub power_in : List ℕ → ℕ → Option (Bool × ℕ)
+power_in l mark = pick_exponent (ltb mark (length l)) (exponent_in (drop (mark + 1) l)) (Some (false, 0))
 
 -- digits and a power of ten
-abbrev pub shifted_in : Bool → ℕ → ℕ → Exponent → Reading
-shifted_in minus m fraction Exponent.Other = Reading.Outside
-shifted_in minus m fraction (Exponent.Power negative power) = shifted_of minus m fraction negative power
+abbrev pub shifted_in : Bool → ℕ → ℕ → Option (Bool × ℕ) → Option Float
+shifted_in minus m fraction None = None
+shifted_in minus m fraction (Some (negative, power)) = shifted_of minus m fraction negative power

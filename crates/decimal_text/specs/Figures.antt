@@ -1,6 +1,5 @@
 -- How numbers and values are written. Definitions only.
-use Rattle.std.specs.Prelude.{Bool, cond, List, [], ◌∷◌, ◌++◌, ℕ, zero, suc, ◌+◌, ◌/◌, ◌%◌, eqb, ltb, Float}
-use Rattle.decimal.specs.declared.Written.{Written}
+use Rattle.std.specs.Prelude.{Option, Some, None, Bool, cond, List, [], ◌∷◌, ◌++◌, ℕ, zero, suc, ◌+◌, ◌/◌, ◌%◌, eqb, ltb, Float}
 use Rattle.decimal.specs.Decimal.{write_of, is_minus, magnitude_of}
 
 -- the digits of n, with at most `more` after the first
@@ -25,9 +24,9 @@ abbrev pub number_text : Bool → ℕ → Bool → ℕ → List ℕ
 number_text minus m negative power = sign_text minus ++ figures m ++ power_text negative power
 
 -- the text of what was found for a value; nothing where it cannot be written
-abbrev pub text_of : Bool → Written → List ℕ
-text_of minus (Written.Number m negative power) = number_text minus m negative power
-text_of minus Written.Refused = []
+abbrev pub text_of : Bool → Option (ℕ × Bool × ℕ) → List ℕ
+text_of minus (Some (m, negative, power)) = number_text minus m negative power
+text_of minus None = []
 
 -- the text of a value: a minus below zero only, and the power nearest zero
 abbrev pub value_text : Float → List ℕ

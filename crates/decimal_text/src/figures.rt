@@ -4,25 +4,16 @@ ghost use Rattle.std.specs.Prelude.{◌≡◌, ◌∷◌, [], ◌+◌, ◌≤◌
 ghost use Rattle.decimal_text.specs.Figures.{figures, sign_text, power_text, number_text};
 ghost use Rattle.decimal_text.specs.Contract.{Laid, PlacedValue};
 
-use decimal::Written;
-
-// Where the next byte goes; or the value is none that 15 digits and a power of ten from -22 to 22 write.
-#[derive(Clone, Copy)]
-pub enum Placed {
-    At(usize),
-    Outside,
-}
-
 // One byte.
 pub fn put_byte(out: &mut [u8], at: usize, b: u8) -> usize
     requires { at < 2 ^ 63 }
     ensures { Laid (b ∷ []) at out.old out.new result }
 {
-    let next = at + 1;
+    // Not `get_mut`, with which the proof didn't close.
     if at < out.len() {
         out[at] = b;
     }
-    next
+    at + 1
 }
 
 // The byte of a digit.
@@ -30,7 +21,7 @@ fn digit_byte(n: u64) -> u8
     requires { n < 10 }
     ensures { result ≡ n + 48 }
 {
-    (n + 48) as u8
+    b'0' + n as u8
 }
 
 // A number, without a needless leading zero.
@@ -79,17 +70,11 @@ fn put_decimal(out: &mut [u8], at: usize, minus: bool, m: u64, negative: bool, p
     put_power(out, digits, negative, power)
 }
 
-// A value, with the power of ten nearest zero that gives it.
-pub fn put_value(out: &mut [u8], at: usize, v: f64) -> Placed
+// A value, with the power of ten nearest zero that gives it: where the next byte goes; none where no 15 digits with a power of ten from -22 to 22 write it.
+pub fn put_value(out: &mut [u8], at: usize, v: f64) -> Option<usize>
     requires { at ≤ 2 ^ 60 }
     ensures { PlacedValue v at out.old out.new result }
 {
-    let minus = v < 0.0;
-    let w = decimal::write(decimal::magnitude(v));
-    match w {
-        Written::Refused => Placed::Outside,
-        Written::Number(m, negative, power) => Placed::At(put_decimal(
-            out, at, minus, m, negative, power,
-        )),
-    }
+    let (m, negative, power) = decimal::write(decimal::magnitude(v))?;
+    Some(put_decimal(out, at, v < 0.0, m, negative, power))
 }

@@ -11,7 +11,7 @@ ghost use Rattle.dic.specs.Turns.{pivot_turn, PivotRowed};
 
 use gauss_seidel::Carried;
 use matrix::SymmetricMatrix;
-use refusal::{Refusal, Verdict};
+use refusal::Refusal;
 
 // Finite and above zero.
 fn is_pivot(d: f64) -> bool
@@ -37,13 +37,11 @@ fn pivot_faces(
     ensures { Watched (pivot_turn w.now s d pivot) lo hi f.old f.new next.near next.watched result }
 {
     let mut held = next.held;
-    let mut face = lo;
-    while face < hi {
+    for face in lo..hi {
         let neighbor = store::index_at(w, s.neighbors, face, s.rows);
         let a = f[s.coefficients + face];
         let left = f[d + neighbor] - a * a / pivot;
         held = store::put(f, d + neighbor, left, next.near, next.watched, held);
-        face += 1;
     }
     held
 }
@@ -67,36 +65,39 @@ fn pivot_row(
     let next = d + (row + 1);
     let held = store::float_at(f, next);
     let carried = Carried {
-        near: near,
+        near,
         watched: next,
-        held: held,
+        held,
     };
     let stays = pivot_faces(w, f, s, d, lo, hi, pivot, carried);
     store::held_at(f, next, near, stays)
 }
 
 // Question 16 of each row, whose pivot then goes to its neighbours.
-fn dic_pivots(w: &[u32], f: &mut [f64], s: SymmetricMatrix, d: usize, level: u64) -> Verdict
+fn dic_pivots(
+    w: &[u32],
+    f: &mut [f64],
+    s: SymmetricMatrix,
+    d: usize,
+    level: u64,
+) -> Result<(), Refusal>
     requires dic_ok { DicOk w.now (length f.old) s d }
     requires f_value { part d s.rows f.old ≡ part s.diagonal s.rows f.old }
     ensures { Settled d s.rows (pivots_of level (kernel_at s w.now f.old)) f.old f.new result }
 {
     let near = gauss_seidel::few_faces(w, s);
     let mut pivot = store::float_at(f, d);
-    let mut row = 0;
-    while row < s.rows {
-        if is_pivot(pivot) {
-            pivot = pivot_row(w, f, s, d, near, row, pivot);
-            row += 1;
-        } else {
-            return Verdict::Refused(Refusal {
+    for row in 0..s.rows {
+        if !is_pivot(pivot) {
+            return Err(Refusal {
                 number: refusal::BAD_DIC_PIVOT,
-                level: level,
+                level,
                 row: row as u64,
             });
         }
+        pivot = pivot_row(w, f, s, d, near, row, pivot);
     }
-    Verdict::Passed
+    Ok(())
 }
 
 // The reciprocal of each pivot, in its place, and whether all of them are finite. No branch leaves the loop, so that it divides
@@ -106,43 +107,38 @@ fn invert(f: &mut [f64], rows: usize, d: usize) -> bool
     ensures { Inverted rows d f.old f.new result }
 {
     let mut ok = true;
-    let mut row = 0;
-    while row < rows {
+    for row in 0..rows {
         let reciprocal = 1.0 / f[d + row];
         ok = ok & float::is_finite(reciprocal);
         f[d + row] = reciprocal;
-        row += 1;
     }
     ok
 }
 
 // Question 17, row by row, of the reciprocals that are written: which row fails first.
-fn ask_reciprocals(f: &[f64], rows: usize, d: usize, level: u64) -> Verdict
+fn ask_reciprocals(f: &[f64], rows: usize, d: usize, level: u64) -> Result<(), Refusal>
     requires { d + rows ≤ length f.now }
     ensures { ReciprocalsAsked level rows d f.now result }
 {
-    let mut row = 0;
-    while row < rows {
-        if float::is_finite(f[d + row]) {
-            row += 1;
-        } else {
-            return Verdict::Refused(Refusal {
+    for row in 0..rows {
+        if !float::is_finite(f[d + row]) {
+            return Err(Refusal {
                 number: refusal::BAD_DIC_RECIPROCAL,
-                level: level,
+                level,
                 row: row as u64,
             });
         }
     }
-    Verdict::Passed
+    Ok(())
 }
 
 // The reciprocals, and question 17. Rows are asked one by one only where one of them fails.
-fn dic_reciprocals(f: &mut [f64], rows: usize, d: usize, level: u64) -> Verdict
+fn dic_reciprocals(f: &mut [f64], rows: usize, d: usize, level: u64) -> Result<(), Refusal>
     requires { d + rows ≤ length f.old }
     ensures { Settled d rows (reciprocals_of level rows (part d rows f.old)) f.old f.new result }
 {
     if invert(f, rows, d) {
-        return Verdict::Passed;
+        return Ok(());
     }
     ask_reciprocals(f, rows, d, level)
 }
@@ -154,14 +150,11 @@ pub fn update_dic_diagonal(
     s: SymmetricMatrix,
     d: usize,
     level: u64,
-) -> Verdict
+) -> Result<(), Refusal>
     requires { DicOk w.now (length f.old) s d }
     ensures { Settled d s.rows (dic_of level (kernel_at s w.now f.old)) f.old f.new result }
 {
     store::copy(f, s.rows, s.diagonal, d);
-    let pivots = dic_pivots(w, f, s, d, level);
-    match pivots {
-        Verdict::Passed => dic_reciprocals(f, s.rows, d, level),
-        Verdict::Refused(refusal) => Verdict::Refused(refusal),
-    }
+    dic_pivots(w, f, s, d, level)?;
+    dic_reciprocals(f, s.rows, d, level)
 }

@@ -28,12 +28,10 @@ fn add_faces(
     ensures { Gathered add64 w.now s v lo hi zero64 f.now result }
 {
     let mut value = 0.0;
-    let mut face = lo;
-    while face < hi {
+    for face in lo..hi {
         let neighbor = store::index_at(w, s.neighbors, face, s.rows);
         let other = store::float_near(f, v + neighbor, last.near, last.watched, last.held);
-        value = value + f[s.coefficients + face] * other;
-        face += 1;
+        value += f[s.coefficients + face] * other;
     }
     value
 }
@@ -72,9 +70,9 @@ fn lower_row(
     let next = correction + (row + 1);
     let held = store::float_at(f, next);
     let carried = Carried {
-        near: near,
+        near,
         watched: next,
-        held: held,
+        held,
     };
     let stays = gauss_seidel::cast_faces(w, f, s, correction, lo, hi, value, carried);
     store::held_at(f, next, near, stays)
@@ -87,10 +85,8 @@ fn lower(w: &[u32], f: &mut [f64], s: SymmetricMatrix, dic: usize, correction: u
 {
     let near = gauss_seidel::few_faces(w, s);
     let mut start = store::float_at(f, correction);
-    let mut row = 0;
-    while row < s.rows {
+    for row in 0..s.rows {
         start = lower_row(w, f, s, dic, correction, near, row, start);
-        row += 1;
     }
 }
 
@@ -116,6 +112,7 @@ fn upper_value(
 }
 
 // The backward substitution, row by row added to x.
+// No `rev`: `upper_turn` speaks of the count of the rows done, and the first row's `watched` is one past the last.
 fn upper(w: &[u32], f: &mut [f64], s: SymmetricMatrix, dic: usize, x: usize, correction: usize)
     requires vectors_ok { VectorsOk w.now (length f.old) s dic correction }
     requires rows_in_bounds { x + s.rows ≤ length f.old }
@@ -123,19 +120,17 @@ fn upper(w: &[u32], f: &mut [f64], s: SymmetricMatrix, dic: usize, x: usize, cor
 {
     let near = gauss_seidel::few_faces(w, s);
     let mut held = store::float_at(f, correction + s.rows);
-    let mut i = 0;
-    while i < s.rows {
+    for i in 0..s.rows {
         let row = s.rows - 1 - i;
         let last = Carried {
-            near: near,
+            near,
             watched: correction + (s.rows - i),
-            held: held,
+            held,
         };
         let value = upper_value(w, f, s, dic, correction, row, last);
         let sum = f[x + row] + value;
         f[correction + row] = value;
         held = store::put(f, x + row, sum, near, correction + row, value);
-        i += 1;
     }
 }
 

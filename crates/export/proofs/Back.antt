@@ -1,9 +1,9 @@
 -- Structs and what they stand for: a struct out of range is refused, every controls have a struct, and the handle that a build gives to C
 -- is read back as the build's own.
 -- Assumes nothing.
+use Rattle.std.specs.Prelude.{Ok}
 use mathlib.Core.Path.{◌≡◌, refl}
 use mathlib.Core.Bool.{Bool, true, false, cond, ◌&&◌}
-use Prim.Native.Nat.{ℕ}
 use lib.Dec.{leb}
 use lib.Ieee.{round, of_bits, lt}
 use Rattle.refusal.specs.Refusal.{invalid_controls}
@@ -15,7 +15,6 @@ use Rattle.options.specs.declared.options.MultigridSmoother.{MultigridSmoother}
 use Rattle.options.specs.declared.options.MultigridResidualNorm.{MultigridResidualNorm}
 use Rattle.options.specs.declared.options.MultigridCoarseSolver.{MultigridCoarseSolver}
 use Rattle.options.specs.Options.{default_options, within, tolerable, cap_allowed, valid_of, controls_asked}
-use Rattle.solver.specs.declared.answers.Built.{Built}
 use Rattle.export.specs.Flat.{is_set, smoother_of, residual_norm_of, coarse_solver_of}
 use Rattle.export.specs.Structs.{in_range, controls_of, handle_of, smoother_number, residual_norm_number, coarse_solver_number, struct_of, with_cholesky, default_struct, built_struct}
 use Rattle.export.specs.declared.structs.OptionsForC.{OptionsForC}
@@ -109,6 +108,6 @@ unfolding default_options valid_of is_finite round of_bits lt
 defaults_pass = rw defaults_back
 
 -- The struct that a build answers with stands for the handle of that build.
-pub handle_back : (o : OptionsForC) (h : Handle) → h.options ≡ controls_of o → handle_of (built_struct o (Built.Made h)).hierarchy ≡ h
+pub handle_back : (o : OptionsForC) (h : Handle) → h.options ≡ controls_of o → handle_of (built_struct o (Ok h)).hierarchy ≡ h
 unfolding handle_of
 handle_back o h e = rw (← e)

@@ -1,5 +1,6 @@
 -- How the structs of C stand for controls, handle and answers. Definitions only.
-use Rattle.std.specs.Prelude.{Bool, cond, ◌&&◌, ℕ, leb, Float}
+use Rattle.solver.specs.declared.solver.LinearSolveReport.{LinearSolveReport}
+use Rattle.std.specs.Prelude.{Bool, cond, ◌&&◌, ℕ, leb, Float, Result, Ok, Err}
 use Rattle.std.specs.Float.{binary64}
 use Rattle.std.specs.Float.Ieee.{of_bits}
 use Rattle.refusal.specs.declared.Refusal.{Refusal}
@@ -11,10 +12,6 @@ use Rattle.options.specs.declared.options.Handle.{Handle}
 use Rattle.options.specs.Options.{default_options}
 use Rattle.solver.specs.declared.solver.LinearSolverStatus.{LinearSolverStatus}
 use Rattle.solver.specs.declared.solver.LinearSolverOptions.{LinearSolverOptions}
-use Rattle.solver.specs.declared.answers.Built.{Built}
-use Rattle.solver.specs.declared.answers.Updated.{Updated}
-use Rattle.solver.specs.declared.answers.Solved.{Solved}
-use Rattle.solver.specs.declared.answers.Counted.{Counted}
 use Rattle.export.specs.Flat.{options_of}
 use Rattle.export.specs.declared.structs.OptionsForC.{OptionsForC}
 use Rattle.export.specs.declared.structs.HierarchyForC.{HierarchyForC}
@@ -127,17 +124,17 @@ abbrev pub refused_by : Refusal → AnswerForC
 refused_by q = record { question = q.number; level = q.level; row = q.row }
 
 -- a build's answer: the handle, with the controls as they were given; where it is refused, the handle has no level, row or entry
-abbrev pub built_struct : OptionsForC → Built → BuiltForC
-built_struct o (Built.Made h) = record {
+abbrev pub built_struct : OptionsForC → Result Handle Refusal → BuiltForC
+built_struct o (Ok h) = record {
   answer = nothing_refused;
   hierarchy = record { options = o; levels = h.levels; rows = h.rows; entries = h.entries };
 }
-built_struct o (Built.Refused q) = record { answer = refused_by q; hierarchy = record { options = o; levels = 0; rows = 0; entries = 0 } }
+built_struct o (Err q) = record { answer = refused_by q; hierarchy = record { options = o; levels = 0; rows = 0; entries = 0 } }
 
 -- an update's answer
-abbrev pub updated_struct : Updated → AnswerForC
-updated_struct Updated.Done = nothing_refused
-updated_struct (Updated.Refused q) = refused_by q
+abbrev pub updated_struct : Result Unit Refusal → AnswerForC
+updated_struct (Ok tt) = nothing_refused
+updated_struct (Err q) = refused_by q
 
 -- 1 where a solve converged, 0 where the iterations are used up
 abbrev pub converged_number : LinearSolverStatus → ℕ
@@ -145,8 +142,8 @@ converged_number LinearSolverStatus.Converged = 1
 converged_number LinearSolverStatus.MaxIterations = 0
 
 -- a solve's answer; where it is refused, all but the refusal is zero
-abbrev pub solved_struct : Solved → ReportForC
-solved_struct (Solved.Report v) = record {
+abbrev pub solved_struct : Result LinearSolveReport Refusal → ReportForC
+solved_struct (Ok v) = record {
   answer = nothing_refused;
   converged = converged_number v.status;
   iterations = v.iterations;
@@ -154,7 +151,7 @@ solved_struct (Solved.Report v) = record {
   final_residual = v.final_residual;
   relative_residual = v.relative_residual;
 }
-solved_struct (Solved.Refused q) = record {
+solved_struct (Err q) = record {
   answer = refused_by q;
   converged = 0;
   iterations = 0;
@@ -164,6 +161,6 @@ solved_struct (Solved.Refused q) = record {
 }
 
 -- the answer of `statistics`: how many records are the levels'
-abbrev pub counted_struct : Counted → CountForC
-counted_struct (Counted.Levels levels) = record { answer = nothing_refused; levels = levels }
-counted_struct (Counted.Refused q) = record { answer = refused_by q; levels = 0 }
+abbrev pub counted_struct : Result ℕ Refusal → CountForC
+counted_struct (Ok levels) = record { answer = nothing_refused; levels = levels }
+counted_struct (Err q) = record { answer = refused_by q; levels = 0 }

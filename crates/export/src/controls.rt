@@ -4,39 +4,39 @@ ghost use Rattle.export.specs.Flat.{smoother_of, residual_norm_of, coarse_solver
 
 use options::{MultigridCoarseSolver, MultigridOptions, MultigridResidualNorm, MultigridSmoother};
 
+// The smoother of a number; a number past the end is the last.
 pub fn smoother_of(number: u64) -> MultigridSmoother
     ensures { result ≡ smoother_of number }
 {
-    if number == 0 {
-        MultigridSmoother::GaussSeidel
-    } else if number == 1 {
-        MultigridSmoother::SymmetricGaussSeidel
-    } else {
-        MultigridSmoother::DicGaussSeidel
+    match number {
+        0 => MultigridSmoother::GaussSeidel,
+        1 => MultigridSmoother::SymmetricGaussSeidel,
+        _ => MultigridSmoother::DicGaussSeidel,
     }
 }
 
+// The same of a residual norm.
 pub fn residual_norm_of(number: u64) -> MultigridResidualNorm
     ensures { result ≡ residual_norm_of number }
 {
-    if number == 0 {
-        MultigridResidualNorm::AbsoluteL2
-    } else {
-        MultigridResidualNorm::NormalizedL1
+    match number {
+        0 => MultigridResidualNorm::AbsoluteL2,
+        _ => MultigridResidualNorm::NormalizedL1,
     }
 }
 
+// The same of a coarse solver.
 pub fn coarse_solver_of(number: u64) -> MultigridCoarseSolver
     ensures { result ≡ coarse_solver_of number }
 {
-    if number == 0 {
-        MultigridCoarseSolver::PcgDic
-    } else {
-        MultigridCoarseSolver::Cholesky
+    match number {
+        0 => MultigridCoarseSolver::PcgDic,
+        _ => MultigridCoarseSolver::Cholesky,
     }
 }
 
-// The controls, in the order of the source, and the cap.
+// The controls, in the order of the source, and the cap. The numbers come apart, as `options_of` of specs/Flat.antt takes them: its
+// callers are other crates, and each has them from numbers of its own.
 pub fn options_of(
     smoother: u8,
     residual_norm: u8,
@@ -62,22 +62,22 @@ pub fn options_of(
         max_aggregate_cells }
 {
     MultigridOptions {
-        smoother: smoother_of(smoother as u64),
-        residual_norm: residual_norm_of(residual_norm as u64),
-        pre_sweeps: pre_sweeps,
-        post_sweeps: post_sweeps,
-        finest_sweeps: finest_sweeps,
-        sweep_level_multiplier: sweep_level_multiplier,
-        max_sweeps: max_sweeps,
-        coarsest_cells: coarsest_cells,
-        max_levels: max_levels,
-        merge_levels: merge_levels,
-        krylov_dimension: krylov_dimension,
-        coarse_solver: coarse_solver_of(coarse_solver as u64),
-        coarse_absolute_tolerance: coarse_absolute_tolerance,
-        coarse_relative_tolerance: coarse_relative_tolerance,
-        coarse_max_iterations: coarse_max_iterations,
+        smoother: smoother_of(u64::from(smoother)),
+        residual_norm: residual_norm_of(u64::from(residual_norm)),
+        pre_sweeps,
+        post_sweeps,
+        finest_sweeps,
+        sweep_level_multiplier,
+        max_sweeps,
+        coarsest_cells,
+        max_levels,
+        merge_levels,
+        krylov_dimension,
+        coarse_solver: coarse_solver_of(u64::from(coarse_solver)),
+        coarse_absolute_tolerance,
+        coarse_relative_tolerance,
+        coarse_max_iterations,
         scale_correction: scale_correction != 0,
-        max_aggregate_cells: max_aggregate_cells,
+        max_aggregate_cells,
     }
 }

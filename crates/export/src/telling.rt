@@ -3,8 +3,9 @@ ghost use Rattle.std.specs.Prelude.{◌≡◌};
 ghost use Rattle.export.specs.Structs.{default_struct, refused_by, built_struct, updated_struct, converged_number, solved_struct, counted_struct};
 
 use crate::structs::{AnswerForC, BuiltForC, CountForC, HierarchyForC, OptionsForC, ReportForC};
+use options::Handle;
 use refusal::Refusal;
-use solver::{Built, Counted, LinearSolverStatus, Solved, Updated};
+use solver::{LinearSolveReport, LinearSolverStatus};
 
 // Nothing is refused.
 const DONE: AnswerForC = AnswerForC {
@@ -49,23 +50,23 @@ pub fn default_options() -> OptionsForC
 }
 
 // The answer of a build with those controls, which its handle keeps.
-pub fn tell_built(options: OptionsForC, built: Built) -> BuiltForC
+pub fn tell_built(options: OptionsForC, built: Result<Handle, Refusal>) -> BuiltForC
     ensures { result ≡ built_struct options built }
 {
     match built {
-        Built::Made(handle) => BuiltForC {
+        Ok(handle) => BuiltForC {
             answer: DONE,
             hierarchy: HierarchyForC {
-                options: options,
+                options,
                 levels: handle.levels,
                 rows: handle.rows,
                 entries: handle.entries,
             },
         },
-        Built::Refused(refusal) => BuiltForC {
+        Err(refusal) => BuiltForC {
             answer: refused(refusal),
             hierarchy: HierarchyForC {
-                options: options,
+                options,
                 levels: 0,
                 rows: 0,
                 entries: 0,
@@ -75,12 +76,12 @@ pub fn tell_built(options: OptionsForC, built: Built) -> BuiltForC
 }
 
 // The answer of an update.
-pub fn tell_updated(updated: Updated) -> AnswerForC
+pub fn tell_updated(updated: Result<(), Refusal>) -> AnswerForC
     ensures { result ≡ updated_struct updated }
 {
     match updated {
-        Updated::Done => DONE,
-        Updated::Refused(refusal) => refused(refusal),
+        Ok(()) => DONE,
+        Err(refusal) => refused(refusal),
     }
 }
 
@@ -94,11 +95,11 @@ fn converged_number(status: LinearSolverStatus) -> u64
 }
 
 // The answer of a solve.
-pub fn tell_solved(solved: Solved) -> ReportForC
+pub fn tell_solved(solved: Result<LinearSolveReport, Refusal>) -> ReportForC
     ensures { result ≡ solved_struct solved }
 {
     match solved {
-        Solved::Report(report) => {
+        Ok(report) => {
             let status = report.status;
             ReportForC {
                 answer: DONE,
@@ -109,7 +110,7 @@ pub fn tell_solved(solved: Solved) -> ReportForC
                 relative_residual: report.relative_residual,
             }
         }
-        Solved::Refused(refusal) => ReportForC {
+        Err(refusal) => ReportForC {
             answer: refused(refusal),
             converged: 0,
             iterations: 0,
@@ -121,15 +122,15 @@ pub fn tell_solved(solved: Solved) -> ReportForC
 }
 
 // The answer of `statistics`.
-pub fn tell_counted(counted: Counted) -> CountForC
+pub fn tell_counted(counted: Result<u64, Refusal>) -> CountForC
     ensures { result ≡ counted_struct counted }
 {
     match counted {
-        Counted::Levels(levels) => CountForC {
+        Ok(levels) => CountForC {
             answer: DONE,
-            levels: levels,
+            levels,
         },
-        Counted::Refused(refusal) => CountForC {
+        Err(refusal) => CountForC {
             answer: refused(refusal),
             levels: 0,
         },

@@ -1,7 +1,7 @@
 -- What the functions require and ensure: the pattern and what is written, as regions of one store of words.
 -- Definitions only.
-use Rattle.std.specs.Prelude.{◌≡◌, Bool, true, List, ℕ, ◌+◌, ◌≤◌, length}
-use Rattle.refusal.specs.declared.Verdict.{Verdict}
+use Rattle.refusal.specs.declared.Refusal.{Refusal}
+use Rattle.std.specs.Prelude.{◌≡◌, Bool, true, List, ℕ, ◌+◌, ◌≤◌, length, Result, Ok}
 use Rattle.refusal.specs.Outcome.{verdict_of}
 use Rattle.store.specs.Region.{part, Wrote, Kept}
 use Rattle.pattern.specs.Pattern.{Pattern, Valid, Rising, Diagonal}
@@ -84,9 +84,9 @@ pub record DiagonalsOk (w : List ℕ) (s : Faces) : Type 0 where
   pub room : s.diagonals + s.rows ≤ length w
 
 -- Whether each row has its diagonal entry; if so these at `diagonals`; in any case nothing else is changed.
-pub record DiagonalsDone (w z : List ℕ) (s : Faces) (level : ℕ) (r : Verdict) : Type 0 where
+pub record DiagonalsDone (w z : List ℕ) (s : Faces) (level : ℕ) (r : Result Unit Refusal) : Type 0 where
   pub verdict : r ≡ verdict_of (diagonals_asked level (pattern_at w s))
-  pub diagonals : r ≡ Verdict.Passed → part s.diagonals s.rows z ≡ diagonals_of (pattern_at w s)
+  pub diagonals : r ≡ Ok tt → part s.diagonals s.rows z ≡ diagonals_of (pattern_at w s)
   pub only : Wrote s.diagonals s.rows (part s.diagonals s.rows z) w z
 
 -- ---- coupled rows

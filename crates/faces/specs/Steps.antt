@@ -1,6 +1,6 @@
 -- What the inner functions require and ensure.
 -- Definitions only.
-use Rattle.std.specs.Prelude.{◌≡◌, Bool, true, cond, List, ℕ, ◌+◌, ◌≤◌, ◌<◌, length, set}
+use Rattle.std.specs.Prelude.{◌≡◌, Bool, true, cond, List, Option, Some, None, ℕ, ◌+◌, ◌≤◌, ◌<◌, length, set}
 use Rattle.store.specs.Region.{idx}
 use Rattle.pattern.specs.Pattern.{how_many, column_of, row_of}
 use Rattle.faces.specs.declared.faces.Faces.{Faces}
@@ -56,9 +56,9 @@ pub record EntryOk (w : List ℕ) (s : Faces) (i : ℕ) : Type 0 where
   pub ordered : Ordered w s
   pub near : i < s.rows
 
--- The entry in row i and column j; if there is none, the number of entries.
-pub record Entry (w : List ℕ) (s : Faces) (i j r : ℕ) : Type 0 where
-  pub is : r ≡ cond (has_entry (pattern_at w s) i j) (stands_at (pattern_at w s) i j) s.entries
+-- The entry in row i and column j, if there is one.
+pub record Entry (w : List ℕ) (s : Faces) (i j : ℕ) (r : Option ℕ) : Type 0 where
+  pub is : r ≡ cond (has_entry (pattern_at w s) i j) (Some (stands_at (pattern_at w s) i j)) None
 
 -- Entry e, with its row and column.
 pub record MirrorOk (w : List ℕ) (s : Faces) (row column e : ℕ) : Type 0 where

@@ -23,14 +23,11 @@ pub fn coupled_count(w: &[u32], s: Faces) -> usize
     requires { CoupledOk w.now s }
     ensures { CoupledCount w.now s result }
 {
-    let rows = s.rows;
     let mut count = 0;
-    let mut row = 0;
-    while row < rows {
+    for row in 0..s.rows {
         if is_coupled(w, s, row) {
             count += 1;
         }
-        row += 1;
     }
     count
 }
@@ -40,12 +37,9 @@ pub fn coupled_rows(w: &mut [u32], s: Faces, to: usize)
     requires { CoupledRowsOk w.old s to }
     ensures { CoupledRows w.old w.new s to }
 {
-    let rows = s.rows;
     let mut count = 0;
-    let mut row = 0;
-    while row < rows {
+    for row in 0..s.rows {
         let coupled = is_coupled(w, s, row);
         count = push_if(w, to, count, row, coupled);
-        row += 1;
     }
 }

@@ -27,15 +27,13 @@ fn count_row(w: &[u32], s: Faces, row: usize, found: usize) -> usize
     requires { CountOk w.now s row found }
     ensures { Counted w.now s row result }
 {
-    let offsets = s.offsets;
-    let end = wide(w[offsets + row + 1]);
-    let mut e = wide(w[offsets + row]);
+    let start = wide(w[s.offsets + row]);
+    let end = wide(w[s.offsets + row + 1]);
     let mut count = found;
-    while e < end {
+    for e in start..end {
         if index_at(w, s.columns, e, s.rows) > row {
             count += 1;
         }
-        e += 1;
     }
     count
 }
@@ -45,17 +43,13 @@ pub fn face_offsets(w: &mut [u32], s: Faces) -> usize
     requires { OffsetsOk w.old s }
     ensures { OffsetsDone w.old w.new s result }
 {
-    let rows = s.rows;
-    let starts = s.starts;
     let mut found = 0;
-    let mut row = 0;
-    while row < rows {
+    for row in 0..s.rows {
         let more = count_row(w, s, row, found);
-        w[starts + row] = found as u32;
+        w[s.starts + row] = found as u32;
         found = more;
-        row += 1;
     }
-    w[starts + rows] = found as u32;
+    w[s.starts + s.rows] = found as u32;
     found
 }
 
@@ -66,6 +60,7 @@ pub fn row_from(w: &[u32], s: Faces, from: usize, e: usize) -> usize
 {
     let mut row = from;
     let mut end = wide(w[s.offsets + row + 1]);
+    // A while: it goes on up to the row that ends behind the entry, which no range says beforehand.
     while end <= e {
         row += 1;
         end = wide(w[s.offsets + row + 1]);
@@ -90,16 +85,13 @@ pub fn fill_faces(w: &mut [u32], s: Faces)
     requires { FillOk w.old s }
     ensures { Filled w.old w.new s }
 {
-    let entries = s.entries;
     let mut row = 0;
     let mut face = 0;
-    let mut e = 0;
-    while e < entries {
+    for e in 0..s.entries {
         row = row_from(w, s, row, e);
         let column = index_at(w, s.columns, e, s.rows);
         let above = column > row;
         push_if(w, s.neighbors, face, column, above);
         face = push_if(w, s.uppers, face, e, above);
-        e += 1;
     }
 }

@@ -4,28 +4,17 @@
 // With four numbers as arguments, seed, width, height and depth, it shows that load; else three: a flat one of two cells by two, one with depth, and one of 64 cells by 64.
 #![tactic(auto)]
 
-use load::loading::{Loaded, Size, load};
+use load::loading::{Size, load};
 use std::env::{Env, FillError};
 use std::io;
 use store::wide;
 
-// A number with a blank before it.
-fn number(rt: &impl Print, n: u64) -> io::Result<()> {
-    print!(rt; " {n}")
-}
-
-fn end_line(rt: &impl Print) -> io::Result<()> {
-    print!(rt; "\n")
-}
-
 // The whole number that a float is: no entry of a row with six faces is above 6,145.
 fn magnitude(x: f64) -> u64 {
-    let mut n: u32 = 0;
-    while n < 8192 {
-        if x <= n as f64 {
-            return n as u64;
+    for n in 0..8192u32 {
+        if x <= f64::from(n) {
+            return u64::from(n);
         }
-        n += 1;
     }
     8192
 }
@@ -41,11 +30,11 @@ fn value(rt: &impl Print, x: f64) -> io::Result<()> {
 
 // The column and the value of an entry.
 fn entry(rt: &impl Print, columns: &[u32], values: &[f64], at: usize) -> io::Result<()> {
-    if at < columns.len() {
-        number(rt, wide(columns[at]) as u64)?;
+    if let Some(column) = columns.get(at) {
+        print!(rt; " {column}")?;
     }
-    if at < values.len() {
-        value(rt, values[at])?;
+    if let Some(&x) = values.get(at) {
+        value(rt, x)?;
     }
     Ok(())
 }
@@ -75,14 +64,10 @@ fn row(
     values: &[f64],
     i: usize,
 ) -> io::Result<()> {
-    if i < 65536 {
-        if i + 1 < offsets.len() {
-            print!(rt; "row")?;
-            number(rt, i as u64)?;
-            print!(rt; ":")?;
-            entries(rt, columns, values, wide(offsets[i]), wide(offsets[i + 1]))?;
-            end_line(rt)?;
-        }
+    if i < 65536 && i + 1 < offsets.len() {
+        print!(rt; "row {i}:")?;
+        entries(rt, columns, values, wide(offsets[i]), wide(offsets[i + 1]))?;
+        println!(rt; "")?;
     }
     Ok(())
 }
@@ -95,34 +80,20 @@ fn rows(
     values: &[f64],
     count: u64,
 ) -> io::Result<()> {
-    for i in 0..8 {
-        if (i as u64) < count {
-            row(rt, offsets, columns, values, i)?;
-        }
+    for i in 0..count.min(8) {
+        row(rt, offsets, columns, values, i as usize)?;
     }
     Ok(())
 }
 
 // What was asked for.
 fn title(rt: &impl Print, seed: u64, width: u64, height: u64, depth: u64) -> io::Result<()> {
-    print!(rt; "seed")?;
-    number(rt, seed)?;
-    print!(rt; ", cells")?;
-    number(rt, width)?;
-    print!(rt; " by")?;
-    number(rt, height)?;
-    print!(rt; " by")?;
-    number(rt, depth)?;
-    print!(rt; ":")
+    print!(rt; "seed {seed}, cells {width} by {height} by {depth}:")
 }
 
 // The size of a load that was made.
 fn size(rt: &impl Print, s: Size) -> io::Result<()> {
-    number(rt, s.rows)?;
-    print!(rt; " rows,")?;
-    number(rt, s.entries)?;
-    print!(rt; " entries")?;
-    end_line(rt)
+    println!(rt; " {} rows, {} entries", s.rows, s.entries)
 }
 
 // A load, of 4,096 cells at most.
@@ -140,38 +111,25 @@ fn show(rt: &impl Print, seed: u64, width: u64, height: u64, depth: u64) -> io::
         &mut columns,
         &mut values,
     ) {
-        Loaded::Made(s) => {
+        Ok(s) => {
             size(rt, s)?;
             rows(rt, &offsets, &columns, &values, s.rows)
         }
-        Loaded::Refused(q) => {
-            print!(rt; " refused")?;
-            number(rt, q.number)?;
-            end_line(rt)
-        }
+        Err(q) => println!(rt; " refused {}", q.number),
     }
 }
 
 // The number that decimal digits write; 0 where there is anything else, or one of the last few below 2^64 or above.
 fn decimal(text: &[u8], length: usize) -> u64 {
+    if length > text.len() {
+        return 0;
+    }
     let mut n: u64 = 0;
-    let mut i: usize = 0;
-    while i < length {
-        if i >= text.len() {
+    for &c in &text[..length] {
+        if c < b'0' || c > b'9' || n > 1844674407370955160 {
             return 0;
         }
-        let c = text[i];
-        if c < b'0' {
-            return 0;
-        }
-        if c > b'9' {
-            return 0;
-        }
-        if n > 1844674407370955160 {
-            return 0;
-        }
-        n = n * 10 + ((c - b'0') as u64);
-        i += 1;
+        n = n * 10 + u64::from(c - b'0');
     }
     n
 }
@@ -188,11 +146,7 @@ fn argument(rt: &impl Env, i: usize) -> u64 {
 // Whether the program has an argument of that number. Its own name is number 0.
 fn is_given(rt: &impl Env, i: usize) -> bool {
     let mut text = [0u8; 20];
-    match rt.arg(i, &mut text) {
-        Ok(_) => true,
-        Err(FillError::TooLong) => true,
-        Err(FillError::NotPresent) => false,
-    }
+    !matches!(rt.arg(i, &mut text), Err(FillError::NotPresent))
 }
 
 fn main(rt: HostRuntime) -> io::Result<()> {

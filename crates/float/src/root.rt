@@ -1,4 +1,5 @@
-// The square root of an f64, over whole numbers. The public function asks nothing of its argument.
+// The square root of an f64, over whole numbers: the library's `sqrt` is the machine's instruction, whose result would be an
+// assumption (docs/DECISIONS.md). The public function asks nothing of its argument.
 ghost use Rattle.std.specs.Prelude.{◌≡◌, ◌+◌, ◌*◌, ◌^◌, ◌<◌, ◌≤◌};
 ghost use Rattle.float.specs.Sqrt.{Root, nearest_root, sqrt_of};
 
@@ -9,18 +10,16 @@ fn root(m: u64) -> u64
 {
     let mut root: u64 = 0;
     let mut rest: u64 = 0;
-    let mut a: u64 = m << 10;
-    let mut i: u64 = 0;
-    while i < 54 {
+    let mut a = m << 10;
+    for i in 0..54u64 {
         rest = rest * 4 + (a >> 62);
-        a = a << 2;
-        let step: u64 = root * 4 + 1;
-        root = root * 2;
+        a <<= 2;
+        let step = root * 4 + 1;
+        root *= 2;
         if step <= rest {
-            rest = rest - step;
-            root = root + 1;
+            rest -= step;
+            root += 1;
         }
-        i += 1;
     }
     root
 }
@@ -31,11 +30,8 @@ fn packed(m: u64, n: u64) -> f64
     requires { (2 ^ 52 ≤ m) × (m < 2 ^ 53) × (972 ≤ n) × (n < 3070) }
     ensures { result ≡ nearest_root (m * 2 ^ (n + 50)) }
 {
-    let mut even: u64 = m;
-    if n % 2 == 1 {
-        even = m * 2;
-    }
-    let q: u64 = (root(even) + 1) / 2;
+    let even = if n % 2 == 1 { m * 2 } else { m };
+    let q = (root(even) + 1) / 2;
     f64::from_bits((n / 2 - 1) * 0x10_0000_0000_0000 + q)
 }
 
@@ -44,22 +40,22 @@ pub fn sqrt(x: f64) -> f64
     ensures { result ≡ sqrt_of x }
 {
     if x < 0.0 {
-        return 0.0 / 0.0;
+        return f64::NAN;
     }
     if !(x > 0.0) {
         // a zero keeps its sign, and a NaN is a NaN
         return x;
     }
-    let bits: u64 = f64::to_bits(x);
-    let field: u64 = bits / 0x10_0000_0000_0000;
-    let digits: u64 = bits % 0x10_0000_0000_0000;
+    let bits = x.to_bits();
+    let field = bits / 0x10_0000_0000_0000;
+    let digits = bits % 0x10_0000_0000_0000;
     if field == 2047 {
         // an infinity
         return x;
     }
     if field == 0 {
         // a subnormal's digits are shifted up until the leading one is the 53rd
-        let up: u64 = (u64::leading_zeros(digits) as u64) - 11;
+        let up = u64::from(digits.leading_zeros()) - 11;
         packed(digits << up, 1024 - up)
     } else {
         packed(0x10_0000_0000_0000 + digits, field + 1023)

@@ -6,17 +6,12 @@ ghost use Rattle.float.specs.Saturating.{saturating_sum};
 pub fn saturating_add(a: u64, b: u64) -> u64
     ensures { result ≡ saturating_sum a b }
 {
-    let room = u64::MAX - a;
-    if b <= room { a + b } else { u64::MAX }
+    a.saturating_add(b)
 }
 
 // a * b, or the largest u64 where the product does not fit.
 pub fn saturating_mul(a: u64, b: u64) -> u64
     ensures { result ≡ min (a * b) 18446744073709551615 }
 {
-    if a == 0 {
-        return 0;
-    }
-    let most = u64::MAX / a;
-    if b <= most { a * b } else { u64::MAX }
+    a.saturating_mul(b)
 }

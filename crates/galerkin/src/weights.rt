@@ -24,12 +24,10 @@ fn zero_entries(
         (zero_entries (part columns total w.now) row lo hi (part out total f.old))
         f.old f.new }
 {
-    let mut e = lo;
-    while e < hi {
+    for e in lo..hi {
         if wide(w[columns + e]) == row {
             f[out + e] = 0.0;
         }
-        e += 1;
     }
 }
 
@@ -48,12 +46,10 @@ fn zero_diagonal(
         (zero_diagonal_of count (part offsets (count + 1) w.now) (part columns total w.now) (part out total f.old))
         f.old f.new }
 {
-    let mut row = 0;
-    while row < count {
+    for row in 0..count {
         let lo = wide(w[offsets + row]);
         let hi = wide(w[offsets + row + 1]);
         zero_entries(w, f, row, lo, hi, columns, total, out);
-        row += 1;
     }
 }
 

@@ -38,14 +38,12 @@ fn take_faces(
     ensures { Gathered sub64 w.now s v lo hi start f.now result }
 {
     let mut value = start;
-    let mut face = lo;
-    while face < hi {
+    for face in lo..hi {
         let neighbor = store::index_at(w, s.neighbors, face, s.rows);
         if neighbor >= s.rows {
             return value;
         }
         value = value - f[s.coefficients + face] * f[v + neighbor];
-        face += 1;
     }
     value
 }
@@ -77,12 +75,10 @@ pub fn cast_faces(
     ensures { Watched (cast_turn w.now s v value) lo hi f.old f.new next.near next.watched result }
 {
     let mut held = next.held;
-    let mut face = lo;
-    while face < hi {
+    for face in lo..hi {
         let neighbor = store::index_at(w, s.neighbors, face, s.rows);
         let left = f[v + neighbor] - f[s.coefficients + face] * value;
         held = store::put(f, v + neighbor, left, next.near, next.watched, held);
-        face += 1;
     }
     held
 }
@@ -130,9 +126,9 @@ fn forward_row(
     let next = work + (row + 1);
     let held = store::float_at(f, next);
     let carried = Carried {
-        near: near,
+        near,
         watched: next,
-        held: held,
+        held,
     };
     let cast = cast_faces(w, f, s, work, lo, hi, value, carried);
     let stays = store::put(f, x + row, value, near, next, cast);
@@ -146,10 +142,8 @@ fn forward(w: &[u32], f: &mut [f64], s: SymmetricMatrix, x: usize, work: usize)
 {
     let near = few_faces(w, s);
     let mut start = store::float_at(f, work);
-    let mut row = 0;
-    while row < s.rows {
+    for row in 0..s.rows {
         start = forward_row(w, f, s, x, work, near, row, start);
-        row += 1;
     }
 }
 
@@ -158,12 +152,10 @@ fn backward(w: &[u32], f: &mut [f64], s: SymmetricMatrix, x: usize, work: usize)
     requires { VectorsOk w.now (length f.old) s x work }
     ensures { Stored (backward_turn w.now s x work) 0 s.rows f.old f.new }
 {
-    let mut i = 0;
-    while i < s.rows {
+    for i in 0..s.rows {
         let row = s.rows - 1 - i;
         let value = fresh(w, f, s, x, work, row, f[work + row]);
         f[x + row] = value;
-        i += 1;
     }
 }
 

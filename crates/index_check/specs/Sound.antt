@@ -1,11 +1,11 @@
 -- The walk of the index check, which tells the level and row of the first entry that fails: heads first, then level by level and row by row.
 -- It goes through exactly where the levels pass (`walk-accepts` of proofs/sound/Accepts.antt). Definitions only.
-use Rattle.std.specs.Prelude.{Bool, true, false, not, ◌&&◌, List, ℕ, zero, suc, ◌+◌, ◌-◌, leb, length}
+use Rattle.index_check.specs.declared.sound.Stop.{Stop}
+use Rattle.std.specs.Prelude.{Bool, true, false, not, ◌&&◌, List, ℕ, zero, suc, ◌+◌, ◌-◌, leb, length, Result, Ok, Err}
 use Rattle.store.specs.Region.{idx, part}
 use Rattle.pattern.specs.Pattern.{entries}
 use Rattle.hierarchy.specs.Level.{Shape}
 use Rattle.layout.specs.Layout.{rows_at, last_at, entries_at, words_end}
-use Rattle.index_check.specs.declared.sound.Walk.{Walk}
 unfoldable pub use Rattle.index_check.specs.Question.{all_below, head_sound, shape_in, arrays_sound, row_placed, level_sound, levels_sound, scratch_start, scratch_end, cycle_start, controls_sound, empty_sound, handle_sound, filled_sound, sound_of}
 
 -- ---- one row
@@ -55,44 +55,48 @@ abbrev pub sums_of : ℕ → List ℕ → ℕ → ℕ
 sums_of zero w a = 0
 sums_of (suc more) w a = entries_at w (words_end w a)
 
+-- a walk that stopped at this row of this level
+abbrev pub stopped_at : ℕ → ℕ → Result Unit Stop
+stopped_at level row = Err (record { level = level; row = row })
+
 -- where a test ends it, else the rest
-abbrev pub go_on : Bool → Walk → Walk → Walk
+abbrev pub go_on : Bool → Result Unit Stop → Result Unit Stop → Result Unit Stop
 go_on true stop rest = rest
 go_on false stop rest = stop
 
 -- a walk, and then another
-abbrev pub and_then : Walk → Walk → Walk
-and_then Walk.Sound rest = rest
-and_then (Walk.Stopped level row) rest = Walk.Stopped level row
+abbrev pub and_then : Result Unit Stop → Result Unit Stop → Result Unit Stop
+and_then (Ok tt) rest = rest
+and_then (Err s) rest = Err s
 
 -- the heads of so many levels, the first of which is `level` and starts at a: a head is told with row 0
-unfoldable pub heads_walked : ℕ → List ℕ → ℕ → ℕ → Walk
-heads_walked zero w level a = Walk.Sound
-heads_walked (suc more) w level a = go_on (head_fits more w a) (Walk.Stopped level 0) (heads_walked more w (level + 1) (words_end w a))
+unfoldable pub heads_walked : ℕ → List ℕ → ℕ → ℕ → Result Unit Stop
+heads_walked zero w level a = Ok tt
+heads_walked (suc more) w level a = go_on (head_fits more w a) (stopped_at level 0) (heads_walked more w (level + 1) (words_end w a))
 
 -- so many rows of a level from `row` on
-unfoldable pub rows_walked : ℕ → ℕ → Shape → ℕ → ℕ → ℕ → Walk
-rows_walked targets sums s level zero row = Walk.Sound
+unfoldable pub rows_walked : ℕ → ℕ → Shape → ℕ → ℕ → ℕ → Result Unit Stop
+rows_walked targets sums s level zero row = Ok tt
 rows_walked targets sums s level (suc more) row =
-    go_on (row_sound targets sums s row) (Walk.Stopped level row) (rows_walked targets sums s level more (row + 1))
+    go_on (row_sound targets sums s row) (stopped_at level row) (rows_walked targets sums s level more (row + 1))
 
 -- a level: its rows, and then its tables whole, because a store that no build left may hold entries and faces before those of the first row:
 -- what no row has is told with row 0
-abbrev pub level_walked : ℕ → ℕ → Shape → ℕ → Walk
+abbrev pub level_walked : ℕ → ℕ → Shape → ℕ → Result Unit Stop
 level_walked targets sums s level =
-    and_then (rows_walked targets sums s level s.pattern.rows 0) (go_on (arrays_sound targets sums s) (Walk.Stopped level 0) Walk.Sound)
+    and_then (rows_walked targets sums s level s.pattern.rows 0) (go_on (arrays_sound targets sums s) (stopped_at level 0) (Ok tt))
 
 -- so many levels, the first of which is `level` and starts at a, row by row
-unfoldable pub levels_walked : ℕ → List ℕ → ℕ → ℕ → Walk
-levels_walked zero w level a = Walk.Sound
+unfoldable pub levels_walked : ℕ → List ℕ → ℕ → ℕ → Result Unit Stop
+levels_walked zero w level a = Ok tt
 levels_walked (suc more) w level a =
     and_then (level_walked (targets_of more w a) (sums_of more w a) (shape_in w a) level) (levels_walked more w (level + 1) (words_end w a))
 
 -- first the heads, level by level, because a level's links and positions are asked against the next one's head; then the rows
-unfoldable pub walk_of : ℕ → List ℕ → ℕ → ℕ → Walk
+unfoldable pub walk_of : ℕ → List ℕ → ℕ → ℕ → Result Unit Stop
 walk_of levels w level a = and_then (heads_walked levels w level a) (levels_walked levels w level a)
 
 -- whether a walk went through
-abbrev pub is_sound : Walk → Bool
-is_sound Walk.Sound = true
-is_sound (Walk.Stopped level row) = false
+abbrev pub is_sound : Result Unit Stop → Bool
+is_sound (Ok tt) = true
+is_sound (Err s) = false

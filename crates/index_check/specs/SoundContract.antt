@@ -1,7 +1,6 @@
 -- What the functions over sound levels require. Definitions only.
-use Rattle.std.specs.Prelude.{◌≡◌, true, List, ℕ, ◌≤◌, ◌<◌}
+use Rattle.std.specs.Prelude.{◌≡◌, true, List, ℕ, ◌≤◌, ◌<◌, Ok}
 use Rattle.store.specs.Region.{idx}
-use Rattle.index_check.specs.declared.sound.Walk.{Walk}
 use Rattle.index_check.specs.Sound.{head_sound, walk_of}
 
 -- ---- one level
@@ -24,7 +23,7 @@ pub record FloatsOk (w : List ℕ) (a b : ℕ) : Type 0 where
 
 -- Some levels, at most 128, that the walk went through.
 pub record LevelsOk (w : List ℕ) (levels : ℕ) : Type 0 where
-  pub sound : walk_of levels w 0 0 ≡ Walk.Sound
+  pub sound : walk_of levels w 0 0 ≡ Ok tt
   pub some : 1 ≤ levels
   pub few : levels ≤ 128
 

@@ -1,58 +1,50 @@
 // The index check of question 19, which solve, update and statistics make before they read a store.
 ghost use Rattle.std.specs.Prelude.{◌≡◌};
-ghost use Rattle.index_check.specs.declared.sound.Walk.{Walk};
-ghost use Rattle.index_check.specs.Sound.{heads_walked, levels_walked, walk_of, controls_sound, empty_sound, handle_sound, filled_sound, sound_of};
+ghost use Rattle.index_check.specs.Sound.{stopped_at, heads_walked, levels_walked, walk_of, controls_sound, empty_sound, handle_sound, filled_sound, sound_of};
 ghost use Rattle.index_check.specs.CheckContract.{HeadsOk, SizesOk, sizes_asked};
 
-use crate::sound::Walk;
+use crate::sound::Stop;
 use crate::{head, row, sound, tables};
 use options::Handle;
-use refusal::Verdict;
 
 // The walk ended at this row of this level.
-fn stopped(level: u64, row: usize) -> Walk
-    ensures { result ≡ Walk.Stopped level row }
+fn stopped(level: u64, row: usize) -> Result<(), Stop>
+    ensures { result ≡ stopped_at level row }
 {
-    Walk::Stopped {
-        level: level,
+    Err(Stop {
+        level,
         row: row as u64,
-    }
+    })
 }
 
 // The first head that fails ends the walk over the heads.
-fn walk_heads(w: &[u32], levels: u64) -> Walk
+fn walk_heads(w: &[u32], levels: u64) -> Result<(), Stop>
     ensures { result ≡ heads_walked levels w.now 0 0 }
 {
-    let mut level: u64 = 0;
-    let mut a: usize = 0;
-    while level < levels {
+    let mut a = 0;
+    for level in 0..levels {
         if !head::head_fits(w, a, levels - level - 1) {
             return stopped(level, 0);
         }
         a = layout::words_end(w, a);
-        level += 1;
     }
-    Walk::Sound
+    Ok(())
 }
 
 // The first entry that fails ends the walk over levels and rows. The rows of a level are asked one by one only where its tables, asked
 // all at once, fail; where each row passes, what fails belongs to none.
-fn walk_rows(w: &[u32], levels: u64) -> Walk
+fn walk_rows(w: &[u32], levels: u64) -> Result<(), Stop>
     requires { HeadsOk w.now levels }
     ensures { result ≡ levels_walked levels w.now 0 0 }
 {
-    let mut at = Walk::Sound;
-    let mut level: u64 = 0;
-    let mut a: usize = 0;
-    'walk: while level < levels {
+    let mut at = Ok(());
+    let mut a = 0;
+    'walk: for level in 0..levels {
         let p = layout::place_at(w, a, 0);
         let t = tables::targets_at(w, a, levels - level - 1);
         if !tables::level_sound(w, p, t) {
-            let mut row = 0;
-            while row < p.rows {
-                if row::row_sound(w, p, t, row) {
-                    row += 1;
-                } else {
+            for row in 0..p.rows {
+                if !row::row_sound(w, p, t, row) {
                     at = stopped(level, row);
                     break 'walk;
                 }
@@ -61,30 +53,23 @@ fn walk_rows(w: &[u32], levels: u64) -> Walk
             break 'walk;
         }
         a = layout::words_end(w, a);
-        level += 1;
     }
     at
 }
 
 // The heads, against which links and positions are asked, and then the rows.
-fn walk(w: &[u32], levels: u64) -> Walk
+fn walk(w: &[u32], levels: u64) -> Result<(), Stop>
     ensures { result ≡ walk_of levels w.now 0 0 }
 {
-    let heads = walk_heads(w, levels);
-    match heads {
-        Walk::Sound => walk_rows(w, levels),
-        Walk::Stopped { level: _, row: _ } => heads,
-    }
+    walk_heads(w, levels)?;
+    walk_rows(w, levels)
 }
 
 // The controls of the handle pass questions 6 and 7.
 fn controls_sound(h: Handle) -> bool
     ensures { result ≡ controls_sound h }
 {
-    match options::check_controls(h.options) {
-        Verdict::Passed => true,
-        Verdict::Refused(_) => false,
-    }
+    options::check_controls(h.options).is_ok()
 }
 
 // They do, and it has no level, no row and no entry.
@@ -124,8 +109,8 @@ fn filled_sound(h: Handle, w: &[u32], floats: usize, records: usize) -> bool
         return false;
     }
     match walk(w, h.levels) {
-        Walk::Sound => sizes_sound(h, w, floats),
-        Walk::Stopped { level: _, row: _ } => false,
+        Ok(()) => sizes_sound(h, w, floats),
+        Err(_) => false,
     }
 }
 

@@ -5,9 +5,9 @@ mod scratch;
 pub use place::{coupled_at, word_at};
 pub use scratch::{cycle_start, scratch_end, scratch_start, shadow_start};
 
-// What the walk over levels and rows found: nothing amiss, or the place where it stopped.
+// Where the walk over levels and rows stopped.
 #[derive(Clone, Copy)]
-pub enum Walk {
-    Sound,
-    Stopped { level: u64, row: u64 },
+pub struct Stop {
+    pub level: u64,
+    pub row: u64,
 }

@@ -48,10 +48,8 @@ pub fn below(w: &[u32], from: usize, n: usize, bound: usize) -> bool
 {
     let limit = bound as u32;
     let mut ok = true;
-    let mut k = 0;
-    while k < n {
-        ok = ok & (w[from + k] < limit);
-        k += 1;
+    for k in 0..n {
+        ok &= w[from + k] < limit;
     }
     ok
 }
@@ -66,10 +64,8 @@ fn two_below(w: &[u32], first: usize, second: usize, n: usize, low: usize, high:
     let lower = low as u32;
     let upper = high as u32;
     let mut ok = true;
-    let mut k = 0;
-    while k < n {
-        ok = ok & ((w[first + k] < lower) & (w[second + k] < upper));
-        k += 1;
+    for k in 0..n {
+        ok &= (w[first + k] < lower) & (w[second + k] < upper);
     }
     ok
 }
@@ -84,13 +80,10 @@ fn faces_below(w: &[u32], p: Place, t: Targets) -> bool
     let entries = p.entries as u32;
     let n = p.faces;
     let mut ok = true;
-    let mut k = 0;
-    while k < n {
-        ok = ok
-            & ((w[p.neighbors + k] < rows)
-                & (w[p.uppers + k] < entries)
-                & (w[p.lowers + k] < entries));
-        k += 1;
+    for k in 0..n {
+        ok &= (w[p.neighbors + k] < rows)
+            & (w[p.uppers + k] < entries)
+            & (w[p.lowers + k] < entries);
     }
     ok
 }
@@ -120,10 +113,8 @@ fn two_rise(w: &[u32], first: usize, second: usize, n: usize) -> bool
     ensures { result ≡ (each (rise_at w.now first) n && each (rise_at w.now second) n) }
 {
     let mut ok = true;
-    let mut k = 0;
-    while k < n {
-        ok = ok & ((w[first + k] <= w[first + k + 1]) & (w[second + k] <= w[second + k + 1]));
-        k += 1;
+    for k in 0..n {
+        ok &= (w[first + k] <= w[first + k + 1]) & (w[second + k] <= w[second + k + 1]);
     }
     ok
 }

@@ -1,8 +1,9 @@
 -- The iterations on vectors in the store: what they require and ensure. Definitions only.
-use Rattle.std.specs.Prelude.{◌≡◌, List, ℕ, ◌-◌, ◌≤◌, Float}
+use Rattle.solver.specs.declared.solver.LinearSolveReport.{LinearSolveReport}
+use Rattle.refusal.specs.declared.Refusal.{Refusal}
+use Rattle.std.specs.Prelude.{◌≡◌, List, ℕ, ◌-◌, ◌≤◌, Float, Result}
 use Rattle.store.specs.Region.{part, Kept}
 use Rattle.options.specs.declared.options.Handle.{Handle}
-use Rattle.solver.specs.declared.answers.Solved.{Solved}
 use Rattle.refusal.specs.Outcome.{Outcome, accepted}
 use Rattle.iterations.specs.declared.stepping.Regions.{Regions}
 use Rattle.iterations.specs.System.{system_at}
@@ -10,7 +11,7 @@ use Rattle.iterations.specs.Steps.{state_at}
 use Rattle.iterations.specs.Iterate.{Solution, answer_of, iterate_of}
 
 -- The answer is that of `out`; accepted, its solution stands in G and its counters are u. Below the solution nothing changed.
-pub record Ran (g : Regions) (out : Outcome Solution) (F G : List Float) (u : List ℕ) (r : Solved) : Type 0 where
+pub record Ran (g : Regions) (out : Outcome Solution) (F G : List Float) (u : List ℕ) (r : Result LinearSolveReport Refusal) : Type 0 where
   pub answer : r ≡ answer_of out
   pub solved : (v : Solution) → out ≡ accepted v → part g.solution g.rows G ≡ v.x
   pub counted : (v : Solution) → out ≡ accepted v → u ≡ v.counts

@@ -1,10 +1,10 @@
 -- The iterations of `solve` of mod.rs over lists, and what a solve gives. Definitions only.
-use Rattle.std.specs.Prelude.{cond, List, ℕ, zero, suc, ◌+◌, Float}
+use Rattle.refusal.specs.declared.Refusal.{Refusal}
+use Rattle.std.specs.Prelude.{cond, List, ℕ, zero, suc, ◌+◌, Float, Result, Ok, Err}
 use Rattle.std.specs.Float.Ieee.{le}
 use Rattle.solver.specs.declared.solver.LinearSolverStatus.{LinearSolverStatus}
 use Rattle.solver.specs.declared.solver.LinearSolveReport.{LinearSolveReport}
 use Rattle.solver.specs.Solver.{report_of}
-use Rattle.solver.specs.declared.answers.Solved.{Solved}
 use Rattle.refusal.specs.Outcome.{Outcome, accepted, refused, ◌>>=◌}
 use Rattle.iterations.specs.Iteration.{State, System, step_of}
 
@@ -28,6 +28,6 @@ module _ (y : System) (rhs : List Float) (factor initial threshold : Float) wher
     cond (le t.last threshold) (accepted (solution LinearSolverStatus.Converged (done + 1) initial t)) (iterate_of more (done + 1) t)
 
 -- the answer
-abbrev pub answer_of : Outcome Solution → Solved
-answer_of (accepted v) = Solved.Report v.report
-answer_of (refused q) = Solved.Refused q
+abbrev pub answer_of : Outcome Solution → Result LinearSolveReport Refusal
+answer_of (accepted v) = Ok v.report
+answer_of (refused q) = Err q

@@ -1,22 +1,20 @@
 -- The steps of an iteration: what its functions require and ensure. Definitions only.
-use Rattle.std.specs.Prelude.{◌≡◌, cond, List, ℕ, ◌+◌, ◌*◌, ◌≤◌, eqb, Float, length}
+use Rattle.std.specs.Prelude.{◌≡◌, cond, List, ℕ, ◌+◌, ◌*◌, ◌≤◌, eqb, Float, length, Result, Ok, Err}
 use Rattle.store.specs.Region.{part, Kept}
 use Rattle.options.specs.declared.options.Handle.{Handle}
 use Rattle.refusal.specs.declared.Refusal.{Refusal}
 use Rattle.refusal.specs.Outcome.{Outcome, accepted, refused, ◌>>=◌}
 use Rattle.matrix.specs.Kernel.{Kernel, KernelOk, kernel_at, apply_of}
 use Rattle.correction.specs.Correction.{subtract_of, add_plain_of}
-use Rattle.acceleration.specs.declared.acceleration.Corrected.{Corrected}
 use Rattle.acceleration.specs.Directions.{Pair}
 use Rattle.acceleration.specs.Gcr.{Corrections, correct_of}
 use Rattle.acceleration.specs.DirectionsContract.{memory_at}
 use Rattle.acceleration.specs.AccelerationContract.{corrected_of}
 use Rattle.layout.specs.Layout.{rows_at, entries_at, image_end, locate}
 use Rattle.layout.specs.Parts.{kernel_in}
-use Rattle.index_check.specs.declared.sound.Walk.{Walk}
 use Rattle.index_check.specs.Sound.{walk_of, scratch_start, scratch_end, cycle_start}
 use Rattle.iterations.specs.declared.stepping.Regions.{Regions}
-use Rattle.iterations.specs.declared.stepping.Step.{Step}
+use Rattle.iterations.specs.declared.stepping.Stepped.{Stepped}
 use Rattle.iterations.specs.Iteration.{State, after_of, step_of}
 use Rattle.iterations.specs.System.{system_at}
 
@@ -51,7 +49,7 @@ pub record Opened (h : Handle) (w : List ℕ) (size : ℕ) : Type 0 where
   pub some : 1 ≤ h.levels
   pub deep : h.levels ≤ 128
   pub krylov : h.options.krylov_dimension ≤ 16
-  pub sound : walk_of h.levels w 0 0 ≡ Walk.Sound
+  pub sound : walk_of h.levels w 0 0 ≡ Ok tt
   pub rows : rows_at w 0 ≡ h.rows
   pub entries : entries_at w 0 ≡ h.entries
   pub room : scratch_end h.levels w 0 (cycle_start h.options.krylov_dimension h.levels w) ≤ size
@@ -108,9 +106,9 @@ pub record MoveOk (w : List ℕ) (size : ℕ) (g : Regions) (krylov used : ℕ) 
   pub fits : used ≤ krylov
 
 -- The answer is that of `out`; accepted, its solution and its memory stand in G. Below the solution nothing changed.
-pub record Moved (krylov : ℕ) (g : Regions) (out : Outcome Corrections) (F G : List Float) (r : Corrected) : Type 0 where
+pub record Moved (krylov : ℕ) (g : Regions) (out : Outcome Corrections) (F G : List Float) (r : Result ℕ Refusal) : Type 0 where
   pub answer : r ≡ corrected_of out
-  pub fits : (used : ℕ) → r ≡ Corrected.Used used → used ≤ krylov
+  pub fits : (used : ℕ) → r ≡ Ok used → used ≤ krylov
   pub solved : (s : Corrections) → out ≡ accepted s → part g.solution g.rows G ≡ s.solution
   pub stored : (s : Corrections) → out ≡ accepted s → memory_at (length s.memory) g.rows g.directions g.images G ≡ s.memory
   pub floats : Kept g.solution F G
@@ -138,23 +136,27 @@ abbrev pub step_at : Handle → List ℕ → List Float → List ℕ → Regions
 step_at h w F t g used factor last =
     step_of (system_at h w F) (part g.rhs g.rows F) factor (state_at g used F t last)
 
+-- what an iteration leaves
+abbrev pub stepped : ℕ → Float → Stepped
+stepped used last = record { used = used; last = last }
+
 -- What an iteration requires: the stores, and a memory with room for the pairs that it counts.
 pub record StepOk (h : Handle) (w : List ℕ) (size : ℕ) (g : Regions) (used : ℕ) : Type 0 where
   pub ready : Ready h w size g
   pub fits : used ≤ h.options.krylov_dimension
 
 -- What it ensures after its cycle, whatever the counters are: the state, or its refusal. Below the solution nothing changed.
-pub record AdvanceDone (h : Handle) (w : List ℕ) (F G : List Float) (g : Regions) (used : ℕ) (factor : Float) (r : Step) : Type 0 where
-  pub done : (stored : ℕ) (norm : Float) (counts : List ℕ) → r ≡ Step.Done stored norm
+pub record AdvanceDone (h : Handle) (w : List ℕ) (F G : List Float) (g : Regions) (used : ℕ) (factor : Float) (r : Result Stepped Refusal) : Type 0 where
+  pub done : (stored : ℕ) (norm : Float) (counts : List ℕ) → r ≡ Ok (stepped stored norm)
       → after_at h w F g used factor counts ≡ accepted (state_at g stored G counts norm)
-  pub fits : (stored : ℕ) (norm : Float) → r ≡ Step.Done stored norm → stored ≤ h.options.krylov_dimension
-  pub refusal : (q : Refusal) (counts : List ℕ) → r ≡ Step.Refused q → after_at h w F g used factor counts ≡ refused q
+  pub fits : (stored : ℕ) (norm : Float) → r ≡ Ok (stepped stored norm) → stored ≤ h.options.krylov_dimension
+  pub refusal : (q : Refusal) (counts : List ℕ) → r ≡ Err q → after_at h w F g used factor counts ≡ refused q
   pub floats : Kept g.solution F G
 
 -- What it ensures as a whole; the norm before it does not matter.
-pub record StepDone (h : Handle) (w : List ℕ) (F G : List Float) (t u : List ℕ) (g : Regions) (used : ℕ) (factor : Float) (r : Step) : Type 0 where
-  pub done : (stored : ℕ) (norm last : Float) → r ≡ Step.Done stored norm
+pub record StepDone (h : Handle) (w : List ℕ) (F G : List Float) (t u : List ℕ) (g : Regions) (used : ℕ) (factor : Float) (r : Result Stepped Refusal) : Type 0 where
+  pub done : (stored : ℕ) (norm last : Float) → r ≡ Ok (stepped stored norm)
       → step_at h w F t g used factor last ≡ accepted (state_at g stored G u norm)
-  pub fits : (stored : ℕ) (norm : Float) → r ≡ Step.Done stored norm → stored ≤ h.options.krylov_dimension
-  pub refusal : (q : Refusal) (last : Float) → r ≡ Step.Refused q → step_at h w F t g used factor last ≡ refused q
+  pub fits : (stored : ℕ) (norm : Float) → r ≡ Ok (stepped stored norm) → stored ≤ h.options.krylov_dimension
+  pub refusal : (q : Refusal) (last : Float) → r ≡ Err q → step_at h w F t g used factor last ≡ refused q
   pub floats : Kept g.solution F G

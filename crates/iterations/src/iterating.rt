@@ -3,9 +3,10 @@ ghost use Rattle.std.specs.Prelude.{length};
 ghost use Rattle.iterations.specs.Steps.{Ready};
 ghost use Rattle.iterations.specs.Contract.{iterate_at, Ran};
 
-use crate::stepping::{Regions, Step, iteration};
+use crate::stepping::{Regions, iteration};
 use options::Handle;
-use solver::{LinearSolverStatus, Solved};
+use refusal::Refusal;
+use solver::{LinearSolveReport, LinearSolverStatus};
 
 // Iterations until the norm of the residual is at or below the threshold, or so many are done.
 pub fn iterate(
@@ -18,36 +19,19 @@ pub fn iterate(
     initial: f64,
     threshold: f64,
     limit: u64,
-) -> Solved
+) -> Result<LinearSolveReport, Refusal>
     requires { Ready h w.now (length f.old) g }
     ensures { Ran g (iterate_at h w.now f.old t.old g factor initial threshold limit) f.old f.new t.new result }
 {
     let mut used = 0;
     let mut last = initial;
-    let mut done = 0;
-    while done < limit {
-        let after = iteration::step(h, w, f, t, g, factor, used);
-        match after {
-            Step::Done {
-                used: stored,
-                last: norm,
-            } => {
-                used = stored;
-                last = norm;
-                done += 1;
-                if norm <= threshold {
-                    return Solved::Report(solver::report(
-                        LinearSolverStatus::Converged,
-                        done,
-                        initial,
-                        norm,
-                    ));
-                }
-            }
-            Step::Refused(q) => {
-                return Solved::Refused(q);
-            }
+    for done in 0..limit {
+        let after = iteration::step(h, w, f, t, g, factor, used)?;
+        used = after.used;
+        last = after.last;
+        if last <= threshold {
+            return Ok(solver::report(LinearSolverStatus::Converged, done + 1, initial, last));
         }
     }
-    Solved::Report(solver::report(LinearSolverStatus::MaxIterations, done, initial, last))
+    Ok(solver::report(LinearSolverStatus::MaxIterations, limit, initial, last))
 }

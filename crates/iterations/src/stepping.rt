@@ -1,6 +1,5 @@
 // One iteration of a solve over regions of the store.
 use matrix::SymmetricMatrix;
-use refusal::Refusal;
 
 pub mod iteration;
 pub mod places;
@@ -20,9 +19,9 @@ pub struct Regions {
     pub product: usize,
 }
 
-// An iteration: the pairs stored now and the norm of the residual, or a refusal.
+// What an iteration leaves: the pairs stored now, and the norm of the residual.
 #[derive(Clone, Copy)]
-pub enum Step {
-    Done { used: usize, last: f64 },
-    Refused(Refusal),
+pub struct Stepped {
+    pub used: usize,
+    pub last: f64,
 }

@@ -1,9 +1,9 @@
 -- The last level's factor at its place: what the function that makes it requires and ensures. Definitions only.
-use Rattle.std.specs.Prelude.{◌≡◌, List, ℕ, ◌+◌, ◌≤◌, Float}
+use Rattle.refusal.specs.declared.Refusal.{Refusal}
+use Rattle.std.specs.Prelude.{◌≡◌, List, ℕ, ◌+◌, ◌≤◌, Float, Result, Ok}
 use Rattle.float.specs.Float.{zero64}
 use Rattle.store.specs.Region.{part, Kept}
 use Rattle.store.specs.Vector.{filled}
-use Rattle.refusal.specs.declared.Verdict.{Verdict}
 use Rattle.refusal.specs.Outcome.{Outcome, accepted, verdict_of}
 use Rattle.cholesky.specs.Factor.{cholesky_of}
 use Rattle.cholesky.specs.Contract.{csr_at, coupled_at, factor_at, TerminalOk}
@@ -21,8 +21,8 @@ abbrev pub factor_of : List ℕ → List Float → Place → ℕ → ℕ → Out
 factor_of w F p coupled level = cholesky_of level (csr_at (terminal_in p coupled) w F) coupled (coupled_at (terminal_in p coupled) w)
 
 -- Question 15's answer; where it passes, the factor; zeros for the DIC data. Below these nothing changed.
-pub record FactorDone (w : List ℕ) (F G : List Float) (p : Place) (coupled level : ℕ) (v : Verdict) : Type 0 where
+pub record FactorDone (w : List ℕ) (F G : List Float) (p : Place) (coupled level : ℕ) (v : Result Unit Refusal) : Type 0 where
   pub answer : v ≡ verdict_of (factor_of w F p coupled level)
-  pub factor : v ≡ Verdict.Passed → factor_of w F p coupled level ≡ accepted (factor_at (terminal_in p coupled) G)
+  pub factor : v ≡ Ok tt → factor_of w F p coupled level ≡ accepted (factor_at (terminal_in p coupled) G)
   pub dic : part p.dic p.rows G ≡ filled p.rows zero64
   pub kept : Kept p.dic F G

@@ -5,7 +5,7 @@ ghost use Rattle.layout.specs.TerminalContract.{FactorOk, FactorDone};
 
 use crate::Place;
 use cholesky::Terminal;
-use refusal::Verdict;
+use refusal::Refusal;
 
 // The terminal solve of so many coupled rows.
 pub fn terminal_in(p: Place, coupled: usize) -> Terminal
@@ -24,7 +24,7 @@ pub fn terminal_in(p: Place, coupled: usize) -> Terminal
 }
 
 // The floats that only the last level has: no DIC data, and the factor of the coupled rows (`update` of coarse.rs): question 15.
-pub fn factor(w: &[u32], f: &mut [f64], p: Place, coupled: usize, level: u64) -> Verdict
+pub fn factor(w: &[u32], f: &mut [f64], p: Place, coupled: usize, level: u64) -> Result<(), Refusal>
     requires { FactorOk w.now (length f.old) p coupled }
     ensures { FactorDone w.now f.old f.new p coupled level result }
 {

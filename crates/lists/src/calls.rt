@@ -8,7 +8,8 @@ ghost use Rattle.lists.specs.Calls.{BuildOver, SolveOver};
 
 use crate::{least, lent};
 use options::{Handle, MultigridOptions};
-use solver::{Built, Counted, LinearSolverOptions, Solved, Updated};
+use refusal::Refusal;
+use solver::{LinearSolveReport, LinearSolverOptions};
 
 pub fn new(
     rows: usize,
@@ -19,7 +20,7 @@ pub fn new(
     words: &mut [u32],
     floats: &mut [f64],
     statistics: &mut [u64],
-) -> Built
+) -> Result<Handle, Refusal>
     ensures { BuildOver words.old words.new floats.old floats.new statistics.old statistics.new (input_of rows offsets.now columns.now values.now false [] options) result }
 {
     let table = lent::records_of(statistics);
@@ -39,7 +40,7 @@ pub fn new_with_face_weights(
     words: &mut [u32],
     floats: &mut [f64],
     statistics: &mut [u64],
-) -> Built
+) -> Result<Handle, Refusal>
     ensures { BuildOver words.old words.new floats.old floats.new statistics.old statistics.new (input_of rows offsets.now columns.now values.now true face_weights.now options) result }
 {
     let table = lent::records_of(statistics);
@@ -67,7 +68,7 @@ pub fn update_values(
     words: &[u32],
     floats: &mut [f64],
     statistics: &[u64],
-) -> Updated
+) -> Result<(), Refusal>
     ensures { UpdateCall handle words.now floats.old floats.new (records_lent statistics.now) offsets.now columns.now values.now result }
 {
     let table = lent::records_of(statistics);
@@ -85,7 +86,7 @@ pub fn solve(
     rhs: &[f64],
     x: &mut [f64],
     options: LinearSolverOptions,
-) -> Solved
+) -> Result<LinearSolveReport, Refusal>
     ensures { SolveOver handle words.now floats.old floats.new statistics.old statistics.new rhs.now x.old x.new options result }
 {
     let table = lent::records_of(statistics);
@@ -95,7 +96,12 @@ pub fn solve(
     )
 }
 
-pub fn statistics(handle: Handle, words: &[u32], floats: &[f64], statistics: &[u64]) -> Counted {
+pub fn statistics(
+    handle: Handle,
+    words: &[u32],
+    floats: &[f64],
+    statistics: &[u64],
+) -> Result<u64, Refusal> {
     let table = lent::records_of(statistics);
     let records = least(statistics.len() / 5, 128);
     lent::statistics(handle, words, floats, table, records)

@@ -12,7 +12,8 @@ pub struct Answer {
     pub levels: u64,
 }
 
-// Accepted builds by their levels, up to 128; then two kinds to each question: refused on the finest level or below it.
+// Accepted builds by their levels, up to 128; then two kinds to each question: refused on the finest level or below it. Kinds are numbers,
+// the places of the counters and the order of the lines: an enum would be made into this number for each use.
 fn kind_of(a: Answer) -> usize
     ensures { result < 193 }
 {
@@ -28,10 +29,7 @@ fn kind_of(a: Answer) -> usize
 // One more of the kind of this answer.
 pub fn count(kinds: &mut [u64; 193], a: Answer) {
     let k = kind_of(a);
-    let n = kinds[k];
-    if n < 18446744073709551615 {
-        kinds[k] = n + 1;
-    }
+    kinds[k] = kinds[k].saturating_add(1);
 }
 
 fn print_kind(rt: &impl Print, kind: u64) -> io::Result<()> {
@@ -53,9 +51,9 @@ fn print_line(rt: &impl Print, kind: u64, count: u64) -> io::Result<()> {
 
 // A line for each kind that occurs.
 pub fn print(rt: &impl Print, kinds: &[u64; 193]) -> io::Result<()> {
-    for k in 0..193 {
-        if kinds[k] > 0 {
-            print_line(rt, k as u64, kinds[k])?;
+    for (kind, &count) in kinds.iter().enumerate() {
+        if count > 0 {
+            print_line(rt, kind as u64, count)?;
         }
     }
     Ok(())

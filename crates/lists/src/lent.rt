@@ -7,7 +7,8 @@ ghost use Rattle.lists.specs.Numbers.{record_at, records_in, Put, with_record, w
 ghost use Rattle.lists.specs.Calls.{BuildLent, SolveLent};
 
 use options::{Handle, MultigridOptions};
-use solver::{Built, Counted, LinearSolverOptions, MultigridLevelStatistics, Solved, Updated};
+use refusal::Refusal;
+use solver::{LinearSolveReport, LinearSolverOptions, MultigridLevelStatistics};
 
 // The record whose five numbers start there; an empty one where there are not so many.
 fn record(numbers: &[u64], at: usize) -> MultigridLevelStatistics
@@ -31,10 +32,8 @@ pub fn records_of(numbers: &[u64]) -> [MultigridLevelStatistics; 128]
     ensures { result ≡ records_in numbers.now }
 {
     let mut records = [MultigridLevelStatistics::unvisited(0); 128];
-    let mut k = 0;
-    while k < 128 {
+    for k in 0..128 {
         records[k] = record(numbers, 5 * k);
-        k += 1;
     }
     records
 }
@@ -64,11 +63,9 @@ fn put_record(numbers: &mut [u64], at: usize, r: MultigridLevelStatistics)
 fn write_back(records: [MultigridLevelStatistics; 128], numbers: &mut [u64])
     ensures { numbers.new ≡ with_records records numbers.old }
 {
-    let mut k = 0;
-    while k < 128 {
+    for k in 0..128 {
         let r = records[k];
         put_record(numbers, 5 * k, r);
-        k += 1;
     }
 }
 
@@ -83,7 +80,7 @@ pub fn new(
     table: [MultigridLevelStatistics; 128],
     lent: usize,
     numbers: &mut [u64],
-) -> Built
+) -> Result<Handle, Refusal>
     requires { lent ≤ 128 }
     ensures { BuildLent words.old words.new floats.old floats.new table lent numbers.old numbers.new (input_of rows offsets.now columns.now values.now false [] options) result }
 {
@@ -114,7 +111,7 @@ pub fn new_with_face_weights(
     table: [MultigridLevelStatistics; 128],
     lent: usize,
     numbers: &mut [u64],
-) -> Built
+) -> Result<Handle, Refusal>
     requires { lent ≤ 128 }
     ensures { BuildLent words.old words.new floats.old floats.new table lent numbers.old numbers.new (input_of rows offsets.now columns.now values.now true face_weights.now options) result }
 {
@@ -144,7 +141,7 @@ pub fn solve(
     rhs: &[f64],
     x: &mut [f64],
     options: LinearSolverOptions,
-) -> Solved
+) -> Result<LinearSolveReport, Refusal>
     requires { lent ≤ 128 }
     ensures { SolveLent handle words.now floats.old floats.new table lent numbers.old numbers.new rhs.now x.old x.new options result }
 {
@@ -163,7 +160,7 @@ pub fn update_values(
     floats: &mut [f64],
     table: [MultigridLevelStatistics; 128],
     lent: usize,
-) -> Updated
+) -> Result<(), Refusal>
     requires { lent ≤ 128 }
     ensures { UpdateCall handle words.now floats.old floats.new lent offsets.now columns.now values.now result }
 {
@@ -185,7 +182,7 @@ pub fn statistics(
     floats: &[f64],
     table: [MultigridLevelStatistics; 128],
     lent: usize,
-) -> Counted
+) -> Result<u64, Refusal>
     requires { lent ≤ 128 }
 {
     let records = table;

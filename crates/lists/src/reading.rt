@@ -9,77 +9,58 @@ pub struct Numeral {
 }
 
 fn digit(c: u8) -> u64 {
-    let code: u64 = c as u64;
+    let code = u64::from(c);
     (code % 16 + code / 64 * 9) % 16
 }
 
 // The number at `at`; zero past the end of the text.
 pub fn number(text: &[u8], at: usize) -> Numeral {
-    let mut value: u64 = 0;
-    let mut i = at;
-    while i < text.len() {
+    let mut value = 0;
+    for i in at..text.len() {
         let c = text[i];
-        i += 1;
         if c <= b' ' {
-            return Numeral {
-                value: value,
-                next: i,
-            };
+            return Numeral { value, next: i + 1 };
         }
         value = (value << 4) | digit(c);
     }
     Numeral {
-        value: value,
-        next: i,
+        value,
+        next: at.max(text.len()),
     }
+}
+
+// So many numbers from `at` on, each as `from` makes it, as far as `to` has room; the answer is where the next one starts.
+fn read_each<T: Copy, F: Fn(u64) -> T>(
+    text: &[u8],
+    at: usize,
+    count: usize,
+    to: &mut [T],
+    from: F,
+) -> usize
+    requires { F.IsAlwaysCallable from }
+{
+    let mut next = at;
+    for place in to.iter_mut().take(count) {
+        let n = number(text, next);
+        *place = from(n.value);
+        next = n.next;
+    }
+    next
 }
 
 // So many numbers from `at` on, as far as `to` has room; the answer is where the next one starts.
 pub fn numbers(text: &[u8], at: usize, count: usize, to: &mut [u64]) -> usize {
-    let mut next = at;
-    let mut k = 0;
-    while k < count {
-        if k >= to.len() {
-            return next;
-        }
-        let n = number(text, next);
-        to[k] = n.value;
-        next = n.next;
-        k += 1;
-    }
-    next
+    read_each(text, at, count, to, |n| n)
 }
 
 // The same of words.
 pub fn words(text: &[u8], at: usize, count: usize, to: &mut [u32]) -> usize {
-    let mut next = at;
-    let mut k = 0;
-    while k < count {
-        if k >= to.len() {
-            return next;
-        }
-        let n = number(text, next);
-        to[k] = (n.value % 4294967296) as u32;
-        next = n.next;
-        k += 1;
-    }
-    next
+    read_each(text, at, count, to, |n| (n % 4294967296) as u32)
 }
 
 // The same of floats, which stand there by their bits.
 pub fn floats(text: &[u8], at: usize, count: usize, to: &mut [f64]) -> usize {
-    let mut next = at;
-    let mut k = 0;
-    while k < count {
-        if k >= to.len() {
-            return next;
-        }
-        let n = number(text, next);
-        to[k] = float::of_bits(n.value);
-        next = n.next;
-        k += 1;
-    }
-    next
+    read_each(text, at, count, to, |n| float::of_bits(n))
 }
 
 // The number of 8 digits that stands next in the input, as a list and each of its records begin.

@@ -1,7 +1,7 @@
 // One build of a list: its arguments, the call, and its answer.
 use crate::{calls, least, reading};
-use options::MultigridOptions;
-use solver::Built;
+use options::{Handle, MultigridOptions};
+use refusal::Refusal;
 
 // How much of each array and store the build gets, its controls, and where the text goes on after these arguments.
 #[derive(Clone, Copy)]
@@ -126,7 +126,7 @@ fn call(
     words: &mut [u32],
     floats: &mut [f64],
     statistics: &mut [u64],
-) -> Built {
+) -> Result<Handle, Refusal> {
     if given {
         calls::new_with_face_weights(
             rows, offsets, columns, values, weights, options, words, floats, statistics,
@@ -148,7 +148,7 @@ fn run(
     words: &mut [u32],
     floats: &mut [f64],
     statistics: &mut [u64],
-) -> Built {
+) -> Result<Handle, Refusal> {
     let a = least(p.offsets, offsets.len());
     let b = least(p.columns, columns.len());
     let c = least(p.values, values.len());
@@ -174,7 +174,7 @@ fn run(
 #[derive(Clone, Copy)]
 pub struct Rebuilt {
     pub problem: Problem,
-    pub built: Built,
+    pub built: Result<Handle, Refusal>,
 }
 
 // The build in a text, in stores that are lent. Nobody needs its arrays afterwards.
@@ -192,8 +192,5 @@ pub fn from_text(
     let built = run(
         p, &offsets, &columns, &values, &weights, words, floats, statistics,
     );
-    Rebuilt {
-        problem: p,
-        built: built,
-    }
+    Rebuilt { problem: p, built }
 }

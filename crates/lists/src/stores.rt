@@ -11,23 +11,18 @@ pub struct Sums {
 }
 
 fn add(c: Sums, number: u64) -> Sums {
-    let sum = std::num::wrapping_add_u64(c.sum, number);
+    let sum = c.sum.wrapping_add(number);
     Sums {
-        sum: sum,
-        total: std::num::wrapping_add_u64(c.total, sum),
+        sum,
+        total: c.total.wrapping_add(sum),
     }
 }
 
 // The first words, so many or all, added to a checksum.
 fn add_words(c: Sums, w: &[u32], count: usize) -> Sums {
     let mut c = c;
-    let mut k = 0;
-    while k < w.len() {
-        if k >= count {
-            return c;
-        }
-        c = add(c, store::wide(w[k]) as u64);
-        k += 1;
+    for &word in w.iter().take(count) {
+        c = add(c, u64::from(word));
     }
     c
 }
@@ -35,13 +30,8 @@ fn add_words(c: Sums, w: &[u32], count: usize) -> Sums {
 // The same of floats, by their bits.
 fn add_floats(c: Sums, f: &[f64], count: usize) -> Sums {
     let mut c = c;
-    let mut k = 0;
-    while k < f.len() {
-        if k >= count {
-            return c;
-        }
-        c = add(c, float::to_bits(f[k]));
-        k += 1;
+    for &x in f.iter().take(count) {
+        c = add(c, float::to_bits(x));
     }
     c
 }
@@ -68,10 +58,8 @@ pub fn floats_checksum(f: &[f64], count: usize) -> u64 {
 // The checksum of numbers.
 pub fn numbers_checksum(numbers: &[u64]) -> u64 {
     let mut c = Sums { sum: 0, total: 0 };
-    let mut k = 0;
-    while k < numbers.len() {
-        c = add(c, numbers[k]);
-        k += 1;
+    for &number in numbers {
+        c = add(c, number);
     }
     c.total
 }
@@ -79,36 +67,23 @@ pub fn numbers_checksum(numbers: &[u64]) -> u64 {
 // The sum of so many words of statistics, modulo 2^64.
 pub fn statistics_sum(s: &[u64], count: usize) -> u64 {
     let mut sum: u64 = 0;
-    let mut k = 0;
-    while k < s.len() {
-        if k >= count {
-            return sum;
-        }
-        sum = std::num::wrapping_add_u64(sum, s[k]);
-        k += 1;
+    for &number in s.iter().take(count) {
+        sum = sum.wrapping_add(number);
     }
     sum
 }
 
 // The word at a place; zero outside of the store.
 fn word(w: &[u32], at: usize) -> u32 {
-    if at < w.len() { w[at] } else { 0 }
+    w.get(at).copied().unwrap_or(0)
 }
 
 // How many floats a packed triangle of n rows has; a factor has at most 256.
 fn triangle(n: u32) -> usize
     ensures { result ≤ 65536 }
 {
-    let mut end = 0;
-    let mut row: u32 = 0;
-    while row < n {
-        if row >= 256 {
-            return end;
-        }
-        row += 1;
-        end += store::wide(row);
-    }
-    end
+    let n = store::wide(n.min(256));
+    n * (n + 1) / 2
 }
 
 // Where the level ends whose words and floats start where `from` ends, as crates/layout has it.
@@ -139,10 +114,8 @@ pub fn view_end(w: &[u32], levels: u64) -> Extent {
         words: 0,
         floats: 0,
     };
-    let mut level: u64 = 0;
-    while level < levels {
+    for _ in 0..levels {
         end = level_end(w, end);
-        level += 1;
     }
     Extent {
         words: end.words,

@@ -1,10 +1,9 @@
 -- The row of a cell: its draws, its mirrors, and what stands then. Assumes nothing.
-use Rattle.std.proofs.Common.{◌≡◌, ℕ, zero, suc, ◌+◌, ◌-◌, ◌*◌, ◌%◌, ◌^◌, ◌<◌, ◌≤◌, min, max, Bool, true, false, cond, List, [], ◌∷◌, ◌++◌, map, length, get_or, ℤ, pos, neg_ℤ, sym, refl, ap, ◌∙◌, mod-lt, add-one, arith, length-append}
+use Rattle.std.proofs.Common.{◌≡◌, ℕ, suc, ◌+◌, ◌-◌, ◌*◌, ◌<◌, ◌≤◌, min, max, Bool, true, false, cond, List, ◌∷◌, ◌++◌, map, length, pos, neg_ℤ, sym, refl, ap, ◌∙◌, mod-lt, add-one, arith, length-append}
 use mathlib.Core.List.{map-append}
 use lib.Ieee.{Float, binary64, of_int, neg}
-use Rattle.float.specs.Float.{zero64, sub64}
+use Rattle.float.specs.Float.{zero64}
 use Rattle.store.specs.Region.{at, idx}
-use Rattle.pattern.specs.Pattern.{sum_to}
 use Rattle.pattern.proofs.pattern.Number.{not_both, sum_step}
 use Rattle.galerkin.proofs.exact.Whole.{zero_is}
 use Rattle.load.specs.declared.cells.Extents.{Extents}
@@ -14,9 +13,9 @@ use Rattle.load.specs.declared.drawing.Draws.{Draws}
 use Rattle.load.specs.declared.laying.Mirrors.{Mirrors}
 use Rattle.load.specs.declared.laying.Reached.{Reached}
 use Rattle.load.specs.Box.{Grid}
-use Rattle.load.specs.Draw.{state_of, draw_of}
-use Rattle.load.specs.Load.{joined, total, conductance_of, face_of, columns_in, own_of, off_of, wholes_in, row_start}
-use Rattle.load.specs.Steps.{optional, one, count_of, grid_of, Few, Placed, FacesAre, DrewAll, DrawsSmall, MirrorOk, mirror_at, MirrorsOk, MirrorsAre, own_sum, RoomFor, Pushed, columns_behind, columns_ahead, values_behind, values_ahead, RowOk, CellOk, CellDone}
+use Rattle.load.specs.Draw.{draw_of}
+use Rattle.load.specs.Load.{total, conductance_of, face_of, columns_in, own_of, off_of, wholes_in, row_start}
+use Rattle.load.specs.Steps.{optional, one, count_of, grid_of, FacesAre, DrewAll, DrawsSmall, MirrorOk, mirror_at, MirrorsOk, MirrorsAre, own_sum, RoomFor, Pushed, columns_behind, columns_ahead, values_behind, values_ahead, RowOk, CellOk, CellDone}
 use Rattle.load.proofs.Lists.{start_in, map_three, total_three, optional_same, joined_end}
 use Rattle.load.proofs.Whole.{neg_off, less_off}
 use Rattle.load.proofs.Rows.{ahead_is, behind_is, columns_are, columns_count, count_small, start_next, start_mono, right_is, down_is, deeper_is, state_next}

@@ -1,10 +1,10 @@
 -- A last extent of 1 changes nothing: a box that is one cell deep is the flat one, and so is its load. Assumes nothing.
-use Rattle.std.proofs.Common.{◌≡◌, ℕ, ◌+◌, ◌-◌, ◌*◌, ◌/◌, ◌%◌, Bool, true, false, cond, not, ◌&&◌, eqb, ltb, leb, List, [], ◌∷◌, ◌++◌, sym, refl, ap, ◌∙◌, ap₂}
+use Rattle.std.proofs.Common.{◌≡◌, ℕ, ◌*◌, ◌/◌, Bool, false, not, ◌&&◌, eqb, List, [], ◌∷◌, ◌++◌, refl, ap₂}
 use mathlib.Core.Path.{fun_ext}
 use native.Mathlib.Nat.{mod-one}
 use Rattle.refusal.specs.Outcome.{Outcome, accepted, ask}
 use Rattle.refusal.specs.Refusal.{bad_load}
-use Rattle.load.specs.Box.{Grid, Axis, axes_from, along, has_ahead, has_behind, ahead_of, behind_of, cells_of, box, all_positive, extents_ok}
+use Rattle.load.specs.Box.{Grid, axes_from, along, has_ahead, has_behind, ahead_of, behind_of, cells_of, box, all_positive, extents_ok}
 use Rattle.load.specs.Load.{Load, Room, room_ok, load_on, load_of}
 
 -- the axis of an extent of 1 has no face

@@ -1,17 +1,14 @@
 -- Where the entries behind the diagonal stand mirrored, in the rows before. Assumes nothing.
-use Rattle.std.proofs.Common.{◌≡◌, ℕ, zero, suc, ◌+◌, ◌-◌, ◌*◌, ◌<◌, ◌≤◌, Bool, true, false, cond, ltb, List, [], ◌∷◌, ◌++◌, map, length, get_or, ℤ, pos, neg_ℤ, sym, refl, ap, ◌∙◌, suc-mul, mul-one, mul-suc, mul-add, add-one, arith, length-append, ltb-true, lt-ltb}
+use Rattle.std.proofs.Common.{◌≡◌, ℕ, zero, suc, ◌+◌, ◌-◌, ◌*◌, ◌<◌, ◌≤◌, true, ltb, List, [], ◌∷◌, ◌++◌, map, length, ℤ, pos, neg_ℤ, sym, refl, ap, ◌∙◌, suc-mul, mul-one, mul-add, arith, length-append, ltb-true, lt-ltb}
 use lib.ListN.{length-map}
-use lib.Ieee.{Float, binary64, of_int}
-use Rattle.store.specs.Region.{at, idx}
-use Rattle.pattern.specs.Pattern.{sum_to}
 use Rattle.load.specs.declared.cells.Extents.{Extents}
 use Rattle.load.specs.declared.cells.Cell.{Cell}
 use Rattle.load.specs.declared.cells.Faces.{Faces}
 use Rattle.load.specs.Box.{Grid}
-use Rattle.load.specs.Load.{joined, conductance_of, columns_in, own_of, off_of, wholes_in, row_start}
-use Rattle.load.specs.Steps.{optional, one, count_of, grid_of, Few, Placed, FacesAre, columns_behind, columns_ahead}
-use Rattle.load.proofs.Lists.{start_in, map_three, sum_same, joined_end, last_first, last_second, last_third}
-use Rattle.load.proofs.Rows.{ahead_is, behind_is, conductance_both}
+use Rattle.load.specs.Load.{conductance_of, columns_in, own_of, off_of, wholes_in, row_start}
+use Rattle.load.specs.Steps.{optional, one, grid_of, Few, Placed, FacesAre}
+use Rattle.load.proofs.Lists.{start_in, map_three, sum_same, last_first, last_second, last_third}
+use Rattle.load.proofs.Rows.{ahead_is, conductance_both}
 use Rattle.load.proofs.cells.Places.{faces_are}
 use Rattle.load.proofs.laying.Pushes.{length_optional}
 

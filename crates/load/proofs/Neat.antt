@@ -1,13 +1,13 @@
 -- The box of any extents is a neat grid: its faces are told from both sides, and a cell's neighbours rise. Assumes nothing.
-use Rattle.std.proofs.Common.{◌≡◌, ℕ, zero, suc, ◌+◌, ◌-◌, ◌*◌, ◌/◌, ◌%◌, ◌<◌, ◌≤◌, Bool, true, false, ◌&&◌, ltb, ◌⊎◌, List, [], ◌∷◌, ◌++◌, sym, refl, ap, ◌∙◌, subst, inl, inr, ⊎_elim, mod-lt, mod-eq_of_lt, mul_assoc, mul_comm, div-lt_iff_lt-mul, add-mul, mul-le-mul_left, mul-pos, one-mul, div-add-mod', mul-one, mul-suc, arith, ltb-true, lt-ltb}
+use Rattle.std.proofs.Common.{◌≡◌, ℕ, zero, suc, ◌+◌, ◌-◌, ◌*◌, ◌/◌, ◌%◌, ◌<◌, ◌≤◌, true, false, ltb, List, [], ◌∷◌, sym, ap, ◌∙◌, subst, ⊎_elim, mod-lt, mod-eq_of_lt, mul_assoc, mul_comm, div-lt_iff_lt-mul, add-mul, mul-le-mul_left, mul-pos, one-mul, div-add-mod', mul-suc, arith, ltb-true, lt-ltb}
 use native.Mathlib.Nat.{div-eq_of_lt, zero-mod, mod-add-mod, mod_self, add-mul-div_right}
 use Rattle.store.proofs.store.Region.{le_or_lt}
 use Rattle.store.proofs.store.Each.{both_l, both_r}
 use Rattle.pattern.proofs.pattern.Number.{bool?}
-use Rattle.load.specs.Box.{Grid, Axis, axes_from, along, has_ahead, has_behind, ahead_of, behind_of, cells_of, box, all_positive}
+use Rattle.load.specs.Box.{Axis, axes_from, along, has_ahead, has_behind, ahead_of, behind_of, cells_of, box, all_positive}
 use Rattle.load.specs.Steps.{optional}
 use Rattle.load.specs.Theorem.{Between, Among, Neat}
-use Rattle.load.proofs.Rising.{between_wide, between_on, between_optional, among_l, among_r, among_which, among_optional, optional_among}
+use Rattle.load.proofs.Rising.{between_wide, between_on, among_l, among_r, among_which, among_optional, optional_among}
 
 -- ---- one axis
 

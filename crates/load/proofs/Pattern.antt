@@ -1,18 +1,16 @@
 -- The pattern of a load on a neat grid is valid and rising, each entry has its mirror and each row its diagonal. Assumes nothing.
-use Rattle.std.proofs.Common.{◌≡◌, ℕ, zero, suc, ◌+◌, ◌-◌, ◌<◌, ◌≤◌, true, ◌⊎◌, List, [], ◌∷◌, ◌++◌, length, get_or, sym, refl, ap, ◌∙◌, inl, inr, ⊎_elim, add-one, arith, length-append}
-use lib.Seq.{get_or-append_seam}
+use Rattle.std.proofs.Common.{◌≡◌, ℕ, ◌+◌, ◌<◌, ◌≤◌, true, List, ◌∷◌, ◌++◌, length, sym, refl, ap, ◌∙◌, inl, inr, ⊎_elim, arith}
 use Rattle.store.specs.Region.{idx}
-use Rattle.store.specs.Vector.{tab}
 use Rattle.store.proofs.store.Vector.{length_tab, get_d_tab}
-use Rattle.pattern.specs.Pattern.{sum_to, Pattern, entries, column_of, row_of, Valid, Rising, Mirrored, Diagonal}
-use Rattle.pattern.proofs.pattern.Number.{sum_zero, sum_step, sum_which}
+use Rattle.pattern.specs.Pattern.{Pattern, entries, column_of, row_of, Valid, Rising, Mirrored, Diagonal}
+use Rattle.pattern.proofs.pattern.Number.{sum_zero, sum_which}
 use Rattle.pattern.proofs.pattern.Row.{row_is}
 use Rattle.load.specs.Box.{Grid, box, all_positive}
-use Rattle.load.specs.Load.{joined, columns_in, row_start, pattern_of}
+use Rattle.load.specs.Load.{columns_in, row_start, pattern_of}
 use Rattle.load.specs.Theorem.{Between, Among, Neat}
 use Rattle.load.proofs.Lists.{length_joined, joined_at}
 use Rattle.load.proofs.Rows.{start_next, start_mono}
-use Rattle.load.proofs.Rising.{between_wide, between_on, between_at, between_rise, among_place, place_among, among_l, among_r, among_which}
+use Rattle.load.proofs.Rising.{between_on, between_at, between_rise, among_place, place_among, among_l, among_r, among_which}
 use Rattle.load.proofs.Neat.{box_neat}
 
 module _ {m : Grid} (neat : Neat m) where

@@ -1,22 +1,16 @@
 -- The rows of a box with three axes, by their faces; the draws and the mirrors of a row. Assumes nothing.
-use Rattle.std.proofs.Common.{◌≡◌, ℕ, zero, suc, ◌+◌, ◌-◌, ◌*◌, ◌/◌, ◌%◌, ◌^◌, ◌<◌, ◌≤◌, min, max, Bool, true, false, cond, ltb, List, [], ◌∷◌, ◌++◌, map, length, get_or, ℤ, pos, neg_ℤ, sym, refl, ap, ◌∙◌, append_assoc, append-nil, add-zero, add_assoc, one-mul, mul-suc, add-one, arith, length-append, ltb-true}
+use Rattle.std.proofs.Common.{◌≡◌, ℕ, zero, suc, ◌+◌, ◌-◌, ◌*◌, ◌<◌, ◌≤◌, min, max, Bool, true, false, cond, [], ◌∷◌, ◌++◌, length, sym, refl, ap, ◌∙◌, append_assoc, append-nil, add-zero, add_assoc, one-mul, mul-suc, add-one, arith, length-append, ltb-true}
 use native.Mathlib.Nat.{min_comm, max_comm}
-use lib.ListN.{length-map}
-use lib.Ieee.{Float, binary64, of_int, neg}
-use Rattle.float.specs.Float.{zero64}
-use Rattle.store.specs.Region.{at, idx}
 use Rattle.pattern.specs.Pattern.{sum_to}
 use Rattle.pattern.proofs.pattern.Number.{sum_step, sum_mono}
-use Rattle.galerkin.proofs.exact.Whole.{zero_is}
 use Rattle.load.specs.declared.cells.Extents.{Extents}
 use Rattle.load.specs.declared.cells.Faces.{Faces}
 use Rattle.load.specs.declared.drawing.Draws.{Draws}
 use Rattle.load.specs.Box.{Grid, axes_from, along, has_ahead, has_behind, ahead_of, behind_of}
-use Rattle.load.specs.Draw.{next_of, state_of, draw_of}
-use Rattle.load.specs.Load.{joined, place_in, total, draws_before, face_of, conductance_of, columns_in, own_of, off_of, wholes_in, row_start}
-use Rattle.load.specs.Steps.{optional, one, count_of, grid_of, axis₀, axis₁, axis₂, FacesAre, after, taken, DrewAll, columns_behind, columns_ahead, values_ahead}
-use Rattle.load.proofs.Lists.{map_three, total_three, optional_same, place_hit, place_skip, sum_same}
-use Rattle.load.proofs.Whole.{neg_off}
+use Rattle.load.specs.Draw.{state_of, draw_of}
+use Rattle.load.specs.Load.{place_in, draws_before, face_of, conductance_of, columns_in, row_start}
+use Rattle.load.specs.Steps.{optional, one, count_of, grid_of, axis₀, axis₁, axis₂, FacesAre, after, taken, DrewAll, columns_behind, columns_ahead}
+use Rattle.load.proofs.Lists.{place_hit, place_skip}
 use Rattle.load.proofs.laying.Pushes.{length_three, one_small}
 
 -- ---- the columns of a row

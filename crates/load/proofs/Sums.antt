@@ -1,12 +1,12 @@
 -- Every row of a load sums to 1, over the whole numbers. Assumes nothing.
-use Rattle.std.proofs.Common.{◌≡◌, ℕ, zero, suc, ◌+◌, ◌<◌, ◌≤◌, Bool, true, ◌&&◌, eqb, leb, List, [], ◌∷◌, ◌++◌, map, length, get_or, ℤ, pos, ◌+ℤ◌, ◌-ℤ◌, neg_ℤ, sym, refl, ap, ◌∙◌, ap₂, ⊎_elim, add-zero, add_assoc, add-suc, arith, ne_eqb}
+use Rattle.std.proofs.Common.{◌≡◌, ℕ, zero, suc, ◌+◌, ◌<◌, true, eqb, leb, List, [], ◌∷◌, ◌++◌, map, length, get_or, ℤ, pos, ◌+ℤ◌, neg_ℤ, sym, refl, ap, ◌∙◌, ap₂, ⊎_elim, add-zero, add-suc, arith, ne_eqb}
 use mathlib.Core.Path.{fun_ext}
 use lib.IntN.{+ℤ_idl, +ℤ_idr, +ℤ_assoc, +ℤ_comm, +ℤ-neg_ℤ_cancel, neg_ℤ-+ℤ, pos-+ℤ-pos}
 use Rattle.store.proofs.store.Each.{both_l}
 use Rattle.galerkin.specs.Product.{Σℤ, when}
 use Rattle.galerkin.proofs.exact.Sums.{Σ-same, Σ-when, Σ-one}
 use Rattle.pattern.specs.Pattern.{sum_to, entries, row_of}
-use Rattle.pattern.proofs.pattern.Number.{same?, sum_step}
+use Rattle.pattern.proofs.pattern.Number.{same?}
 use Rattle.load.specs.Box.{Grid, cells_of, box, all_positive, extents_ok}
 use Rattle.load.specs.Load.{joined, total, conductance_of, columns_in, own_of, off_of, wholes_in, row_start, pattern_of, wholes_of}
 use Rattle.load.specs.Theorem.{Neat, whole_at}

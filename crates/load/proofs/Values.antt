@@ -1,28 +1,27 @@
 -- The values of a load are whole numbers, mirrors are equal, and absolute values sum to at most 2^53. Assumes nothing.
-use Rattle.std.proofs.Common.{◌≡◌, ℕ, zero, suc, ◌+◌, ◌-◌, ◌*◌, ◌^◌, ◌<◌, ◌≤◌, Bool, true, false, cond, ◌&&◌, eqb, ltb, leb, List, [], ◌∷◌, ◌++◌, map, length, get_or, ℤ, pos, neg_ℤ, nat_abs, sym, refl, ap, ◌∙◌, subst, ap₂, ⊎_elim, suc-mul, mul-le-mul, mul-pos, mul-suc, arith, length-append, ltb-true, eq-eqb, ne_eqb, leb-true}
+use Rattle.std.proofs.Common.{◌≡◌, ℕ, zero, suc, ◌+◌, ◌-◌, ◌*◌, ◌<◌, ◌≤◌, true, false, cond, eqb, ltb, leb, List, [], ◌∷◌, ◌++◌, map, length, get_or, ℤ, pos, neg_ℤ, nat_abs, sym, refl, ap, ◌∙◌, subst, ap₂, ⊎_elim, suc-mul, mul-pos, arith, length-append, ltb-true, eq-eqb, ne_eqb, leb-true}
 use mathlib.Core.List.{map-append}
 use lib.ListN.{length-map, get_or-map}
 use lib.Ieee.{Float, nan, binary64, of_int}
-use Rattle.store.specs.Region.{at, idx}
+use Rattle.store.specs.Region.{at}
 use Rattle.store.proofs.store.Region.{le_or_lt}
 use Rattle.store.proofs.store.Each.{both_l, both_r}
 use Rattle.galerkin.specs.Whole.{Whole, sizes}
 use Rattle.galerkin.proofs.exact.Whole.{of_int_whole}
-use Rattle.pattern.specs.Pattern.{sum_to, Pattern, entries, column_of, row_of}
+use Rattle.pattern.specs.Pattern.{sum_to, entries, column_of, row_of}
 use Rattle.pattern.proofs.pattern.Number.{bool?, same?}
 use Rattle.galerkin_theorem.specs.Theorem.{WholeValues}
 use Rattle.load.specs.Box.{Grid, Axis, axes_from, has_ahead, has_behind, ahead_of, behind_of, cells_of, box, all_positive, extents_ok}
 use Rattle.load.specs.Load.{joined, total, conductance_of, columns_in, own_of, off_of, wholes_in, row_start, pattern_of, wholes_of, values_of}
-use Rattle.load.specs.Steps.{optional}
 use Rattle.load.specs.Theorem.{Between, Neat, whole_at}
 use Rattle.load.proofs.Lists.{start_in, length_joined, joined_at}
 use Rattle.load.proofs.Whole.{nat_abs_off}
-use Rattle.load.proofs.Rows.{conductance_both, start_next}
+use Rattle.load.proofs.Rows.{conductance_both}
 use Rattle.load.proofs.Mirrors.{starts_alike}
 use Rattle.load.proofs.Cell.{conductance_small}
 use Rattle.load.proofs.Walk.{get_d_in}
 use Rattle.load.proofs.Neat.{box_neat, ahead_two, behind_two}
-use Rattle.load.proofs.Pattern.{Standing, standing, row_of_lem, entries_are}
+use Rattle.load.proofs.Pattern.{standing, row_of_lem, entries_are}
 
 -- Few cells, and few faces to a cell.
 pub record Lean (m : Grid) : Type 0 where

@@ -1,11 +1,11 @@
 -- Cell after cell. Assumes nothing.
-use Rattle.std.proofs.Common.{◌≡◌, ℕ, zero, suc, ◌+◌, ◌-◌, ◌*◌, ◌<◌, ◌≤◌, List, [], ◌∷◌, ◌++◌, map, length, get_or, set, ℤ, pos, sym, refl, ap, ◌∙◌, ⊎_elim, mul_assoc, mul-le-mul_left, mul-zero, zero-add, add-one, arith, length-set}
+use Rattle.std.proofs.Common.{◌≡◌, ℕ, zero, suc, ◌+◌, ◌*◌, ◌<◌, ◌≤◌, List, [], ◌∷◌, ◌++◌, map, length, get_or, set, pos, sym, refl, ap, ◌∙◌, ⊎_elim, mul_assoc, mul-le-mul_left, mul-zero, zero-add, add-one, arith, length-set}
 use mathlib.Core.List.{map-append}
 use lib.ListN.{length-map, get_or-map}
 use lib.Ieee.{Float, nan, binary64, of_int}
 use Rattle.store.specs.Region.{at, idx, splice}
 use Rattle.store.specs.Vector.{tab}
-use Rattle.store.proofs.store.Region.{le_or_lt, splice_nil, length_splice, get_d_splice_in, set_splice_end}
+use Rattle.store.proofs.store.Region.{le_or_lt, splice_nil, get_d_splice_in, set_splice_end}
 use Rattle.store.proofs.store.Vector.{length_tab, get_d_tab}
 use Rattle.pattern.specs.Pattern.{sum_to}
 use Rattle.load.specs.declared.cells.Extents.{Extents}

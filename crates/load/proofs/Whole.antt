@@ -1,9 +1,8 @@
 -- Whole numbers as floats: their negatives and differences. Assumes nothing.
-use Rattle.std.proofs.Common.{◌≡◌, ℕ, zero, suc, ◌+◌, ◌-◌, ◌*◌, ◌/◌, ◌%◌, ◌^◌, ◌<◌, ◌≤◌, Bool, true, false, cond, not, ltb, ℤ, pos, negsuc, neg_ℤ, nat_abs, sym, refl, ap, ◌∙◌, arith}
+use Rattle.std.proofs.Common.{◌≡◌, ℕ, zero, suc, ◌+◌, ◌-◌, ◌*◌, ◌/◌, ◌%◌, ◌^◌, ◌<◌, ◌≤◌, Bool, true, false, cond, not, ltb, ℤ, pos, neg_ℤ, nat_abs, refl, ap, ◌∙◌, arith}
 use Prim.Native.Nat.{compare}
 use lib.IntN.{neg_ℤ-neg_ℤ}
-use lib.Ieee.{Format, prec, emax, low, size, nearest, Float, nan, inf, fin, binary64, of_int, round, units, odd, neg, add, sub}
-use lib.Ieee.Exact.{HasValue}
+use lib.Ieee.{Format, prec, emax, low, size, nearest, Float, nan, inf, fin, binary64, of_int, round, units, odd, neg, sub}
 use Rattle.float.specs.Float.{sub64}
 use Rattle.galerkin.specs.Whole.{Whole, signed}
 use Rattle.galerkin.proofs.exact.Whole.{add_whole, of_int_whole}

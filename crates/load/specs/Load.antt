@@ -7,7 +7,7 @@ use Rattle.std.specs.Float.Ieee.{of_int}
 use Rattle.refusal.specs.Outcome.{Outcome, accepted, ask}
 use Rattle.refusal.specs.Refusal.{bad_load}
 use Rattle.store.specs.Vector.{tab}
-use Rattle.pattern.specs.Pattern.{Pattern, entries, sum_to}
+use Rattle.pattern.specs.Pattern.{Pattern, sum_to}
 use Rattle.load.specs.Box.{Grid, box, extents_ok}
 use Rattle.load.specs.Draw.{draw_of}
 

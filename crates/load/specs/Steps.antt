@@ -1,15 +1,16 @@
 -- What the functions of the load require and ensure. Definitions only.
-use Rattle.std.specs.Prelude.{◌≡◌, ℕ, ◌+◌, ◌-◌, ◌*◌, ◌%◌, ◌<◌, ◌≤◌, Bool, true, cond, not, ◌&&◌, List, [], ◌∷◌, ◌++◌, map, length, ℤ, pos, ◌==◌, nat_le, slice_index_or, Float}
+use Rattle.std.specs.Prelude.{◌≡◌, ℕ, ◌+◌, ◌-◌, ◌*◌, ◌%◌, ◌<◌, ◌≤◌, Bool, true, false, cond, not, ◌&&◌, List, [], ◌∷◌, ◌++◌, map, length, pos, ◌==◌, nat_le, slice_index_or, Float, Result, Ok, Err}
 use Rattle.std.specs.Float.{binary64}
 use Rattle.std.specs.Float.Ieee.{of_int, neg}
 use Rattle.float.specs.Float.{zero64, sub64}
+use Rattle.refusal.specs.Refusal.{bad_load}
 use Rattle.store.specs.Region.{at, idx, splice}
 use Rattle.store.specs.Vector.{tab}
 use Rattle.load.specs.declared.drawing.Drawn.{Drawn}
 use Rattle.load.specs.declared.drawing.Draws.{Draws}
 use Rattle.load.specs.declared.laying.Mirrors.{Mirrors}
 use Rattle.load.specs.declared.laying.Reached.{Reached}
-use Rattle.load.specs.declared.loading.Asked.{Asked}
+use Rattle.refusal.specs.declared.Refusal.{Refusal}
 use Rattle.load.specs.declared.cells.Extents.{Extents}
 use Rattle.load.specs.declared.cells.Cell.{Cell}
 use Rattle.load.specs.declared.cells.Faces.{Faces}
@@ -238,10 +239,14 @@ pub record Writable (e : Extents) (cells entries : ℕ) (room : Room) : Type 0 w
   pub columns : entries ≤ room.columns
   pub values : entries ≤ room.values
 
--- Whether there is a load, and then its cells and entries.
-pub record AskedOf (seed : ℕ) (e : Extents) (room : Room) (r : Asked) : Type 0 where
-  pub is : r.ok ≡ (not (seed == 0) && extents_ok (list_of e) && room_ok (grid_of e) room)
-  pub good : r.ok ≡ true → Writable e r.cells r.entries room
+-- whether there is a load
+abbrev pub is_load : ℕ → Extents → Room → Bool
+is_load seed e room = not (seed == 0) && extents_ok (list_of e) && room_ok (grid_of e) room
+
+-- The question of a load: its cells where there is one, else refusal 35.
+abbrev pub AskedOf : ℕ → Extents → Room → Result ℕ Refusal → Type 0
+AskedOf seed e room (Ok cells) = (is_load seed e room ≡ true) × Writable e cells (row_start (grid_of e) cells) room
+AskedOf seed e room (Err q) = (is_load seed e room ≡ false) × (q ≡ bad_load)
 
 -- The load of so many cells is written.
 pub record Written (seed : ℕ) (e : Extents) (cells : ℕ) (O O' C C' : List ℕ) (F F' : List Float) (r : ℕ) : Type 0 where

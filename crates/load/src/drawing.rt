@@ -27,9 +27,9 @@ pub fn draw(face: bool, seed: u64, s: u64) -> Drawn
 {
     if face {
         let state = next(s);
-        let drawn = std::num::wrapping_add_u64(state, seed);
+        let drawn = state.wrapping_add(seed);
         Drawn {
-            state: state,
+            state,
             conductance: (1 + drawn % 1024) as u32,
         }
     } else {

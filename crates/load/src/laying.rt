@@ -19,7 +19,7 @@ pub struct Mirrors {
 fn count(there: bool) -> usize
     ensures { result ≡ one there }
 {
-    if there { 1 } else { 0 }
+    usize::from(there)
 }
 
 // The number of a cell that is so far behind cell i; 0 where there is none.
@@ -55,9 +55,9 @@ fn mirrors_of(e: Extents, i: usize, f: Faces, offsets: &[u32], values: &[f64]) -
     let up = mirror(f.up, i, e.width, 1 + deeper, offsets, values);
     let shallower = mirror(f.shallower, i, e.width * e.height, 1, offsets, values);
     Mirrors {
-        left: left,
-        up: up,
-        shallower: shallower,
+        left,
+        up,
+        shallower,
     }
 }
 
@@ -200,7 +200,7 @@ fn lay_cell(
     let m = mirrors_of(e, c.number, f, offsets, values);
     let end = push_row(e, c.number, f, m, d, before.end, columns, values);
     Reached {
-        end: end,
+        end,
         state: d.state,
     }
 }
@@ -227,12 +227,10 @@ pub fn lay_cells(
         y: 0,
         z: 0,
     };
-    let mut i = 0;
-    while i < cells {
+    for i in 0..cells {
         offsets[i] = reached.end as u32;
         reached = lay_cell(e, c, seed, reached, offsets, columns, values);
         c = following(e, c);
-        i += 1;
     }
     reached
 }
@@ -250,11 +248,9 @@ pub fn entries_of(e: Extents, cells: usize) -> usize
         y: 0,
         z: 0,
     };
-    let mut i = 0;
-    while i < cells {
+    for i in 0..cells {
         entries += width_of(e, c);
         c = following(e, c);
-        i += 1;
     }
     entries
 }

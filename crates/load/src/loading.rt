@@ -15,21 +15,6 @@ pub struct Size {
     pub entries: u64,
 }
 
-// What a call answers.
-#[derive(Clone, Copy)]
-pub enum Loaded {
-    Made(Size),
-    Refused(Refusal),
-}
-
-// Whether there is a load, and then its cells and entries.
-#[derive(Clone, Copy)]
-pub struct Asked {
-    pub ok: bool,
-    pub cells: usize,
-    pub entries: usize,
-}
-
 // A product of at most 65,536; 0 where it is larger.
 fn product(a: usize, b: usize) -> usize
     ensures { result ≡ capped (a * b) }
@@ -48,31 +33,26 @@ fn cells_of(e: Extents) -> usize
     product(layer, e.depth)
 }
 
-// Question 35.
-fn ask(seed: u64, e: Extents, offsets: usize, columns: usize, values: usize) -> Asked
+// Question 35; the cells of a load that passes it.
+fn ask(
+    seed: u64,
+    e: Extents,
+    offsets: usize,
+    columns: usize,
+    values: usize,
+) -> Result<usize, Refusal>
     ensures { AskedOf seed e (record { offsets = offsets; columns = columns; values = values }) result }
 {
     let cells = cells_of(e);
     if seed == 0 {
-        return Asked {
-            ok: false,
-            cells: 0,
-            entries: 0,
-        };
+        return Err(BAD_LOAD);
     }
     if cells == 0 {
-        return Asked {
-            ok: false,
-            cells: 0,
-            entries: 0,
-        };
+        return Err(BAD_LOAD);
     }
     let entries = entries_of(e, cells);
-    Asked {
-        ok: (cells + 1 <= offsets) & (entries <= columns) & (entries <= values),
-        cells: cells,
-        entries: entries,
-    }
+    let room = (cells + 1 <= offsets) & (entries <= columns) & (entries <= values);
+    if room { Ok(cells) } else { Err(BAD_LOAD) }
 }
 
 // A load that was asked about: the rows, and last where they end.
@@ -100,19 +80,15 @@ fn load_box(
     offsets: &mut [u32],
     columns: &mut [u32],
     values: &mut [f64],
-) -> Loaded
+) -> Result<Size, Refusal>
     ensures { Loading (load_of seed (list_of e) (room_of offsets.old columns.old values.old)) offsets.old offsets.new columns.old columns.new values.old values.new result }
 {
-    let asked = ask(seed, e, offsets.len(), columns.len(), values.len());
-    if asked.ok {
-        let entries = write(seed, e, asked.cells, offsets, columns, values);
-        Loaded::Made(Size {
-            rows: asked.cells as u64,
-            entries: entries as u64,
-        })
-    } else {
-        Loaded::Refused(BAD_LOAD)
-    }
+    let cells = ask(seed, e, offsets.len(), columns.len(), values.len())?;
+    let entries = write(seed, e, cells, offsets, columns, values);
+    Ok(Size {
+        rows: cells as u64,
+        entries: entries as u64,
+    })
 }
 
 // The load of a seed on a box of width, height and depth in cells.
@@ -124,7 +100,7 @@ pub fn load(
     offsets: &mut [u32],
     columns: &mut [u32],
     values: &mut [f64],
-) -> Loaded
+) -> Result<Size, Refusal>
     ensures { Loading (load_of seed (width ∷ height ∷ depth ∷ []) (room_of offsets.old columns.old values.old)) offsets.old offsets.new columns.old columns.new values.old values.new result }
 {
     let e = Extents {

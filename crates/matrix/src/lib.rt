@@ -4,6 +4,7 @@
 pub mod matrix;
 pub mod residual;
 pub mod row_sums;
+mod spread;
 
 pub use matrix::{SymmetricMatrix, apply};
 pub use row_sums::row_sums_into;

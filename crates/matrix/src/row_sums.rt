@@ -52,10 +52,8 @@ fn sum_faces(
     ensures { SumFaced w.now s sums row lo hi f.old f.new }
 {
     let mut own = f[sums + row];
-    let mut face = lo;
-    while face < hi {
+    for face in lo..hi {
         own = sum_face(w, f, s, sums, row, face, own);
-        face += 1;
     }
     f[sums + row] = own;
 }
@@ -78,10 +76,8 @@ fn sum_rows(w: &[u32], f: &mut [f64], s: SymmetricMatrix, sums: usize)
     requires rows_in_bounds { sums + s.rows ≤ length f.old }
     ensures { Summed w.now s sums f.old f.new }
 {
-    let mut row = 0;
-    while row < s.rows {
+    for row in 0..s.rows {
         sum_row(w, f, s, sums, row);
-        row += 1;
     }
 }
 

@@ -5,12 +5,11 @@ use mathlib.Core.List.{List, [], ◌∷◌}
 use Prim.Native.Nat.{ℕ}
 use native.Mathlib.Omega.{arith}
 use lib.Ieee.{binary64, of_bits, eq, lt, neg, round}
+use Rattle.std.specs.Prelude.{Option, Some, None}
 use Rattle.refusal.specs.Outcome.{accepted, ask_rows}
 use Rattle.store.specs.Vector.{tab, each}
 use Rattle.pattern.specs.Pattern.{some}
 use Rattle.csr.specs.Questions.{size_ok, never_fall, offsets_ok, entry_ok, row_ok, columns_ok}
-use Rattle.decimal.specs.declared.Found.{Found}
-use Rattle.decimal.specs.declared.Written.{Written}
 use Rattle.decimal.specs.Decimal.{gives, find_of, write_from, write_of}
 use Rattle.decimal.proofs.Laws.{find_sound, find_complete}
 use Rattle.decimal.proofs.Ties.{gives_unique}
@@ -35,17 +34,17 @@ minus_two_lem = refl
 -- ---- a matrix of one entry, -0
 
 -- -0 is written as 0
-found : (f : Found) → f ≡ find_of (of_bits binary64 0x8000000000000000) false 0 → f ≡ Found.At 0
+found : (f : Option ℕ) → f ≡ find_of (of_bits binary64 0x8000000000000000) false 0 → f ≡ Some 0
 unfolding eq round of_bits
-found (Found.At k) e =
+found (Some k) e =
     let s = find_sound (of_bits binary64 0x8000000000000000) false 0 k (sym e) in
     let same : k ≡ 0 = gives_unique (of_bits binary64 0x8000000000000000) false 0 k 0 (omega arith) s.0 (omega arith) s.1 refl in
     rw same
-found Found.Nothing e =
+found None e =
     let no : gives (of_bits binary64 0x8000000000000000) false 0 0 ≡ false = find_complete (of_bits binary64 0x8000000000000000) false 0 (sym e) 0 (omega arith) in
     absurd (let z : ◌≡◌ {A = ℕ} 0 1 = cc in omega arith)
 
-zero_written : write_of (of_bits binary64 0x8000000000000000) ≡ Written.Number 0 false 0
+zero_written : write_of (of_bits binary64 0x8000000000000000) ≡ Some (0, false, 0)
 unfolding write_from
 zero_written = rw (found (find_of (of_bits binary64 0x8000000000000000) false 0) refl)
 

@@ -9,13 +9,14 @@ use lib.ListN.{length, length-append}
 use lib.Seq.{append_snoc}
 use lib.Ieee.{Float}
 use borrow.Author.Tests.{eq-eqb, lt-ltb, le-leb}
+use Rattle.std.specs.Prelude.{Result, Ok}
 use Rattle.refusal.specs.Refusal.{too_large, store_too_small, bad_matrix_file}
 use Rattle.refusal.specs.Outcome.{Outcome, accepted, ask, ◌>>=◌}
 use Rattle.decimal_text.specs.Field.{number_of}
 use Rattle.decimal_text.specs.Figures.{figures}
 use Rattle.decimal_text.proofs.Trip.{figures_number, figures_read}
 use Rattle.coordinate.specs.Coordinate.{Entry, entries_there, expanded}
-use Rattle.matrix_market.specs.declared.placed.Placed.{Placed}
+use Rattle.matrix_market.specs.declared.placed.PlacedError.{PlacedError}
 use Rattle.matrix_market.specs.Lines.{first_of, first_line, data_of}
 use Rattle.matrix_market.specs.Placed.{placed_in}
 use Rattle.record_format.specs.Format.{Matrix, matrix_length, matrix_at}
@@ -82,8 +83,8 @@ lines_read symmetric s (t ∷ ts) es (All.more p a) e n once =
     let long : length (es ++ (as_read t ∷ [])) ≡ length es + 1 = length-append es (as_read t ∷ []) in
     let z : es ++ (as_read t ∷ []) ++ map as_read ts ≡ es ++ as_read t ∷ map as_read ts = append_snoc es (as_read t) (map as_read ts) in
     ap (λ (b : Bool). ask b bad_matrix_file (◌>>=◌ (entry_after es (placed_in symmetric s.rows (entry_text t))) next)) (lt-ltb (length es) s.entries (omega arith))
-    ∙ ap (λ (x : Placed). ◌>>=◌ (entry_after es x) next) (first_same e)
-    ∙ ap (λ (v : Float). ◌>>=◌ (entry_after es (Placed.Entry t.row t.column v)) next) (read_positive t.value p.fit p.value)
+    ∙ ap (λ (x : Result (ℕ × ℕ × Float) PlacedError). ◌>>=◌ (entry_after es x) next) (first_same e)
+    ∙ ap (λ (v : Float). ◌>>=◌ (entry_after es (Ok (t.row, t.column, v))) next) (read_positive t.value p.fit p.value)
     ∙ ap (λ (b : Bool). ◌>>=◌ (ask b bad_matrix_file (accepted (as_read t))) next) (free_before es (map as_read ts) (as_read t) (once t.row t.column p.row))
     ∙ lines_read symmetric s ts (es ++ (as_read t ∷ [])) a (rest_same e) (omega arith)
     (λ r c h. rw z (once r c h))

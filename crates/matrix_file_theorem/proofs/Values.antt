@@ -10,8 +10,8 @@ use lib.Ieee.{Float, nan, inf, fin, binary64, up, down, of_bits, neg, lt, eq, fi
 use lib.Ieee.Fits.{neg-fits, down_pos, up_pos}
 use lib.Ieee.Bits.{of_bits-fits}
 use borrow.Author.Tests.{eqb-true, eq-eqb, ne_eqb, ltb-true}
+use Rattle.std.specs.Prelude.{Option, Some, None}
 use Rattle.store.proofs.store.Each.{both_l, both_r}
-use Rattle.decimal.specs.declared.Written.{Written}
 use Rattle.decimal.specs.Decimal.{value_of, plus, write_of, is_minus, magnitude_of, signed_of}
 use Rattle.decimal.proofs.Order.{same, value_plus, value_fits}
 use Rattle.decimal.proofs.Signs.{signed_trip, minus_trip}
@@ -121,11 +121,11 @@ minus_differs : (v : Float) → is_minus v ≡ true → eq v zero64 ≡ false
 minus_differs v h =
     ap (λ (z : Float). eq v z) zero_is ∙ below_differs v (ap (λ (z : Float). lt v z) (sym zero_is) ∙ h)
 
-value_is : (v : Float) (m : ℕ) (n : Bool) (q : ℕ) → T (fits binary64 v) → write_of (magnitude_of v) ≡ Written.Number m n q
+value_is : (v : Float) (m : ℕ) (n : Bool) (q : ℕ) → T (fits binary64 v) → write_of (magnitude_of v) ≡ Some (m, n, q)
     → signed_of (is_minus v) (value_of m n q) ≡ positive_zero v
 value_is v m n q F e = go (is_minus v) refl (signed_trip v m n q e) e
   where
-    go : (b : Bool) → is_minus v ≡ b → eq (signed_of b (value_of m n q)) v ≡ true → write_of (cond b (neg v) v) ≡ Written.Number m n q
+    go : (b : Bool) → is_minus v ≡ b → eq (signed_of b (value_of m n q)) v ≡ true → write_of (cond b (neg v) v) ≡ Some (m, n, q)
         → signed_of b (value_of m n q) ≡ positive_zero v
     go true h t e = minus_trip v m n q F h e ∙ sym (ap (λ (b : Bool). cond b zero64 v) (minus_differs v h))
     go false h t e =
@@ -135,6 +135,6 @@ value_is v m n q F e = go (is_minus v) refl (signed_trip v m n q e) e
 pub read_positive : (v : Float) → T (fits binary64 v) → writable v ≡ true → read_back v ≡ positive_zero v
 read_positive v F w = go (write_of (magnitude_of v)) refl w
   where
-    go : (x : Written) → write_of (magnitude_of v) ≡ x → is_found x ≡ true → read_back v ≡ positive_zero v
-    go (Written.Number m n q) e t = ap (found_value (is_minus v)) e ∙ value_is v m n q F e
-    go Written.Refused e t = absurd (false≢true t)
+    go : (x : Option (ℕ × Bool × ℕ)) → write_of (magnitude_of v) ≡ x → is_found x ≡ true → read_back v ≡ positive_zero v
+    go (Some (m, n, q)) e t = ap (found_value (is_minus v)) e ∙ value_is v m n q F e
+    go None e t = absurd (false≢true t)

@@ -5,16 +5,14 @@ use mathlib.Core.List.{List, [], ◌∷◌, map}
 use mathlib.Core.Logic.{⊎_elim}
 use Prim.Native.Nat.{ℕ, ◌+◌, ◌-◌, ◌≤◌, ◌<◌, min}
 use native.Mathlib.Omega.{arith}
-use lib.Dec.{eqb}
-use lib.ListN.{length, take, drop, get_or, length-drop, drop_of_length-le}
+use lib.ListN.{length, take, drop, length-drop, drop_of_length-le}
 use lib.Seq.{take_all, take-take, drop-drop, length-take-le}
-use borrow.Author.Tests.{eq-eqb, ne_eqb}
 use Rattle.store.proofs.store.Region.{le_or_lt}
 use Rattle.decimal_text.specs.Field.{place_of}
 use Rattle.decimal_text.proofs.Digits.{place_within, tail_part}
 use Rattle.matrix_market.specs.declared.lines.Line.{Line}
 use Rattle.matrix_market.specs.Lines.{pieces_of, kept, return_of, without_return, first_of, is_data, data_of}
-use Rattle.matrix_market.specs.Walk.{FirstLine, LineAt, NextLine}
+use Rattle.matrix_market.specs.Walk.{FirstLine, LineAt, NextIs}
 use Rattle.matrix_market.proofs.Pieces.{pieces_last, pieces_next}
 
 -- no line is left where the text ends
@@ -24,12 +22,6 @@ data_none t at h = ap data_of (drop_of_length-le t h)
 
 pub return_within : (l : List ℕ) → return_of l ≤ length l
 return_within l = omega arith
-
-pub return_yes : (l : List ℕ) → get_or l (length l - 1) 0 ≡ 13 → length l - 1 ≡ return_of l
-return_yes l h = ap (λ (b : Bool). length l - cond b 1 0) (sym (eq-eqb (get_or l (length l - 1) 0) 13 h))
-
-pub return_no : (l : List ℕ) → (get_or l (length l - 1) 0 ≡ 13 → ⊥) → length l ≡ return_of l
-return_no l h = let e : ◌≡◌ {A = ℕ} (cond (eqb (get_or l (length l - 1) 0) 13) 1 0) 0 = ap (λ (b : Bool). cond {A = ℕ} b 1 0) (ne_eqb (get_or l (length l - 1) 0) 13 h) in omega arith
 
 module _ (t : List ℕ) (from : ℕ) where
   abbrev rest : List ℕ
@@ -62,25 +54,24 @@ module _ (t : List ℕ) (from : ℕ) where
       (le_or_lt (length rest) stop)
 
   -- the line as the code finds it
-  pub line_is : (r : Line) → from < length t → r.from ≡ from → r.to ≡ from + return_of (take stop rest) → r.found ≡ is_data (take (r.to - from) rest) → r.next ≡ next → LineAt t from r
-  line_is r h a b c d =
+  pub line_is : (r : Line) → from < length t → r.from ≡ from → r.to ≡ from + return_of (take stop rest) → r.next ≡ next → LineAt t from r
+  line_is r h a b d =
       let n : length rest ≡ length t - from = length-drop from t in
       let w : length (take stop rest) ≡ stop = length-take-le stop rest (place_within 10 10 rest) in
       let v : return_of (take stop rest) ≤ stop = omega (arith, return_within (take stop rest)) in
       let m : r.to - from ≡ return_of (take stop rest) = omega arith in
       let e : take (r.to - from) rest ≡ line = ap (λ (k : ℕ). take k rest) m ∙ sym (take-take (return_of (take stop rest)) stop rest v) in
-      let f : r.found ≡ is_data line = c ∙ ap is_data e in
       let x : line ≡ take (r.to - r.from) (drop r.from t) = sym e ∙ ap (λ (k : ℕ). take (r.to - k) (drop k t)) (sym a) in
       record {
         order = omega arith;
         within = omega (arith, place_within 10 10 rest);
         further = omega arith;
         ahead = omega arith;
-        some = λ (y : r.found ≡ true).
-            data_step h ∙ ap (λ (z : Bool). cond z (line ∷ data_of (drop next t)) (data_of (drop next t))) (sym f ∙ y)
+        some = λ y.
+            data_step h ∙ ap (λ (z : Bool). cond z (line ∷ data_of (drop next t)) (data_of (drop next t))) (ap is_data x ∙ y)
             ∙ ap (λ (z : List ℕ). z ∷ data_of (drop next t)) x ∙ ap (λ (k : ℕ). take (r.to - r.from) (drop r.from t) ∷ data_of (drop k t)) (sym d);
-        none = λ (y : r.found ≡ false).
-            data_step h ∙ ap (λ (z : Bool). cond z (line ∷ data_of (drop next t)) (data_of (drop next t))) (sym f ∙ y) ∙ ap (λ (k : ℕ). data_of (drop k t)) (sym d);
+        none = λ y.
+            data_step h ∙ ap (λ (z : Bool). cond z (line ∷ data_of (drop next t)) (data_of (drop next t))) (ap is_data x ∙ y) ∙ ap (λ (k : ℕ). data_of (drop k t)) (sym d);
       }
 
 -- ---- the search for the next line that counts
@@ -94,34 +85,14 @@ pub same_start : (t : List ℕ) (at : ℕ) → at ≤ length t → SameData t at
 same_start t at h = record { ahead = omega arith; within = h; is = refl }
 
 module _ {t : List ℕ} {at from : ℕ} (s : SameData t at from) where
-  pub found_here : {r : Line} → LineAt t from r → r.found ≡ true → NextLine t at r
-  found_here {r} l e = record {
-    order = l.order;
-    within = l.within;
-    ahead = l.ahead;
-    some = λ (y : r.found ≡ true). s.is ∙ l.some y;
-    further = λ (y : at < length t). omega (arith, l.further, s.ahead);
-    none = λ (y : r.found ≡ false). absurd (clash (sym e ∙ y));
-  }
-    where
-      clash : true ≡ false → ⊥
-      clash z = let w : ◌≡◌ {A = ℕ} 0 1 = cc in omega arith
+  pub found_here : {r : Line} → LineAt t from r → is_data (take (r.to - r.from) (drop r.from t)) ≡ true → NextIs t at r
+  found_here l e = record { order = l.order; within = l.within; further = omega (arith, l.further, s.ahead); ahead = l.ahead; is = s.is ∙ l.some e }
 
-  pub same_on : {r : Line} → LineAt t from r → r.found ≡ false → SameData t at r.next
-  same_on {r} l e = record { ahead = omega (arith, l.further, s.ahead); within = l.ahead; is = s.is ∙ l.none e }
+  pub same_on : {r : Line} → LineAt t from r → is_data (take (r.to - r.from) (drop r.from t)) ≡ false → SameData t at r.next
+  same_on l e = record { ahead = omega (arith, l.further, s.ahead); within = l.ahead; is = s.is ∙ l.none e }
 
-  pub found_none : {r : Line} → length t ≤ from → r.found ≡ false → r.from ≡ length t → r.to ≡ length t → r.next ≡ length t → NextLine t at r
-  found_none {r} h e a b c = record {
-    order = omega arith;
-    within = omega arith;
-    ahead = omega arith;
-    some = λ (y : r.found ≡ true). absurd (clash (sym y ∙ e));
-    further = λ (y : at < length t). omega arith;
-    none = λ (y : r.found ≡ false). s.is ∙ data_none t from h;
-  }
-    where
-      clash : true ≡ false → ⊥
-      clash z = let w : ◌≡◌ {A = ℕ} 0 1 = cc in omega arith
+  pub found_none : length t ≤ from → data_of (drop at t) ≡ []
+  found_none h = s.is ∙ data_none t from h
 
 -- ---- what the code finds of a line
 

@@ -1,6 +1,6 @@
 -- The fields of a line, one after the other. Assumes nothing.
 use mathlib.Core.Path.{◌≡◌, refl, sym, ap, ◌∙◌, subst}
-use mathlib.Core.Bool.{Bool, true, false, not, cond, ◌&&◌, ◌||◌, true≢false}
+use mathlib.Core.Bool.{Bool, true, false, cond, ◌&&◌, ◌||◌, true≢false}
 use mathlib.Core.List.{List, [], ◌∷◌}
 use mathlib.Core.Logic.{⊎_elim}
 use Prim.Native.Nat.{ℕ, suc, ◌+◌, ◌-◌, ◌≤◌, ◌<◌}
@@ -15,9 +15,8 @@ use Rattle.store.proofs.store.Each.{both_l, both_r}
 use Rattle.decimal_text.specs.Field.{place_of}
 use Rattle.decimal_text.proofs.Digits.{place_within}
 use Rattle.matrix_market.specs.declared.lines.Field.{Field}
-use Rattle.matrix_market.specs.declared.lines.Three.{Three}
-use Rattle.matrix_market.specs.Lines.{grown, pieces_of, kept, is_some, fields_of, is_data}
-use Rattle.matrix_market.specs.Walk.{blanks_of, bytes_of, NextField, ThreeFields}
+use Rattle.matrix_market.specs.Lines.{grown, pieces_of, kept, is_some, fields_of}
+use Rattle.matrix_market.specs.Walk.{blanks_of, bytes_of, NextField, AreFields}
 use Rattle.matrix_market.proofs.Pieces.{pieces_last, pieces_next, pieces_cut, place_is}
 
 -- ---- leading blanks
@@ -175,25 +174,5 @@ module _ {l : List ℕ} {a b c d : Field} (A : NextField l 0 a) (B : NextField l
       four_three : (n : ℕ) → suc (suc (suc (suc n))) ≡ 3 → ⊥
       four_three n g = omega arith
 
-  pub three_are : {r : Three} → r.ok ≡ (ltb c.from (length l) && eqb d.from (length l)) → r.first ≡ a → r.second ≡ b → r.third ≡ c → ThreeFields l r
-  three_are {r} e f g h = record {
-    yes = λ (t : r.ok ≡ true). three_yes (sym e ∙ t) ∙ rw (f, g, h);
-    no = λ (t : r.ok ≡ false). three_no (sym e ∙ t);
-    first = rw f (A.order, A.within);
-    second = rw g (B.order, B.within);
-    third = rw h (C.order, C.within);
-  }
-
--- ---- a line that counts
-
-pub data_blank : (l : List ℕ) {f : Field} → NextField l 0 f → f.from ≡ length l → false ≡ is_data l
-data_blank l n e = ap (λ (t : List (List ℕ)). ltb 0 (length t) && not (eqb (get_or l 0 0) 37)) (sym (n.none e))
-
-pub below : (a b : ℕ) → a ≤ b → (a ≡ b → ⊥) → a < b
-below a b x y = ⊎_elim (λ (z : b ≤ a). absurd (y (omega arith))) (λ (z : a < b). z) (le_or_lt b a)
-
-pub data_some : (l : List ℕ) {f : Field} {r : Bool} → NextField l 0 f → (f.from ≡ length l → ⊥) → r ≡ not (eqb (get_or l 0 0) 37) → r ≡ is_data l
-data_some l {f} {r} n h e =
-    let k : f.from < length l = below f.from (length l) (omega (arith, n.order, n.within)) h in
-    let g : 0 < length (fields_of l) = omega (arith, ap length (n.some k)) in
-    e ∙ ap (λ (t : Bool). t && not (eqb (get_or l 0 0) 37)) (sym (lt-ltb 0 (length (fields_of l)) g))
+  pub three_are : (ltb c.from (length l) && eqb d.from (length l)) ≡ true → AreFields l a b c
+  three_are t = record { are = three_yes t; first = (A.order, A.within); second = (B.order, B.within); third = (C.order, C.within) }

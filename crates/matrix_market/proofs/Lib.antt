@@ -1,5 +1,4 @@
 pub mod Pieces
 pub mod Fields
 pub mod Data
-pub mod Entry
-pub mod PlacedEntry
+pub mod Told

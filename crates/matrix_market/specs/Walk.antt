@@ -1,9 +1,8 @@
 -- What functions that walk a text by places ensure. Definitions only.
-use Rattle.std.specs.Prelude.{◌≡◌, true, false, cond, ◌||◌, List, [], ◌∷◌, ℕ, suc, ◌-◌, ◌≤◌, ◌<◌, eqb, length, take, drop}
+use Rattle.std.specs.Prelude.{Option, Some, None, ◌≡◌, true, false, cond, ◌||◌, List, [], ◌∷◌, ℕ, suc, ◌-◌, ◌≤◌, ◌<◌, eqb, length, take, drop}
 use Rattle.matrix_market.specs.declared.lines.Field.{Field}
-use Rattle.matrix_market.specs.declared.lines.Three.{Three}
 use Rattle.matrix_market.specs.declared.lines.Line.{Line}
-use Rattle.matrix_market.specs.Lines.{fields_of, first_line, data_of}
+use Rattle.matrix_market.specs.Lines.{fields_of, first_line, is_data, data_of}
 
 -- how many spaces and tabs a list starts with
 unfoldable pub blanks_of : List ℕ → ℕ
@@ -22,33 +21,41 @@ pub record NextField (l : List ℕ) (at : ℕ) (f : Field) : Type 0 where
   pub some : f.from < length l → fields_of (drop at l) ≡ bytes_of l f ∷ fields_of (drop f.to l)
   pub none : f.from ≡ length l → fields_of (drop at l) ≡ []
 
+-- l has three fields: f, g and h.
+pub record AreFields (l : List ℕ) (f g h : Field) : Type 0 where
+  pub are : fields_of l ≡ bytes_of l f ∷ bytes_of l g ∷ bytes_of l h ∷ []
+  pub first : (f.from ≤ f.to) × (f.to ≤ length l)
+  pub second : (g.from ≤ g.to) × (g.to ≤ length l)
+  pub third : (h.from ≤ h.to) × (h.to ≤ length l)
+
 -- Whether l has three fields, and then which.
-pub record ThreeFields (l : List ℕ) (r : Three) : Type 0 where
-  pub yes : r.ok ≡ true → fields_of l ≡ bytes_of l r.first ∷ bytes_of l r.second ∷ bytes_of l r.third ∷ []
-  pub no : r.ok ≡ false → eqb (length (fields_of l)) 3 ≡ false
-  pub first : (r.first.from ≤ r.first.to) × (r.first.to ≤ length l)
-  pub second : (r.second.from ≤ r.second.to) × (r.second.to ≤ length l)
-  pub third : (r.third.from ≤ r.third.to) × (r.third.to ≤ length l)
+abbrev pub ThreeFields : List ℕ → Option (Field × Field × Field) → Type 0
+ThreeFields l (Some (f, g, h)) = AreFields l f g h
+ThreeFields l None = eqb (length (fields_of l)) 3 ≡ false
 
 -- The first line of t is its first n bytes.
 pub record FirstLine (t : List ℕ) (n : ℕ) : Type 0 where
   pub within : n ≤ length t
   pub is : take n t ≡ first_line t
 
--- r is the line of t that starts at `at`, and whether it counts.
+-- r is the line of t that starts at `at`.
 pub record LineAt (t : List ℕ) (at : ℕ) (r : Line) : Type 0 where
   pub order : r.from ≤ r.to
   pub within : r.to ≤ length t
   pub further : at < r.next
   pub ahead : r.next ≤ length t
-  pub some : r.found ≡ true → data_of (drop at t) ≡ take (r.to - r.from) (drop r.from t) ∷ data_of (drop r.next t)
-  pub none : r.found ≡ false → data_of (drop at t) ≡ data_of (drop r.next t)
+  pub some : is_data (take (r.to - r.from) (drop r.from t)) ≡ true → data_of (drop at t) ≡ take (r.to - r.from) (drop r.from t) ∷ data_of (drop r.next t)
+  pub none : is_data (take (r.to - r.from) (drop r.from t)) ≡ false → data_of (drop at t) ≡ data_of (drop r.next t)
 
 -- r is the first line of t that counts, from `at` on, and the rest of those lines is what counts from where the next line starts.
-pub record NextLine (t : List ℕ) (at : ℕ) (r : Line) : Type 0 where
+pub record NextIs (t : List ℕ) (at : ℕ) (r : Line) : Type 0 where
   pub order : r.from ≤ r.to
   pub within : r.to ≤ length t
+  pub further : at < r.next
   pub ahead : r.next ≤ length t
-  pub some : r.found ≡ true → data_of (drop at t) ≡ take (r.to - r.from) (drop r.from t) ∷ data_of (drop r.next t)
-  pub further : at < length t → at < r.next
-  pub none : r.found ≡ false → data_of (drop at t) ≡ []
+  pub is : data_of (drop at t) ≡ take (r.to - r.from) (drop r.from t) ∷ data_of (drop r.next t)
+
+-- the first line of t that counts, from `at` on; none where no further line counts
+abbrev pub NextLine : List ℕ → ℕ → Option Line → Type 0
+NextLine t at (Some r) = NextIs t at r
+NextLine t at None = data_of (drop at t) ≡ []

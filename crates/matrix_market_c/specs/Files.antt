@@ -1,19 +1,18 @@
 -- What the exported conversions ensure: what the call ensures, and its answer as a struct. Definitions only.
-use Rattle.std.specs.Prelude.{◌≡◌, Bool, not, List, ℕ, eqb}
+use Rattle.refusal.specs.declared.Refusal.{Refusal}
+use Rattle.std.specs.Prelude.{◌≡◌, Bool, not, List, ℕ, eqb, Result, Ok, Err}
 use Rattle.refusal.specs.Outcome.{Outcome}
 use Rattle.export.specs.Structs.{nothing_refused, refused_by}
 use Rattle.record_format.specs.Format.{Matrix}
-use Rattle.matrix_reader.specs.declared.record.Converted.{Converted}
 use Rattle.matrix_reader.specs.File.{converted_answer, ConvertedIs}
-use Rattle.matrix_writer.specs.declared.writer.FileWritten.{FileWritten}
 use Rattle.matrix_writer.specs.Writing.{file_answer}
 use Rattle.matrix_writer.specs.Contract.{WriteDone}
 use Rattle.matrix_market_c.specs.declared.files.ConvertedForC.{ConvertedForC}
 
 -- the answer of a reading: the length of the record; where it is refused, 0
-abbrev pub read_struct : Converted → ConvertedForC
-read_struct (Converted.Wrote size) = record { answer = nothing_refused; length = size }
-read_struct (Converted.Refused q) = record { answer = refused_by q; length = 0 }
+abbrev pub read_struct : Result ℕ Refusal → ConvertedForC
+read_struct (Ok size) = record { answer = nothing_refused; length = size }
+read_struct (Err q) = record { answer = refused_by q; length = 0 }
 
 -- What a reading ensures: what the call ensures, and its answer as a struct.
 pub record ReadExported (o : Outcome Matrix) (F G : List ℕ) (r : ConvertedForC) : Type 0 where
@@ -25,9 +24,9 @@ abbrev pub yes_of : ℕ → Bool
 yes_of n = not (eqb n 0)
 
 -- the answer of a writing: the length of the text; where it is refused, 0
-abbrev pub written_struct : FileWritten → ConvertedForC
-written_struct (FileWritten.Wrote size) = record { answer = nothing_refused; length = size }
-written_struct (FileWritten.Refused q) = record { answer = refused_by q; length = 0 }
+abbrev pub written_struct : Result ℕ Refusal → ConvertedForC
+written_struct (Ok size) = record { answer = nothing_refused; length = size }
+written_struct (Err q) = record { answer = refused_by q; length = 0 }
 
 -- What a writing ensures: what the call ensures, and its answer as a struct.
 pub record WriteExported (o : Outcome (List ℕ)) (F G : List ℕ) (r : ConvertedForC) : Type 0 where

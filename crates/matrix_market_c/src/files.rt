@@ -7,8 +7,8 @@ ghost use Rattle.matrix_market_c.specs.Files.{read_struct, ReadExported, yes_of,
 
 use export::AnswerForC;
 use matrix_reader::file::read_matrix_file;
-use matrix_reader::record::Converted;
-use matrix_writer::{FileWritten, write_matrix_file};
+use matrix_writer::write_matrix_file;
+use refusal::Refusal;
 
 // The answer of a conversion: how many bytes of the output it has. Every field has eight bytes.
 #[repr(C)]
@@ -19,11 +19,11 @@ pub struct ConvertedForC {
 }
 
 // The answer of a reading as a struct.
-fn tell_read(read: Converted) -> ConvertedForC
+fn tell_read(read: Result<usize, Refusal>) -> ConvertedForC
     ensures { result ≡ read_struct read }
 {
     match read {
-        Converted::Wrote(length) => ConvertedForC {
+        Ok(length) => ConvertedForC {
             answer: AnswerForC {
                 question: 0,
                 level: 0,
@@ -31,7 +31,7 @@ fn tell_read(read: Converted) -> ConvertedForC
             },
             length: length as u64,
         },
-        Converted::Refused(refusal) => ConvertedForC {
+        Err(refusal) => ConvertedForC {
             answer: AnswerForC {
                 question: refusal.number,
                 level: refusal.level,
@@ -43,11 +43,11 @@ fn tell_read(read: Converted) -> ConvertedForC
 }
 
 // The answer of a writing as a struct.
-fn tell_written(written: FileWritten) -> ConvertedForC
+fn tell_written(written: Result<usize, Refusal>) -> ConvertedForC
     ensures { result ≡ written_struct written }
 {
     match written {
-        FileWritten::Wrote(length) => ConvertedForC {
+        Ok(length) => ConvertedForC {
             answer: AnswerForC {
                 question: 0,
                 level: 0,
@@ -55,7 +55,7 @@ fn tell_written(written: FileWritten) -> ConvertedForC
             },
             length: length as u64,
         },
-        FileWritten::Refused(refusal) => ConvertedForC {
+        Err(refusal) => ConvertedForC {
             answer: AnswerForC {
                 question: refusal.number,
                 level: refusal.level,

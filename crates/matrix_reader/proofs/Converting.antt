@@ -1,4 +1,5 @@
 -- A whole text: the ways in which its reading ends. Assumes nothing.
+use Rattle.std.specs.Prelude.{Result, Ok, Err}
 use mathlib.Core.Path.{◌≡◌, refl, sym, ap, subst, ◌∙◌}
 use mathlib.Core.Bool.{Bool, true, false, not, ◌&&◌}
 use mathlib.Core.List.{List, [], map}
@@ -21,9 +22,7 @@ use Rattle.coordinate.specs.Contract.{SortOk, Sorted}
 use Rattle.coordinate.proofs.Laws.{sorted_columns, sorted_values}
 use Rattle.record_format.specs.Format.{Matrix}
 use Rattle.matrix_reader.specs.declared.head.Head.{Head}
-use Rattle.matrix_reader.specs.declared.head.HeadRead.{HeadRead}
 use Rattle.matrix_reader.specs.declared.entries.LinesRead.{LinesRead}
-use Rattle.matrix_reader.specs.declared.record.Converted.{Converted}
 use Rattle.matrix_reader.specs.File.{kind_of, sizes_in, entries_from, lines_after, placed_matrix, matrix_from, Slices, slices_of, most_of, has_room, after_sizes, after_kind, file_of, ConvertedIs}
 use Rattle.matrix_reader.specs.Contract.{stated_by, HeadIs}
 use Rattle.matrix_reader.specs.Steps.{entries_to}
@@ -33,8 +32,8 @@ use Rattle.matrix_reader.proofs.Opening.{both_l, both_r}
 use Rattle.matrix_reader.proofs.Stored.{entries_length}
 
 -- a refused text leaves the output
-refused_is : {o : Outcome Matrix} {q : Refusal} (B : List ℕ) → o ≡ refused q → ConvertedIs o B B (Converted.Refused q)
-refused_is {o} {q} B e = subst (λ (p : Outcome Matrix). ConvertedIs p B B (Converted.Refused q)) (sym e) (record { answer = refl; bytes = refl })
+refused_is : {o : Outcome Matrix} {q : Refusal} (B : List ℕ) → o ≡ refused q → ConvertedIs o B B (Err q)
+refused_is {o} {q} B e = subst (λ (p : Outcome Matrix). ConvertedIs p B B (Err q)) (sym e) (record { answer = refl; bytes = refl })
 
 -- ---- the sort
 
@@ -137,14 +136,14 @@ most_limit h o = go h.symmetric
     go true = omega (arith, o.many)
     go false = omega (arith, o.many)
 
-module _ {t : List ℕ} {r : HeadRead} (i : HeadIs t r) (R₀ C₀ : List ℕ) (F₀ : List Float) (S O N B : List ℕ) where
+module _ {t : List ℕ} {r : Result Head Refusal} (i : HeadIs t r) (R₀ C₀ : List ℕ) (F₀ : List Float) (S O N B : List ℕ) where
   abbrev l : Slices
   l = slices_of R₀ C₀ F₀ S O N B
 
-  pub convert_head : (q : Refusal) → r ≡ HeadRead.Refused q → ConvertedIs (file_of t l) B B (Converted.Refused q)
+  pub convert_head : (q : Refusal) → r ≡ Err q → ConvertedIs (file_of t l) B B (Err q)
   convert_head q e = refused_is B (i.no q e l)
 
-  module _ (h : Head) (e : r ≡ HeadRead.Read h) where
+  module _ (h : Head) (e : r ≡ Ok h) where
     pub head_limits : HeadLimits h
     head_limits = let f = i.yes h e in record { few = f.rows; many = f.entries }
 
@@ -158,7 +157,7 @@ module _ {t : List ℕ} {r : HeadRead} (i : HeadIs t r) (R₀ C₀ : List ℕ) (
     reading = ◌>>=◌ (entries_of_text t h) (λ es. following (expanded h.symmetric es))
 
     module _ {x : Bool} (p : x ≡ has_room l h.symmetric (stated_by h)) where
-      pub convert_short : x ≡ false → ConvertedIs (file_of t l) B B (Converted.Refused store_too_small)
+      pub convert_short : x ≡ false → ConvertedIs (file_of t l) B B (Err store_too_small)
       convert_short g =
           refused_is B
           (opened
@@ -180,7 +179,7 @@ module _ {t : List ℕ} {r : HeadRead} (i : HeadIs t r) (R₀ C₀ : List ℕ) (
         gather_ok = record { limits = head_limits; next = (i.yes h e).within; rows = room.rows; columns = room.columns; values = room.values }
 
         module _ {R C : List ℕ} {F : List Float} {k : LinesRead} (f : GatherIs t h R C F k) (u : length R ≡ length R₀) (v : length C ≡ length C₀) (w : length F ≡ length F₀) where
-          pub convert_malformed : k ≡ LinesRead.Malformed → ConvertedIs (file_of t l) B B (Converted.Refused bad_matrix_file)
+          pub convert_malformed : k ≡ LinesRead.Malformed → ConvertedIs (file_of t l) B B (Err bad_matrix_file)
           convert_malformed j = refused_is B (past_room ∙ then_refused (entries_of_text t h) (λ es. following (expanded h.symmetric es)) (f.malformed j))
 
           sort_room : (m : ℕ) → EntriesPlaced h.rows (most_of h.symmetric h.entries) m R C → SortRoom h.rows m R C S O N
@@ -214,10 +213,10 @@ module _ {t : List ℕ} {r : HeadRead} (i : HeadIs t r) (R₀ C₀ : List ℕ) (
                   go true = refl
                   go false = refl
 
-              pub convert_bad : y ≡ true → ConvertedIs (file_of t l) B B (Converted.Refused bad_number)
+              pub convert_bad : y ≡ true → ConvertedIs (file_of t l) B B (Err bad_number)
               convert_bad d = refused_is B (bad_is ∙ ask_yes y bad_matrix_file (refused bad_number) d)
 
-              pub convert_bad_repeated : y ≡ false → ConvertedIs (file_of t l) B B (Converted.Refused bad_matrix_file)
+              pub convert_bad_repeated : y ≡ false → ConvertedIs (file_of t l) B B (Err bad_matrix_file)
               convert_bad_repeated d = refused_is B (bad_is ∙ ask_no y bad_matrix_file (refused bad_number) d)
 
           -- entries alone
@@ -237,14 +236,14 @@ module _ {t : List ℕ} {r : HeadRead} (i : HeadIs t r) (R₀ C₀ : List ℕ) (
                   let z : y ≡ not (repeated (entries_to m R C F)) = sort_says R C F all_room.rows all_room.columns values_room_lem s in
                   past_room ∙ (f.all m j).is following ∙ ap (λ (b : Bool). ask b bad_matrix_file (following (entries_to m R C F))) (sym z)
 
-              pub convert_repeated : y ≡ false → ConvertedIs (file_of t l) B B (Converted.Refused bad_matrix_file)
+              pub convert_repeated : y ≡ false → ConvertedIs (file_of t l) B B (Err bad_matrix_file)
               convert_repeated d = refused_is B (all_is ∙ ask_no y bad_matrix_file (following (entries_to m R C F)) d)
 
               module _ (d : y ≡ true) where
                 pub finish_room : FinishOk h.rows m (take m C) (take m F) T P
                 finish_room = finish_ok R C F all_room.rows all_room.columns values_room_lem s d all_room.few all_room.many all_room.starts all_room.order
 
-                pub convert_finish : {B' : List ℕ} {a : Converted} → ConvertedIs (matrix_from (length B) (ordered_matrix (take m C) (take m F) (take (h.rows + 1) T) (take m P))) B B' a
+                pub convert_finish : {B' : List ℕ} {a : Result ℕ Refusal} → ConvertedIs (matrix_from (length B) (ordered_matrix (take m C) (take m F) (take (h.rows + 1) T) (take m P))) B B' a
                     → ConvertedIs (file_of t l) B B' a
                 convert_finish {B'} {a} c =
                     let q : ordered_matrix (take m C) (take m F) (take (h.rows + 1) T) (take m P) ≡ placed_matrix h.rows (entries_to m R C F) =
@@ -254,7 +253,7 @@ module _ {t : List ℕ} {r : HeadRead} (i : HeadIs t r) (R₀ C₀ : List ℕ) (
 
 -- ---- zeros first
 
-pub zeroed : (t R C : List ℕ) (F : List Float) (S O N B : List ℕ) {Z Z' : List ℕ} {r : Converted} → Z ≡ filled (length B) 0 → length Z ≡ length B
+pub zeroed : (t R C : List ℕ) (F : List Float) (S O N B : List ℕ) {Z Z' : List ℕ} {r : Result ℕ Refusal} → Z ≡ filled (length B) 0 → length Z ≡ length B
     → ConvertedIs (file_of t (slices_of R C F S O N Z)) Z Z' r → ConvertedIs (file_of t (slices_of R C F S O N B)) (filled (length B) 0) Z' r
 zeroed t R C F S O N B {Z} {Z'} {r} e s c =
     subst (λ (G : List ℕ). ConvertedIs (file_of t (slices_of R C F S O N B)) G Z' r) e

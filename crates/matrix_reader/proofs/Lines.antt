@@ -1,6 +1,6 @@
 -- The lines behind the size line, one after the other: what is left to read gives what the whole gives. Assumes nothing.
-use mathlib.Core.Path.{◌≡◌, refl, sym, ap, subst, ◌∙◌}
-use mathlib.Core.Bool.{Bool, true, false, cond}
+use mathlib.Core.Path.{◌≡◌, refl, sym, ap, ◌∙◌}
+use mathlib.Core.Bool.{Bool, cond}
 use mathlib.Core.List.{List, [], ◌∷◌, ◌++◌}
 use Prim.Native.Nat.{ℕ, ◌+◌, ◌-◌, ◌≤◌, ◌<◌}
 use native.Mathlib.Omega.{arith}
@@ -8,59 +8,37 @@ use lib.Dec.{ltb}
 use lib.ListN.{length, take, drop}
 use lib.Ieee.{Float}
 use borrow.Author.Tests.{lt-ltb, le-ltb}
-use Rattle.matrix_market.specs.declared.placed.Placed.{Placed}
+use Rattle.std.specs.Prelude.{None, Result, Ok, Err}
+use Rattle.matrix_market.specs.declared.placed.PlacedError.{PlacedError}
 use Rattle.matrix_market.specs.declared.lines.Line.{Line}
 use Rattle.matrix_market.specs.Lines.{data_of}
-use Rattle.matrix_market.specs.Walk.{NextLine}
+use Rattle.matrix_market.specs.Walk.{NextIs, NextLine}
 use Rattle.matrix_market.specs.Placed.{placed_in}
-use Rattle.matrix_market.proofs.Data.{data_none}
 use Rattle.coordinate.specs.Coordinate.{Entry}
 use Rattle.matrix_reader.specs.declared.head.Head.{Head}
 use Rattle.matrix_reader.specs.declared.entries.LineRead.{LineRead}
 use Rattle.matrix_reader.specs.declared.entries.LinesRead.{LinesRead}
 use Rattle.matrix_reader.specs.Contract.{stated_by}
-use Rattle.matrix_reader.specs.Steps.{Pass, malformed, bad_value, no_value, pass_line, pass_from, entries_to, EntryPut, LineOk, line_answer, stored_of, LineStored, LinesOk, LinesAre}
+use Rattle.matrix_reader.specs.Steps.{Pass, malformed, bad_value, pass_line, pass_from, entries_to, LineOk, line_answer, stored_of, LineStored, LinesOk, LinesAre}
 use Rattle.matrix_reader.proofs.Stored.{no_entries, entries_length, entries_more}
 
 -- ---- one line
 
-pub stored_none : (m : ℕ) (R C : List ℕ) (F : List Float) {p q : Placed} → q ≡ p → q ≡ Placed.Malformed → LineStored p m R C F R C F LineRead.Malformed
-stored_none m R C F {p} e f = record {
-  answer = ap line_answer (sym f ∙ e);
-  entry = λ g. absurd (let w : ◌≡◌ {A = ℕ} 0 1 = cc in omega arith);
-  bad = λ g. absurd (let w : ◌≡◌ {A = ℕ} 0 1 = cc in omega arith);
-}
-
-module _ {m : ℕ} {R C : List ℕ} {F : List Float} {R' C' : List ℕ} {F' : List Float} {p q : Placed} {r c : ℕ} (e : q ≡ p) where
-  pub stored_bad : q ≡ Placed.BadValue r c → EntryPut m (record { row = r; column = c; value = no_value }) R C F R' C' F' → LineStored p m R C F R' C' F' LineRead.BadValue
-  stored_bad f s = record {
-    answer = ap line_answer (sym f ∙ e);
-    entry = λ g. absurd (let w : ◌≡◌ {A = ℕ} 0 1 = cc in omega arith);
-    bad = λ g. subst (λ (x : Placed). EntryPut m (stored_of x) R C F R' C' F') (sym f ∙ e) s;
-  }
-
-  pub stored_entry : {v : Float} → q ≡ Placed.Entry r c v → EntryPut m (record { row = r; column = c; value = v }) R C F R' C' F' → LineStored p m R C F R' C' F' LineRead.Entry
-  stored_entry f s = record {
-    answer = ap line_answer (sym f ∙ e);
-    entry = λ g. subst (λ (x : Placed). EntryPut m (stored_of x) R C F R' C' F') (sym f ∙ e) s;
-    bad = λ g. absurd (let w : ◌≡◌ {A = ℕ} 0 1 = cc in omega arith);
-  }
-
 module _ (es : List Entry) (rest : List Entry → Pass) where
-  pass_malformed : (p : Placed) → line_answer p ≡ LineRead.Malformed → pass_line es rest p ≡ malformed
-  pass_malformed Placed.Malformed e = refl
-  pass_malformed (Placed.BadValue r c) e = absurd (let w : ◌≡◌ {A = ℕ} 0 1 = cc in omega arith)
-  pass_malformed (Placed.Entry r c v) e = absurd (let w : ◌≡◌ {A = ℕ} 0 1 = cc in omega arith)
+  pass_malformed : (p : Result (ℕ × ℕ × Float) PlacedError) → line_answer p ≡ LineRead.Malformed → pass_line es rest p ≡ malformed
+  pass_malformed (Err PlacedError.Malformed) e = refl
+  pass_malformed (Err (PlacedError.BadValue r c)) e = absurd (let w : ◌≡◌ {A = ℕ} 0 1 = cc in omega arith)
+  pass_malformed (Ok (r, c, v)) e = absurd (let w : ◌≡◌ {A = ℕ} 0 1 = cc in omega arith)
 
-  pass_bad : (p : Placed) → line_answer p ≡ LineRead.BadValue → pass_line es rest p ≡ bad_value (es ++ (stored_of p ∷ []))
-  pass_bad Placed.Malformed e = absurd (let w : ◌≡◌ {A = ℕ} 0 1 = cc in omega arith)
-  pass_bad (Placed.BadValue r c) e = refl
-  pass_bad (Placed.Entry r c v) e = absurd (let w : ◌≡◌ {A = ℕ} 0 1 = cc in omega arith)
+  pass_bad : (p : Result (ℕ × ℕ × Float) PlacedError) → line_answer p ≡ LineRead.BadValue → pass_line es rest p ≡ bad_value (es ++ (stored_of p ∷ []))
+  pass_bad (Err PlacedError.Malformed) e = absurd (let w : ◌≡◌ {A = ℕ} 0 1 = cc in omega arith)
+  pass_bad (Err (PlacedError.BadValue r c)) e = refl
+  pass_bad (Ok (r, c, v)) e = absurd (let w : ◌≡◌ {A = ℕ} 0 1 = cc in omega arith)
 
-  pass_entry : (p : Placed) → line_answer p ≡ LineRead.Entry → pass_line es rest p ≡ rest (es ++ (stored_of p ∷ []))
-  pass_entry Placed.Malformed e = absurd (let w : ◌≡◌ {A = ℕ} 0 1 = cc in omega arith)
-  pass_entry (Placed.BadValue r c) e = absurd (let w : ◌≡◌ {A = ℕ} 0 1 = cc in omega arith)
-  pass_entry (Placed.Entry r c v) e = refl
+  pass_entry : (p : Result (ℕ × ℕ × Float) PlacedError) → line_answer p ≡ LineRead.Entry → pass_line es rest p ≡ rest (es ++ (stored_of p ∷ []))
+  pass_entry (Err PlacedError.Malformed) e = absurd (let w : ◌≡◌ {A = ℕ} 0 1 = cc in omega arith)
+  pass_entry (Err (PlacedError.BadValue r c)) e = absurd (let w : ◌≡◌ {A = ℕ} 0 1 = cc in omega arith)
+  pass_entry (Ok (r, c, v)) e = refl
 
 -- ---- the lines
 
@@ -88,75 +66,70 @@ module _ {t : List ℕ} {h : Head} {R₀ C₀ : List ℕ} {F₀ : List Float} {R
   unfolding pass_from
   ended_is e = record { is = sym (ap (pass_from h.symmetric (stated_by h) (entries_to m R C F)) e) ∙ s.is; few = s.few }
 
-  -- the text ends
-  pub reading_end : length t ≤ at → LinesAre t h R C F (LinesRead.Entries m)
-  reading_end g = ended_is (data_none t at g)
+  -- no further line counts
+  pub reading_none : NextLine t at None → LinesAre t h R C F (LinesRead.Entries m)
+  reading_none n = ended_is n
 
-  module _ {l : Line} (n : NextLine t at l) where
-    -- no further line counts
-    pub reading_none : l.found ≡ false → LinesAre t h R C F (LinesRead.Entries m)
-    reading_none f = ended_is (n.none f)
+  module _ {l : Line} (n : NextIs t at l) where
+    abbrev line : List ℕ
+    line = take (l.to - l.from) (drop l.from t)
 
-    module _ (f : l.found ≡ true) where
-      abbrev line : List ℕ
-      line = take (l.to - l.from) (drop l.from t)
+    abbrev rest : List Entry → Pass
+    rest es = pass_from h.symmetric (stated_by h) es (data_of (drop l.next t))
 
-      abbrev rest : List Entry → Pass
-      rest es = pass_from h.symmetric (stated_by h) es (data_of (drop l.next t))
+    counted : length (entries_to m R C F) ≡ m
+    counted = entries_length m R C F (omega (arith, s.few, s.rows, o.rows)) (omega (arith, s.few, s.columns, o.columns)) (omega (arith, s.few, s.values, o.values))
 
-      counted : length (entries_to m R C F) ≡ m
-      counted = entries_length m R C F (omega (arith, s.few, s.rows, o.rows)) (omega (arith, s.few, s.columns, o.columns)) (omega (arith, s.few, s.values, o.values))
+    next_is : cond (ltb m h.entries) (pass_line (entries_to m R C F) rest (placed_in h.symmetric h.rows line)) malformed
+        ≡ pass_from h.symmetric (stated_by h) [] (data_of (drop h.next t))
+    unfolding pass_from
+    next_is =
+        sym (ap (λ (k : ℕ). cond (ltb k h.entries) (pass_line (entries_to m R C F) rest (placed_in h.symmetric h.rows line)) malformed) counted)
+        ∙ sym (ap (pass_from h.symmetric (stated_by h) (entries_to m R C F)) n.is) ∙ s.is
 
-      next_is : cond (ltb m h.entries) (pass_line (entries_to m R C F) rest (placed_in h.symmetric h.rows line)) malformed
-          ≡ pass_from h.symmetric (stated_by h) [] (data_of (drop h.next t))
-      unfolding pass_from
-      next_is =
-          sym (ap (λ (k : ℕ). cond (ltb k h.entries) (pass_line (entries_to m R C F) rest (placed_in h.symmetric h.rows line)) malformed) counted)
-          ∙ sym (ap (pass_from h.symmetric (stated_by h) (entries_to m R C F)) (n.some f)) ∙ s.is
+    -- a surplus line
+    pub reading_surplus : h.entries ≤ m → LinesAre t h R C F LinesRead.Malformed
+    reading_surplus g = record {
+      is = sym (ap (λ (b : Bool). cond b (pass_line (entries_to m R C F) rest (placed_in h.symmetric h.rows line)) malformed) (le-ltb m h.entries g)) ∙ next_is;
+      few = omega arith;
+    }
 
-      -- a surplus line
-      pub reading_surplus : h.entries ≤ m → LinesAre t h R C F LinesRead.Malformed
-      reading_surplus g = record {
-        is = sym (ap (λ (b : Bool). cond b (pass_line (entries_to m R C F) rest (placed_in h.symmetric h.rows line)) malformed) (le-ltb m h.entries g)) ∙ next_is;
-        few = omega arith;
+    module _ (g : m < h.entries) where
+      pub line_ok : LineOk h.rows m R C F
+      line_ok = record {
+        few = o.few;
+        place = record { rows = omega (arith, s.rows, o.rows); columns = omega (arith, s.columns, o.columns); values = omega (arith, s.values, o.values) };
       }
 
-      module _ (g : m < h.entries) where
-        pub line_ok : LineOk h.rows m R C F
-        line_ok = record {
-          few = o.few;
-          place = record { rows = omega (arith, s.rows, o.rows); columns = omega (arith, s.columns, o.columns); values = omega (arith, s.values, o.values) };
+      past : pass_line (entries_to m R C F) rest (placed_in h.symmetric h.rows line) ≡ pass_from h.symmetric (stated_by h) [] (data_of (drop h.next t))
+      past = sym (ap (λ (b : Bool). cond b (pass_line (entries_to m R C F) rest (placed_in h.symmetric h.rows line)) malformed) (lt-ltb m h.entries g)) ∙ next_is
+
+      module _ {R' C' : List ℕ} {F' : List Float} {r : LineRead} (p : LineStored (placed_in h.symmetric h.rows line) m R C F R' C' F' r) where
+        -- a line that is no entry
+        pub reading_malformed : r ≡ LineRead.Malformed → LinesAre t h R' C' F' LinesRead.Malformed
+        reading_malformed e = record {
+          is = sym (pass_malformed (entries_to m R C F) rest (placed_in h.symmetric h.rows line) (sym p.answer ∙ e)) ∙ past;
+          few = omega arith;
         }
 
-        past : pass_line (entries_to m R C F) rest (placed_in h.symmetric h.rows line) ≡ pass_from h.symmetric (stated_by h) [] (data_of (drop h.next t))
-        past = sym (ap (λ (b : Bool). cond b (pass_line (entries_to m R C F) rest (placed_in h.symmetric h.rows line)) malformed) (lt-ltb m h.entries g)) ∙ next_is
+        -- an entry with a bad value
+        pub reading_bad : r ≡ LineRead.BadValue → LinesAre t h R' C' F' (LinesRead.BadValue m)
+        reading_bad e = record {
+          is =
+              ap bad_value (entries_more line_ok.place (p.bad e))
+              ∙ sym (pass_bad (entries_to m R C F) rest (placed_in h.symmetric h.rows line) (sym p.answer ∙ e)) ∙ past;
+          few = omega arith;
+        }
 
-        module _ {R' C' : List ℕ} {F' : List Float} {r : LineRead} (p : LineStored (placed_in h.symmetric h.rows line) m R C F R' C' F' r) where
-          -- a line that is no entry
-          pub reading_malformed : r ≡ LineRead.Malformed → LinesAre t h R' C' F' LinesRead.Malformed
-          reading_malformed e = record {
-            is = sym (pass_malformed (entries_to m R C F) rest (placed_in h.symmetric h.rows line) (sym p.answer ∙ e)) ∙ past;
-            few = omega arith;
-          }
-
-          -- an entry with a bad value
-          pub reading_bad : r ≡ LineRead.BadValue → LinesAre t h R' C' F' (LinesRead.BadValue m)
-          reading_bad e = record {
-            is =
-                ap bad_value (entries_more line_ok.place (p.bad e))
-                ∙ sym (pass_bad (entries_to m R C F) rest (placed_in h.symmetric h.rows line) (sym p.answer ∙ e)) ∙ past;
-            few = omega arith;
-          }
-
-          -- an entry
-          pub reading_on : r ≡ LineRead.Entry → length R' ≡ length R → length C' ≡ length C → length F' ≡ length F → Reading t h R₀ C₀ F₀ R' C' F' l.next (m + 1)
-          reading_on e x y z = record {
-            rows = x ∙ s.rows;
-            columns = y ∙ s.columns;
-            values = z ∙ s.values;
-            within = n.ahead;
-            few = omega arith;
-            is =
-                ap rest (entries_more line_ok.place (p.entry e))
-                ∙ sym (pass_entry (entries_to m R C F) rest (placed_in h.symmetric h.rows line) (sym p.answer ∙ e)) ∙ past;
-          }
+        -- an entry
+        pub reading_on : r ≡ LineRead.Entry → length R' ≡ length R → length C' ≡ length C → length F' ≡ length F → Reading t h R₀ C₀ F₀ R' C' F' l.next (m + 1)
+        reading_on e x y z = record {
+          rows = x ∙ s.rows;
+          columns = y ∙ s.columns;
+          values = z ∙ s.values;
+          within = n.ahead;
+          few = omega arith;
+          is =
+              ap rest (entries_more line_ok.place (p.entry e))
+              ∙ sym (pass_entry (entries_to m R C F) rest (placed_in h.symmetric h.rows line) (sym p.answer ∙ e)) ∙ past;
+        }

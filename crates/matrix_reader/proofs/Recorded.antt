@@ -1,50 +1,23 @@
 -- A record is written part behind part. Assumes nothing.
+use Rattle.std.specs.Prelude.{Ok, Err}
 use mathlib.Core.Path.{◌≡◌, refl, sym, ap, subst, ◌∙◌}
 use mathlib.Core.List.{List, [], ◌∷◌, ◌++◌, map}
 use Prim.Native.Nat.{ℕ, zero, suc, ◌+◌, ◌-◌, ◌*◌, ◌≤◌, ◌<◌}
-use native.Mathlib.Numerals.{add-one}
 use native.Mathlib.Omega.{arith}
-use lib.ListN.{length, take, get_or, set, length-set, length-map}
-use lib.Seq.{take-suc-set, take_all, get_or-take, length-take-le}
+use lib.ListN.{length, take, get_or, length-map}
+use lib.Seq.{get_or-take, length-take-le}
 use lib.Ieee.{Float}
 use borrow.Author.Tests.{le-leb, lt-leb}
 use Rattle.refusal.specs.Refusal.{too_large, store_too_small}
 use Rattle.store.specs.Region.{at, idx, Wrote}
-use Rattle.store.specs.Vector.{tab, filled}
 use Rattle.record_format.specs.declared.marks.Mark.{Mark}
 use Rattle.record_format.specs.Bytes.{bytes4, float_bytes, flat}
 use Rattle.record_format.specs.Format.{Matrix, letters_of, matrix_length, matrix_bytes}
 use Rattle.record_format.proofs.Written.{wrote_next}
-use Rattle.matrix_reader.specs.declared.record.Converted.{Converted}
 use Rattle.matrix_reader.specs.File.{matrix_from, ConvertedIs}
 use Rattle.matrix_reader.specs.Writes.{ordered_matrix, RecordRoom, FinishOk}
 
 -- ---- zeros
-
--- The first k bytes are zero.
-pub record ZeroTo (F G : List ℕ) (k : ℕ) : Type 0 where
-  pub size : length G ≡ length F
-  pub within : k ≤ length F
-  pub is : take k G ≡ filled k 0
-
-pub zero_start : (F : List ℕ) → ZeroTo F F 0
-unfolding tab
-zero_start F = record { size = refl; within = omega arith; is = refl }
-
-pub zero_on : {F G : List ℕ} {k : ℕ} → ZeroTo F G k → k < length F → ZeroTo F (set G k 0) (k + 1)
-unfolding tab
-zero_on {F} {G} {k} z h = record {
-  size = length-set G k 0 ∙ z.size;
-  within = omega arith;
-  is =
-      ap (λ (i : ℕ). take i (set G k 0)) (add-one k) ∙ take-suc-set G k 0 (omega (arith, z.size)) ∙ ap (λ (l : List ℕ). l ++ (0 ∷ [])) z.is
-      ∙ ap (λ (i : ℕ). filled i 0) (sym (add-one k));
-}
-
-pub zero_done : {F G : List ℕ} {k : ℕ} → ZeroTo F G k → length F ≤ k → G ≡ filled (length F) 0
-zero_done {F} {G} {k} z h =
-    let e : k ≡ length F = omega (arith, z.within) in
-    sym (take_all k G (omega (arith, z.size))) ∙ z.is ∙ ap (λ (i : ℕ). filled i 0) e
 
 -- ---- picked elements
 
@@ -82,16 +55,16 @@ record_placed C X S O s g h i j =
 -- ---- the limits
 
 module _ (B : List ℕ) (m : Matrix) where
-  pub finish_large : 1048576 < m.entries → ConvertedIs (matrix_from (length B) m) B B (Converted.Refused too_large)
+  pub finish_large : 1048576 < m.entries → ConvertedIs (matrix_from (length B) m) B B (Err too_large)
   finish_large h = rw (lt-leb m.entries 1048576 h) (record { answer = refl; bytes = refl })
 
-  pub finish_short : m.entries ≤ 1048576 → length B < matrix_length m.rows m.entries → ConvertedIs (matrix_from (length B) m) B B (Converted.Refused store_too_small)
+  pub finish_short : m.entries ≤ 1048576 → length B < matrix_length m.rows m.entries → ConvertedIs (matrix_from (length B) m) B B (Err store_too_small)
   finish_short h g = rw (le-leb m.entries 1048576 h, lt-leb (matrix_length m.rows m.entries) (length B) g) (record { answer = refl; bytes = refl })
 
   pub finish_wrote : {B' : List ℕ} {r : ℕ} → m.entries ≤ 1048576 → matrix_length m.rows m.entries ≤ length B → Wrote 0 r (matrix_bytes m) B B'
-      → ConvertedIs (matrix_from (length B) m) B B' (Converted.Wrote r)
+      → ConvertedIs (matrix_from (length B) m) B B' (Ok r)
   finish_wrote h g w =
-      rw (le-leb m.entries 1048576 h, le-leb (matrix_length m.rows m.entries) (length B) g) (record { answer = ap Converted.Wrote (sym w.long); bytes = w.is })
+      rw (le-leb m.entries 1048576 h, le-leb (matrix_length m.rows m.entries) (length B) g) (record { answer = ap Ok (sym w.long); bytes = w.is })
 
 module _ {n total : ℕ} {C : List ℕ} {X : List Float} {S O : List ℕ} (o : FinishOk n total C X S O) where
   -- the matrix has n rows and so many entries

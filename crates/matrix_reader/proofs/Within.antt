@@ -9,10 +9,10 @@ use lib.Dec.{eqb, ltb, leb}
 use lib.ListN.{length}
 use lib.Ieee.{Float}
 use borrow.Author.Tests.{eqb-false, leb-true, ltb-false}
+use Rattle.std.specs.Prelude.{Option, Some, None, Result, Ok, Err}
 use Rattle.store.specs.Region.{idx}
-use Rattle.decimal_text.specs.declared.field.Reading.{Reading}
 use Rattle.decimal_text.specs.Field.{is_number, number_of, value_in}
-use Rattle.matrix_market.specs.declared.placed.Placed.{Placed}
+use Rattle.matrix_market.specs.declared.placed.PlacedError.{PlacedError}
 use Rattle.matrix_market.specs.Lines.{fields_of}
 use Rattle.matrix_market.specs.Entries.{place_in}
 use Rattle.matrix_market.specs.Placed.{placed_value, pick_placed, placed_of, placed_from, placed_in}
@@ -28,10 +28,10 @@ pub record Below (symmetric : Bool) (n r c : ℕ) : Type 0 where
   pub lower : symmetric ≡ true → c ≤ r
 
 -- what a line says has such a place, if it has one
-abbrev pub PlacedIn : Bool → ℕ → Placed → Type 0
-PlacedIn symmetric n Placed.Malformed = Unit
-PlacedIn symmetric n (Placed.BadValue r c) = Below symmetric n r c
-PlacedIn symmetric n (Placed.Entry r c v) = Below symmetric n r c
+abbrev pub PlacedIn : Bool → ℕ → Result (ℕ × ℕ × Float) PlacedError → Type 0
+PlacedIn symmetric n (Err PlacedError.Malformed) = Unit
+PlacedIn symmetric n (Err (PlacedError.BadValue r c)) = Below symmetric n r c
+PlacedIn symmetric n (Ok (r, c, v)) = Below symmetric n r c
 
 place_within : (n : ℕ) (l : List ℕ) → place_in n l ≤ n
 place_within n l = go (is_number l) (leb (number_of l) n) refl
@@ -59,12 +59,12 @@ placed_of_lem symmetric n a b c = go (eqb (place_in n a) 0) (eqb (place_in n b) 
         some : (i : ℕ) → (i ≡ 0 → ⊥) → 0 < i
         some i h = pos_of_ne-zero h
 
-    value : (v : Reading) → Below symmetric n (place_in n a - 1) (place_in n b - 1) → PlacedIn symmetric n (placed_value (place_in n a) (place_in n b) v)
-    value (Reading.Value x) p = p
-    value Reading.Outside p = p
+    value : (v : Option Float) → Below symmetric n (place_in n a - 1) (place_in n b - 1) → PlacedIn symmetric n (placed_value (place_in n a) (place_in n b) v)
+    value (Some x) p = p
+    value None p = p
 
     go : (x y z : Bool) → eqb (place_in n a) 0 ≡ x → eqb (place_in n b) 0 ≡ y → (symmetric && ltb (place_in n a) (place_in n b)) ≡ z
-        → PlacedIn symmetric n (pick_placed x Placed.Malformed (pick_placed y Placed.Malformed (pick_placed z Placed.Malformed (placed_value (place_in n a) (place_in n b) (value_in c)))))
+        → PlacedIn symmetric n (pick_placed x (Err PlacedError.Malformed) (pick_placed y (Err PlacedError.Malformed) (pick_placed z (Err PlacedError.Malformed) (placed_value (place_in n a) (place_in n b) (value_in c)))))
     go true y z e f g = tt
     go false true z e f g = tt
     go false false true e f g = tt
@@ -81,10 +81,10 @@ pub placed_in_lem : (symmetric : Bool) (n : ℕ) (line : List ℕ) → PlacedIn 
 placed_in_lem symmetric n line = placed_from_lem symmetric n (fields_of line)
 
 -- the places of a line's answer
-pub entry_below : {symmetric : Bool} {n r c : ℕ} {v : Float} (line : List ℕ) {p : Placed} → p ≡ placed_in symmetric n line → p ≡ Placed.Entry r c v → Below symmetric n r c
+pub entry_below : {symmetric : Bool} {n r c : ℕ} {v : Float} (line : List ℕ) {p : Result (ℕ × ℕ × Float) PlacedError} → p ≡ placed_in symmetric n line → p ≡ Ok (r, c, v) → Below symmetric n r c
 entry_below {symmetric} {n} line e f = subst (PlacedIn symmetric n) (sym e ∙ f) (placed_in_lem symmetric n line)
 
-pub bad_below : {symmetric : Bool} {n r c : ℕ} (line : List ℕ) {p : Placed} → p ≡ placed_in symmetric n line → p ≡ Placed.BadValue r c → Below symmetric n r c
+pub bad_below : {symmetric : Bool} {n r c : ℕ} (line : List ℕ) {p : Result (ℕ × ℕ × Float) PlacedError} → p ≡ placed_in symmetric n line → p ≡ Err (PlacedError.BadValue r c) → Below symmetric n r c
 bad_below {symmetric} {n} line e f = subst (PlacedIn symmetric n) (sym e ∙ f) (placed_in_lem symmetric n line)
 
 -- ---- entries
@@ -113,12 +113,12 @@ unfolding pass_from
 pass_within symmetric s es [] w = w
 pass_within symmetric s es (line ∷ rest) w = go (ltb (length es) s.entries) (placed_in symmetric s.rows line) (placed_in_lem symmetric s.rows line) (λ fs. pass_within symmetric s fs rest)
   where
-    go : (t : Bool) (p : Placed) → PlacedIn symmetric s.rows p → ((fs : List Entry) → Within symmetric s.rows fs → PassWithin symmetric s.rows (pass_from symmetric s fs rest))
+    go : (t : Bool) (p : Result (ℕ × ℕ × Float) PlacedError) → PlacedIn symmetric s.rows p → ((fs : List Entry) → Within symmetric s.rows fs → PassWithin symmetric s.rows (pass_from symmetric s fs rest))
         → PassWithin symmetric s.rows (cond t (pass_line es (λ fs. pass_from symmetric s fs rest) p) malformed)
     go false p b on = tt
-    go true Placed.Malformed b on = tt
-    go true (Placed.BadValue r c) b on = within_more (record { row = r; column = c; value = no_value }) w b
-    go true (Placed.Entry r c v) b on = on (es ++ (record { row = r; column = c; value = v } ∷ [])) (within_more (record { row = r; column = c; value = v }) w b)
+    go true (Err PlacedError.Malformed) b on = tt
+    go true (Err (PlacedError.BadValue r c)) b on = within_more (record { row = r; column = c; value = no_value }) w b
+    go true (Ok (r, c, v)) b on = on (es ++ (record { row = r; column = c; value = v } ∷ [])) (within_more (record { row = r; column = c; value = v }) w b)
 
 -- ---- mirrors
 

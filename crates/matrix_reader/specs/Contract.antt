@@ -1,25 +1,23 @@
 -- What the functions that read a file ensure. Definitions only.
-use Rattle.std.specs.Prelude.{◌≡◌, Bool, List, ℕ, ◌≤◌, length, drop}
+use Rattle.matrix_reader.specs.declared.head.FileSizes.{FileSizes}
+use Rattle.std.specs.Prelude.{◌≡◌, Bool, List, ℕ, ◌≤◌, length, drop, Result, Ok, Err}
 use Rattle.refusal.specs.Outcome.{Outcome, accepted, refused}
 use Rattle.refusal.specs.declared.Refusal.{Refusal}
 use Rattle.matrix_market.specs.Lines.{first_line, data_of}
-use Rattle.matrix_reader.specs.declared.head.KindRead.{KindRead}
-use Rattle.matrix_reader.specs.declared.head.SizesRead.{SizesRead}
 use Rattle.matrix_reader.specs.declared.head.Head.{Head}
-use Rattle.matrix_reader.specs.declared.head.HeadRead.{HeadRead}
 use Rattle.matrix_reader.specs.File.{kind_of, Stated, sizes_in, lines_after, Slices, file_of}
 
 -- ---- header and size line
 
 -- what reading the header answers
-abbrev pub kind_answer : Outcome Bool → KindRead
-kind_answer (accepted symmetric) = KindRead.Read symmetric
-kind_answer (refused q) = KindRead.Refused q
+abbrev pub kind_answer : Outcome Bool → Result Bool Refusal
+kind_answer (accepted symmetric) = Ok symmetric
+kind_answer (refused q) = Err q
 
 -- what reading the size line answers
-abbrev pub sizes_answer : Outcome Stated → SizesRead
-sizes_answer (accepted s) = SizesRead.Read (record { rows = s.rows; entries = s.entries })
-sizes_answer (refused q) = SizesRead.Refused q
+abbrev pub sizes_answer : Outcome Stated → Result FileSizes Refusal
+sizes_answer (accepted s) = Ok (record { rows = s.rows; entries = s.entries })
+sizes_answer (refused q) = Err q
 
 -- the sizes of a head
 abbrev pub stated_by : Head → Stated
@@ -34,13 +32,13 @@ pub record SizesFound (t : List ℕ) (h : Head) : Type 0 where
   pub entries : h.entries ≤ 1048576
 
 -- The size line of text t, of that kind, is read.
-pub record SizeLineIs (t : List ℕ) (symmetric : Bool) (r : HeadRead) : Type 0 where
-  pub kind : (h : Head) → r ≡ HeadRead.Read h → h.symmetric ≡ symmetric
-  pub yes : (h : Head) → r ≡ HeadRead.Read h → SizesFound t h
-  pub no : (q : Refusal) → r ≡ HeadRead.Refused q → sizes_in (data_of t) ≡ refused q
+pub record SizeLineIs (t : List ℕ) (symmetric : Bool) (r : Result Head Refusal) : Type 0 where
+  pub kind : (h : Head) → r ≡ Ok h → h.symmetric ≡ symmetric
+  pub yes : (h : Head) → r ≡ Ok h → SizesFound t h
+  pub no : (q : Refusal) → r ≡ Err q → sizes_in (data_of t) ≡ refused q
 
 -- Header and size line of text t are read.
-pub record HeadIs (t : List ℕ) (r : HeadRead) : Type 0 where
-  pub kind : (h : Head) → r ≡ HeadRead.Read h → kind_of (first_line t) ≡ accepted h.symmetric
-  pub yes : (h : Head) → r ≡ HeadRead.Read h → SizesFound t h
-  pub no : (q : Refusal) → r ≡ HeadRead.Refused q → (l : Slices) → file_of t l ≡ refused q
+pub record HeadIs (t : List ℕ) (r : Result Head Refusal) : Type 0 where
+  pub kind : (h : Head) → r ≡ Ok h → kind_of (first_line t) ≡ accepted h.symmetric
+  pub yes : (h : Head) → r ≡ Ok h → SizesFound t h
+  pub no : (q : Refusal) → r ≡ Err q → (l : Slices) → file_of t l ≡ refused q

@@ -1,15 +1,15 @@
 -- A whole Matrix Market text: its header, its size line and its entries, in the order in which document 02 asks. Definitions only.
-use Rattle.std.specs.Prelude.{◌≡◌, Bool, true, false, cond, ◌&&◌, List, [], ◌∷◌, ◌++◌, ℕ, ◌+◌, ◌*◌, eqb, leb, ltb, length, Float}
+use Rattle.refusal.specs.declared.Refusal.{Refusal}
+use Rattle.std.specs.Prelude.{Result, Ok, Err, ◌≡◌, Bool, true, false, cond, ◌&&◌, List, [], ◌∷◌, ◌++◌, ℕ, ◌+◌, ◌*◌, eqb, leb, ltb, length, Float}
 use Rattle.refusal.specs.Outcome.{Outcome, accepted, refused, ask, ◌>>=◌, ◌>>◌}
 use Rattle.refusal.specs.Refusal.{too_large, store_too_small, bad_matrix_file, bad_number}
 use Rattle.decimal_text.specs.Field.{is_number, number_of}
-use Rattle.matrix_market.specs.declared.placed.Placed.{Placed}
+use Rattle.matrix_market.specs.declared.placed.PlacedError.{PlacedError}
 use Rattle.matrix_market.specs.Lines.{fields_of, first_line, data_of}
 use Rattle.matrix_market.specs.Placed.{placed_in}
 use Rattle.coordinate.specs.Coordinate.{Entry, entries_there, row_starts, placed_columns, placed_values, expanded}
 use Rattle.record_format.specs.Format.{Matrix, matrix_length, matrix_bytes}
 use Rattle.record_format.specs.Answers.{leaves_of}
-use Rattle.matrix_reader.specs.declared.record.Converted.{Converted}
 
 -- ---- the header
 
@@ -73,10 +73,10 @@ abbrev pub is_free : ℕ → ℕ → List Entry → Bool
 is_free r c es = eqb (length (entries_there r c es)) 0
 
 -- one entry behind others: 38 for its form and its place, also where another stands there, then 39 for its value
-abbrev pub entry_after : List Entry → Placed → Outcome Entry
-entry_after es Placed.Malformed = refused bad_matrix_file
-entry_after es (Placed.BadValue r c) = ask (is_free r c es) bad_matrix_file (refused bad_number)
-entry_after es (Placed.Entry r c v) = ask (is_free r c es) bad_matrix_file (accepted (record { row = r; column = c; value = v }))
+abbrev pub entry_after : List Entry → Result (ℕ × ℕ × Float) PlacedError → Outcome Entry
+entry_after es (Err PlacedError.Malformed) = refused bad_matrix_file
+entry_after es (Err (PlacedError.BadValue r c)) = ask (is_free r c es) bad_matrix_file (refused bad_number)
+entry_after es (Ok (r, c, v)) = ask (is_free r c es) bad_matrix_file (accepted (record { row = r; column = c; value = v }))
 
 -- the entries of lines, one after the other, behind those before them: the first that offends decides; a surplus one is 38, and so is a missing one, after the last
 unfoldable pub entries_from : Bool → Stated → List Entry → List (List ℕ) → Outcome (List Entry)
@@ -165,11 +165,11 @@ file_of text l = do
 -- ---- what reading answers, and what it leaves of the output
 
 -- how many bytes the record has, or the refusal
-abbrev pub converted_answer : Outcome Matrix → Converted
-converted_answer (accepted m) = Converted.Wrote (length (matrix_bytes m))
-converted_answer (refused q) = Converted.Refused q
+abbrev pub converted_answer : Outcome Matrix → Result ℕ Refusal
+converted_answer (accepted m) = Ok (length (matrix_bytes m))
+converted_answer (refused q) = Err q
 
 -- A text is read: the answer, and an output of the record over the start of B, or of B where the text is refused.
-pub record ConvertedIs (o : Outcome Matrix) (B B' : List ℕ) (r : Converted) : Type 0 where
+pub record ConvertedIs (o : Outcome Matrix) (B B' : List ℕ) (r : Result ℕ Refusal) : Type 0 where
   pub answer : r ≡ converted_answer o
   pub bytes : B' ≡ leaves_of matrix_bytes o B

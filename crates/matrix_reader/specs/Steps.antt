@@ -1,10 +1,10 @@
 -- The lines of a file in one pass, and what each step of it asks and ensures. Definitions only.
-use Rattle.std.specs.Prelude.{◌≡◌, Bool, not, cond, List, [], ◌∷◌, ◌++◌, ℕ, ◌+◌, ◌*◌, ◌≤◌, ◌<◌, eqb, ltb, length, take, drop, set, Float}
+use Rattle.std.specs.Prelude.{Result, Ok, Err, ◌≡◌, Bool, not, cond, List, [], ◌∷◌, ◌++◌, ℕ, ◌+◌, ◌*◌, ◌≤◌, ◌<◌, eqb, ltb, length, take, drop, set, Float}
 use Rattle.std.specs.Float.{binary64}
 use Rattle.std.specs.Float.Ieee.{of_bits}
 use Rattle.refusal.specs.Outcome.{Outcome, accepted, refused, ask}
 use Rattle.refusal.specs.Refusal.{bad_matrix_file, bad_number}
-use Rattle.matrix_market.specs.declared.placed.Placed.{Placed}
+use Rattle.matrix_market.specs.declared.placed.PlacedError.{PlacedError}
 use Rattle.matrix_market.specs.Lines.{data_of}
 use Rattle.matrix_market.specs.Placed.{placed_in}
 use Rattle.coordinate.specs.Coordinate.{Entry, repeated, mirrors_of, listed}
@@ -28,10 +28,10 @@ abbrev pub no_value : Float
 no_value = of_bits binary64 0
 
 -- one line, and how the pass goes on
-abbrev pub pass_line : List Entry → (List Entry → Pass) → Placed → Pass
-pass_line es rest Placed.Malformed = malformed
-pass_line es rest (Placed.BadValue r c) = bad_value (es ++ (record { row = r; column = c; value = no_value } ∷ []))
-pass_line es rest (Placed.Entry r c v) = rest (es ++ (record { row = r; column = c; value = v } ∷ []))
+abbrev pub pass_line : List Entry → (List Entry → Pass) → Result (ℕ × ℕ × Float) PlacedError → Pass
+pass_line es rest (Err PlacedError.Malformed) = malformed
+pass_line es rest (Err (PlacedError.BadValue r c)) = bad_value (es ++ (record { row = r; column = c; value = no_value } ∷ []))
+pass_line es rest (Ok (r, c, v)) = rest (es ++ (record { row = r; column = c; value = v } ∷ []))
 
 -- the lines from here on, with those entries before them: repeats are not looked for
 unfoldable pub pass_from : Bool → Stated → List Entry → List (List ℕ) → Pass
@@ -69,19 +69,19 @@ pub record LineOk (n m : ℕ) (R C : List ℕ) (F : List Float) : Type 0 where
   pub place : PlaceFor m R C F
 
 -- what a line has
-abbrev pub line_answer : Placed → LineRead
-line_answer Placed.Malformed = LineRead.Malformed
-line_answer (Placed.BadValue r c) = LineRead.BadValue
-line_answer (Placed.Entry r c v) = LineRead.Entry
+abbrev pub line_answer : Result (ℕ × ℕ × Float) PlacedError → LineRead
+line_answer (Err PlacedError.Malformed) = LineRead.Malformed
+line_answer (Err (PlacedError.BadValue r c)) = LineRead.BadValue
+line_answer (Ok (r, c, v)) = LineRead.Entry
 
 -- the entry that is stored of a line, if there is one
-abbrev pub stored_of : Placed → Entry
-stored_of Placed.Malformed = record { row = 0; column = 0; value = no_value }
-stored_of (Placed.BadValue r c) = record { row = r; column = c; value = no_value }
-stored_of (Placed.Entry r c v) = record { row = r; column = c; value = v }
+abbrev pub stored_of : Result (ℕ × ℕ × Float) PlacedError → Entry
+stored_of (Err PlacedError.Malformed) = record { row = 0; column = 0; value = no_value }
+stored_of (Err (PlacedError.BadValue r c)) = record { row = r; column = c; value = no_value }
+stored_of (Ok (r, c, v)) = record { row = r; column = c; value = v }
 
 -- The line that says p was read, and what it has was stored at m.
-pub record LineStored (p : Placed) (m : ℕ) (R C : List ℕ) (F : List Float) (R' C' : List ℕ) (F' : List Float) (r : LineRead) : Type 0 where
+pub record LineStored (p : Result (ℕ × ℕ × Float) PlacedError) (m : ℕ) (R C : List ℕ) (F : List Float) (R' C' : List ℕ) (F' : List Float) (r : LineRead) : Type 0 where
   pub answer : r ≡ line_answer p
   pub entry : r ≡ LineRead.Entry → EntryPut m (stored_of p) R C F R' C' F'
   pub bad : r ≡ LineRead.BadValue → EntryPut m (stored_of p) R C F R' C' F'

@@ -5,7 +5,7 @@ ghost use Rattle.matrix_reader.specs.Steps.{PlaceFor, EntryPut, LineOk, LineStor
 
 use crate::head::Head;
 use matrix_market::lines::next_line;
-use matrix_market::placed::{Placed, entry_in};
+use matrix_market::placed::{PlacedError, entry_in};
 
 // What a line has: an entry; or it is malformed; or it has places and a bad value.
 #[derive(Clone, Copy)]
@@ -56,12 +56,12 @@ fn read_line(
 {
     let p = entry_in(symmetric, n, line);
     match p {
-        Placed::Malformed => LineRead::Malformed,
-        Placed::BadValue(row, column) => {
+        Err(PlacedError::Malformed) => LineRead::Malformed,
+        Err(PlacedError::BadValue(row, column)) => {
             put_entry(rows, columns, values, m, row as u32, column as u32, 0.0);
             LineRead::BadValue
         }
-        Placed::Entry(row, column, value) => {
+        Ok((row, column, value)) => {
             put_entry(rows, columns, values, m, row as u32, column as u32, value);
             LineRead::Entry
         }
@@ -84,26 +84,27 @@ pub fn read_lines(
     let stated = h.entries as usize;
     let mut at = h.next;
     let mut m = 0;
-    while at < text.len() {
-        let l = next_line(text, at);
-        if l.found {
-            if m < stated {
-                let from = l.from;
-                let to = l.to;
-                let s = read_line(&text[from..to], symmetric, n, m, rows, columns, values);
-                match s {
-                    LineRead::Malformed => return LinesRead::Malformed,
-                    LineRead::BadValue => return LinesRead::BadValue(m),
-                    LineRead::Entry => {
-                        m += 1;
-                        at = l.next;
-                    }
-                }
-            } else {
-                return LinesRead::Malformed;
+    // A while: where the next line starts is known once this one has been read.
+    while let Some(line) = next_line(text, at) {
+        if m >= stated {
+            return LinesRead::Malformed;
+        }
+        let s = read_line(
+            &text[line.from..line.to],
+            symmetric,
+            n,
+            m,
+            rows,
+            columns,
+            values,
+        );
+        match s {
+            LineRead::Malformed => return LinesRead::Malformed,
+            LineRead::BadValue => return LinesRead::BadValue(m),
+            LineRead::Entry => {
+                m += 1;
+                at = line.next;
             }
-        } else {
-            return LinesRead::Entries(m);
         }
     }
     LinesRead::Entries(m)
@@ -136,10 +137,8 @@ pub fn put_mirrors(m: usize, rows: &mut [u32], columns: &mut [u32], values: &mut
     ensures { MirrorsPut m rows.old columns.old values.old rows.new columns.new values.new result }
 {
     let mut total = m;
-    let mut k = 0;
-    while k < m {
+    for k in 0..m {
         total = put_mirror(k, total, rows, columns, values);
-        k += 1;
     }
     total
 }

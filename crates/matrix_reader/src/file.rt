@@ -7,9 +7,10 @@ ghost use Rattle.matrix_reader.specs.Contract.{stated_by};
 ghost use Rattle.matrix_reader.specs.Whole.{HeadLimits, GatherOk, GatherIs, SortRoom};
 
 use crate::entries::{LinesRead, put_mirrors, read_lines};
-use crate::head::{Head, HeadRead, head_of};
-use crate::record::{Converted, finish, zero_bytes};
+use crate::head::{Head, head_of};
+use crate::record::{finish, zero_bytes};
 use coordinate::sort_places;
+use refusal::Refusal;
 
 // How many entries a file that states so many may have with their mirrors.
 fn most_of(symmetric: bool, entries: usize) -> usize
@@ -103,42 +104,36 @@ fn convert(
     order: &mut [u32],
     links: &mut [u32],
     out: &mut [u8],
-) -> Converted
+) -> Result<usize, Refusal>
     ensures { ConvertedIs (file_of text.now (slices_of rows.old columns.old values.old starts.old order.old links.old out.old)) out.old out.new result }
 {
-    let read = head_of(text);
-    match read {
-        HeadRead::Refused(q) => Converted::Refused(q),
-        HeadRead::Read(h) => {
-            if has_room(
-                h,
-                rows.len(),
-                columns.len(),
-                values.len(),
-                starts.len(),
-                order.len(),
-                links.len(),
-            ) {
-                let n = h.rows as usize;
-                let lines = gather(text, h, rows, columns, values);
-                match lines {
-                    LinesRead::Malformed => Converted::Refused(refusal::BAD_MATRIX_FILE),
-                    LinesRead::BadValue(m) => {
-                        if sort_entries(n, m + 1, rows, columns, starts, order, links) {
-                            return Converted::Refused(refusal::BAD_NUMBER);
-                        }
-                        Converted::Refused(refusal::BAD_MATRIX_FILE)
-                    }
-                    LinesRead::Entries(m) => {
-                        if sort_entries(n, m, rows, columns, starts, order, links) {
-                            return finish(n, m, &columns[..m], &values[..m], starts, order, out);
-                        }
-                        Converted::Refused(refusal::BAD_MATRIX_FILE)
-                    }
-                }
-            } else {
-                Converted::Refused(refusal::STORE_TOO_SMALL)
+    let h = head_of(text)?;
+    if !has_room(
+        h,
+        rows.len(),
+        columns.len(),
+        values.len(),
+        starts.len(),
+        order.len(),
+        links.len(),
+    ) {
+        return Err(refusal::STORE_TOO_SMALL);
+    }
+    let n = h.rows as usize;
+    let lines = gather(text, h, rows, columns, values);
+    match lines {
+        LinesRead::Malformed => Err(refusal::BAD_MATRIX_FILE),
+        LinesRead::BadValue(m) => {
+            if sort_entries(n, m + 1, rows, columns, starts, order, links) {
+                return Err(refusal::BAD_NUMBER);
             }
+            Err(refusal::BAD_MATRIX_FILE)
+        }
+        LinesRead::Entries(m) => {
+            if sort_entries(n, m, rows, columns, starts, order, links) {
+                return finish(n, m, &columns[..m], &values[..m], starts, order, out);
+            }
+            Err(refusal::BAD_MATRIX_FILE)
         }
     }
 }
@@ -154,7 +149,7 @@ pub fn read_matrix_file(
     order: &mut [u32],
     links: &mut [u32],
     out: &mut [u8],
-) -> Converted
+) -> Result<usize, Refusal>
     ensures { ConvertedIs (file_of text.now (slices_of rows.old columns.old values.old starts.old order.old links.old out.old)) (filled (length out.old) 0) out.new result }
 {
     zero_bytes(out);

@@ -8,4 +8,3 @@ pub mod head;
 pub mod record;
 
 pub use file::read_matrix_file;
-pub use record::Converted;

@@ -12,36 +12,23 @@ use record_format::writing::put_sizes;
 use refusal::Refusal;
 use store::wide;
 
-// How many bytes a record has that was written, or the refusal of the text.
-#[derive(Clone, Copy)]
-pub enum Converted {
-    Wrote(usize),
-    Refused(Refusal),
-}
-
 // Every byte zero.
 pub fn zero_bytes(out: &mut [u8])
     ensures { out.new ≡ filled (length out.old) 0 }
 {
     let n = out.len();
-    let mut k = 0;
-    while k < n {
-        out[k] = 0;
-        k += 1;
-    }
+    store::fill(out, 0, n, 0);
 }
 
-// Those words whose numbers `order` has, four bytes each, from a place on.
+// Those words whose numbers `order` has, four bytes each, from a place on. This loop and that of the floats are written out: of a common
+// one the width, the bytes and the call would be parameters, and it would be longer than they are.
 fn write_picked(out: &mut [u8], to: usize, order: &[u32], words: &[u32])
     requires { PickOk to 4 order.now (length words.now) (length out.old) }
     ensures { Wrote to (4 * length order.now) (flat bytes4 (map (idx words.now) order.now)) out.old out.new }
 {
-    let mut k = 0;
-    while k < order.len() {
+    for k in 0..order.len() {
         let i = wide(order[k]);
-        let word = words[i] as u64;
-        put_u32(out, to + 4 * k, word);
-        k += 1;
+        put_u32(out, to + 4 * k, u64::from(words[i]));
     }
 }
 
@@ -50,12 +37,9 @@ fn write_picked_floats(out: &mut [u8], to: usize, order: &[u32], floats: &[f64])
     requires { PickOk to 8 order.now (length floats.now) (length out.old) }
     ensures { Wrote to (8 * length order.now) (flat float_bytes (map (at floats.now) order.now)) out.old out.new }
 {
-    let mut k = 0;
-    while k < order.len() {
+    for k in 0..order.len() {
         let i = wide(order[k]);
-        let value = floats[i];
-        put_f64(out, to + 8 * k, value);
-        k += 1;
+        put_f64(out, to + 8 * k, floats[i]);
     }
 }
 
@@ -90,17 +74,17 @@ pub fn finish(
     starts: &[u32],
     order: &[u32],
     out: &mut [u8],
-) -> Converted
+) -> Result<usize, Refusal>
     requires { FinishOk n total columns.now values.now starts.now order.now }
     ensures { ConvertedIs (matrix_from (length out.old) (ordered_matrix columns.now values.now (take (n + 1) starts.now) (take total order.now))) out.old out.new result }
 {
     if total > 1048576 {
-        return Converted::Refused(refusal::TOO_LARGE);
+        return Err(refusal::TOO_LARGE);
     }
     if out.len() < 14 + 4 * n + 12 * total {
-        return Converted::Refused(refusal::STORE_TOO_SMALL);
+        return Err(refusal::STORE_TOO_SMALL);
     }
     let last = n + 1;
     let length = write_record(columns, values, &starts[..last], &order[..total], out);
-    Converted::Wrote(length)
+    Ok(length)
 }

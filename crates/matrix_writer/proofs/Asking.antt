@@ -1,14 +1,13 @@
 -- Questions that a loop asks one after another, and the questions of a record. Assumes nothing.
+use Rattle.std.specs.Prelude.{Result, Ok, Err}
 use mathlib.Core.Path.{◌≡◌, refl, sym, ap, ◌∙◌}
 use mathlib.Core.Bool.{Bool, true, false, ◌&&◌}
 use mathlib.Core.List.{List}
 use Prim.Native.Nat.{ℕ, ◌+◌, ◌*◌, ◌≤◌, ◌<◌}
 use native.Mathlib.Omega.{arith}
 use lib.Dec.{eqb, ltb}
-use lib.Ieee.{Float}
 use lib.ListN.{length}
 use Rattle.refusal.specs.declared.Refusal.{Refusal}
-use Rattle.refusal.specs.declared.Verdict.{Verdict}
 use Rattle.refusal.specs.Outcome.{Outcome, passed, ask_from, ask_each, verdict_of}
 use Rattle.refusal.proofs.Outcome.{each_step, each_stop, each_done, passes, refuses}
 use Rattle.store.specs.Region.{idx}
@@ -16,13 +15,11 @@ use Rattle.store.proofs.store.Each.{Passed}
 use Rattle.csr.specs.Questions.{never_fall, entry_ok, row_ok, columns_ok}
 use Rattle.csr.specs.Turns.{step_ok, row_at}
 use Rattle.csr.proofs.csr.Walk.{step_on, step_no, entry_next, row_on, row_no}
-use Rattle.decimal.specs.declared.Written.{Written}
-use Rattle.decimal.specs.Decimal.{write_of, magnitude_of}
 use Rattle.record_format.specs.declared.marks.Mark.{Mark}
 use Rattle.record_format.specs.Format.{Matrix, marked}
 use Rattle.record_format.specs.Steps.{WordIs}
 use Rattle.matrix_writer.specs.declared.arrays.RowRange.{RowRange}
-use Rattle.matrix_writer.specs.Writing.{record_ok, is_found, writable}
+use Rattle.matrix_writer.specs.Writing.{record_ok}
 use Rattle.matrix_writer.specs.Contract.{WordOf, RowsIn, RangeIs}
 
 -- ---- a loop that asks
@@ -35,17 +32,17 @@ pub record Asking (asked : ℕ → Outcome Unit) (n k : ℕ) : Type 0 where
 pub asking_start : (asked : ℕ → Outcome Unit) (n : ℕ) → Asking asked n 0
 asking_start asked n = record { left = refl; within = omega arith }
 
-pub asking_on : {asked : ℕ → Outcome Unit} {n k : ℕ} {v : Verdict} → Asking asked n k → k < n → v ≡ verdict_of (asked k) → v ≡ Verdict.Passed → Asking asked n (k + 1)
+pub asking_on : {asked : ℕ → Outcome Unit} {n k : ℕ} {v : Result Unit Refusal} → Asking asked n k → k < n → v ≡ verdict_of (asked k) → v ≡ Ok tt → Asking asked n (k + 1)
 asking_on {asked} {n} {k} a h e y = record {
   left = sym (each_step k n asked passed h (passes (asked k) e y)) ∙ a.left;
   within = omega arith;
 }
 
-pub asking_stop : {asked : ℕ → Outcome Unit} {n k : ℕ} {v : Verdict} {q : Refusal} → Asking asked n k → k < n → v ≡ verdict_of (asked k) → v ≡ Verdict.Refused q
-    → Verdict.Refused q ≡ verdict_of (ask_each n asked passed)
+pub asking_stop : {asked : ℕ → Outcome Unit} {n k : ℕ} {v : Result Unit Refusal} {q : Refusal} → Asking asked n k → k < n → v ≡ verdict_of (asked k) → v ≡ Err q
+    → Err q ≡ verdict_of (ask_each n asked passed)
 asking_stop {asked} {n} {k} a h e y = ap verdict_of (sym (each_stop k n asked passed h (refuses (asked k) e y)) ∙ a.left)
 
-pub asking_done : {asked : ℕ → Outcome Unit} {n k : ℕ} → Asking asked n k → n ≤ k → Verdict.Passed ≡ verdict_of (ask_each n asked passed)
+pub asking_done : {asked : ℕ → Outcome Unit} {n k : ℕ} → Asking asked n k → n ≤ k → (Ok tt) ≡ verdict_of (ask_each n asked passed)
 asking_done {asked} {n} {k} a h = ap verdict_of (sym (each_done k n asked passed h) ∙ a.left)
 
 -- ---- the questions of a record
@@ -84,7 +81,3 @@ range_on m p h w t y = row_on m.offsets m.columns p h w.first_is w.last_is t y
 pub range_no : (m : Matrix) (r : ℕ) {s : RowRange} {t : Bool} → r < m.rows → RangeIs m r s → t ≡ row_ok m.rows m.columns s.first s.last → t ≡ false
     → false ≡ columns_ok m.rows m.offsets m.columns
 range_no m r {s} {t} h w f n = row_no m.rows m.offsets m.columns r s.first s.last t h w.first_is w.last_is f n
-
--- A value for which a number was found can be written.
-pub found_it : (v : Float) {x : Float} {w u : Written} → x ≡ magnitude_of v → w ≡ write_of x → w ≡ u → is_found u ≡ writable v
-found_it v e f g = rw (← g, f, e)

@@ -1,4 +1,5 @@
 -- What is left in the output, and what is answered. Assumes nothing.
+use Rattle.std.specs.Prelude.{Result, Ok, Err}
 use mathlib.Core.Path.{◌≡◌, refl, sym, ap, ◌∙◌}
 use mathlib.Core.Bool.{Bool}
 use mathlib.Core.List.{List, [], ◌∷◌, ◌++◌}
@@ -9,7 +10,6 @@ use lib.ListN.{length}
 use borrow.Author.Tests.{le-leb, lt-leb}
 use Rattle.refusal.specs.declared.Refusal.{Refusal}
 use Rattle.refusal.specs.Refusal.{store_too_small}
-use Rattle.refusal.specs.declared.Verdict.{Verdict}
 use Rattle.refusal.specs.Outcome.{Outcome, accepted, refused, passed, ask, verdict_of}
 use Rattle.refusal.proofs.Outcome.{passes, refuses}
 use Rattle.store.specs.Region.{lay, splice}
@@ -18,7 +18,6 @@ use Rattle.store.proofs.store.Vector.{length_tab}
 use Rattle.decimal_text.specs.Contract.{Laid}
 use Rattle.record_format.specs.Format.{matrix_at}
 use Rattle.record_format.specs.Steps.{WordIs}
-use Rattle.matrix_writer.specs.declared.writer.FileWritten.{FileWritten}
 use Rattle.matrix_writer.specs.Text.{file_text}
 use Rattle.matrix_writer.specs.Writing.{record_asked, write_file, zeros_behind, written_text, file_answer}
 use Rattle.matrix_writer.specs.Contract.{sized_matrix, Ready, WriteDone}
@@ -67,20 +66,20 @@ module _ (symmetric : Bool) (b : List ℕ) {rows entries n : ℕ} {F G : List �
   next_is = l.next ∙ omega arith ∙ ap length (sym (text_is symmetric b p q))
 
   -- The text fits,
-  pub done_wrote : n ≤ length G → WriteDone (write_file symmetric (length F) b) F G (FileWritten.Wrote n)
+  pub done_wrote : n ≤ length G → WriteDone (write_file symmetric (length F) b) F G (Ok n)
   done_wrote h =
       let t = file_text symmetric (matrix_at b) in
       let fits : length t ≤ length F = omega (arith, next_is, laid_size l) in
       let o : write_file symmetric (length F) b ≡ accepted t =
       text_asked symmetric (length F) b y.asked ∙ ap (λ (x : Bool). ask x store_too_small (accepted t)) (le-leb (length t) (length F) fits) in
       record {
-        answer = ap FileWritten.Wrote next_is ∙ ap file_answer (sym o);
+        answer = ap Ok next_is ∙ ap file_answer (sym o);
         out = over_zeros t F G y.cleared fits (l.is ∙ ap (λ (x : List ℕ). splice 0 x F) (sym (text_is symmetric b p q)))
             ∙ ap (λ (x : Outcome (List ℕ)). zeros_behind (length F) (written_text x)) (sym o);
       }
 
   -- or not, and the output is cleared.
-  pub done_short : {H : List ℕ} → length G < n → H ≡ filled (length G) 0 → WriteDone (write_file symmetric (length F) b) F H (FileWritten.Refused store_too_small)
+  pub done_short : {H : List ℕ} → length G < n → H ≡ filled (length G) 0 → WriteDone (write_file symmetric (length F) b) F H (Err store_too_small)
   done_short h z =
       let t = file_text symmetric (matrix_at b) in
       let long : length F < length t = omega (arith, next_is, laid_size l) in
@@ -91,22 +90,22 @@ module _ (symmetric : Bool) (b : List ℕ) {rows entries n : ℕ} {F G : List �
         out = z ∙ ap (λ (k : ℕ). filled k 0) (laid_size l) ∙ none_behind (length F) ∙ ap (λ (x : Outcome (List ℕ)). zeros_behind (length F) (written_text x)) (sym o);
       }
 
-module _ (symmetric : Bool) (b F : List ℕ) {G : List ℕ} {v : Verdict} (z : G ≡ filled (length F) 0) (a : v ≡ verdict_of (record_asked symmetric b)) where
+module _ (symmetric : Bool) (b F : List ℕ) {G : List ℕ} {v : Result Unit Refusal} (z : G ≡ filled (length F) 0) (a : v ≡ verdict_of (record_asked symmetric b)) where
   size_is : length G ≡ length F
   size_is = ap length z ∙ length_tab (λ _. 0) (length F)
 
   -- A record that is refused leaves the output cleared.
-  pub done_refused : {q : Refusal} → v ≡ Verdict.Refused q → WriteDone (write_file symmetric (length F) b) F G (FileWritten.Refused q)
+  pub done_refused : {q : Refusal} → v ≡ Err q → WriteDone (write_file symmetric (length F) b) F G (Err q)
   unfolding write_file
   done_refused {q} e =
       let r : record_asked symmetric b ≡ refused q = refuses (record_asked symmetric b) a e in
       record { answer = rw r; out = rw r (z ∙ none_behind (length F)) }
 
   -- One that passed is written into it.
-  pub ready_now : v ≡ Verdict.Passed → Ready symmetric b G
+  pub ready_now : v ≡ Ok tt → Ready symmetric b G
   ready_now e = record { asked = passes (record_asked symmetric b) a e; cleared = z ∙ ap (λ (k : ℕ). filled k 0) (sym size_is) }
 
-  pub done_now : {H : List ℕ} {r : FileWritten} → WriteDone (write_file symmetric (length G) b) G H r → WriteDone (write_file symmetric (length F) b) F H r
+  pub done_now : {H : List ℕ} {r : Result ℕ Refusal} → WriteDone (write_file symmetric (length G) b) G H r → WriteDone (write_file symmetric (length F) b) F H r
   done_now d = record {
     answer = d.answer ∙ ap (λ (k : ℕ). file_answer (write_file symmetric k b)) size_is;
     out = d.out ∙ ap (λ (k : ℕ). zeros_behind k (written_text (write_file symmetric k b))) size_is;

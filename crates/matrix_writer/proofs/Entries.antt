@@ -9,18 +9,17 @@ use lib.Dec.{eqb, ltb, leb}
 use lib.Ieee.{Float, eq}
 use lib.ListN.{length}
 use borrow.Author.Tests.{lt-ltb, le-ltb, le-leb, leb-true, ne_eqb}
+use Rattle.std.specs.Prelude.{Option, Some, None, Result}
 use Rattle.refusal.specs.Refusal.{store_too_small, bad_number, unequal_mirrors}
 use Rattle.refusal.specs.Outcome.{Outcome, accepted, refused, passed, ask, ◌>>=◌, ask_rows, ask_each}
 use Rattle.refusal.proofs.Outcome.{never, accepted_one}
 use Rattle.store.specs.Region.{idx, at}
 use Rattle.store.proofs.store.Region.{le_or_lt}
-use Rattle.decimal.specs.declared.Written.{Written}
 use Rattle.decimal.specs.Decimal.{is_minus, magnitude_of, write_of}
-use Rattle.decimal_text.specs.declared.field.Reading.{Reading}
 use Rattle.decimal_text.specs.Field.{number_of, value_in}
 use Rattle.decimal_text.specs.Figures.{figures, value_text}
 use Rattle.decimal_text.proofs.Trip.{figures_number, figures_read, value_trip}
-use Rattle.matrix_market.specs.declared.placed.Placed.{Placed}
+use Rattle.matrix_market.specs.declared.placed.PlacedError.{PlacedError}
 use Rattle.matrix_market.specs.Lines.{pieces_of, kept, lines_of, is_data}
 use Rattle.matrix_market.specs.Entries.{place_in}
 use Rattle.matrix_market.specs.Placed.{placed_from, placed_in}
@@ -43,13 +42,13 @@ place_back rows n h g =
     rw (figures_number (n + 1), a, b)
 
 -- A value that can be written is read as one that equals it.
-value_back : (v : Float) → writable v ≡ true → (value_in (value_text v) ≡ Reading.Value (read_back v)) × (eq (read_back v) v ≡ true)
+value_back : (v : Float) → writable v ≡ true → (value_in (value_text v) ≡ Some (read_back v)) × (eq (read_back v) v ≡ true)
 value_back v = go (write_of (magnitude_of v)) refl
   where
-    go : (w : Written) → write_of (magnitude_of v) ≡ w → is_found w ≡ true
-        → (value_in (value_text v) ≡ Reading.Value (found_value (is_minus v) w)) × (eq (found_value (is_minus v) w) v ≡ true)
-    go (Written.Number m n q) e f = value_trip v m n q e
-    go Written.Refused e f = absurd (false≢true f)
+    go : (w : Option (ℕ × Bool × ℕ)) → write_of (magnitude_of v) ≡ w → is_found w ≡ true
+        → (value_in (value_text v) ≡ Some (found_value (is_minus v) w)) × (eq (found_value (is_minus v) w) v ≡ true)
+    go (Some (m, n, q)) e f = value_trip v m n q e
+    go None e f = absurd (false≢true f)
 
 -- counted from 1, places are in the same order
 one_more : (r c : ℕ) → ltb (r + 1) (c + 1) ≡ ltb r c
@@ -102,8 +101,8 @@ module _ (symmetric : Bool) (rows : ℕ) where
   unfolding EachIn
   entries_back g [] h = refl
   entries_back g (t ∷ l) h =
-      ap (λ (x : Placed). x ∷ map (placed_in symmetric rows) (map entry_text l)) (entry_back symmetric rows t h.0 g)
-      ∙ ap (λ (x : List Placed). back_of t ∷ x) (entries_back g l h.1)
+      ap (λ (x : Result (ℕ × ℕ × Float) PlacedError). x ∷ map (placed_in symmetric rows) (map entry_text l)) (entry_back symmetric rows t h.0 g)
+      ∙ ap (λ (x : List (Result (ℕ × ℕ × Float) PlacedError)). back_of t ∷ x) (entries_back g l h.1)
 
   entries_equal : (l : List Triplet) → EachIn (Fitting symmetric rows) l → EachIn (λ t. eq (read_back t.value) t.value ≡ true) l
   unfolding EachIn

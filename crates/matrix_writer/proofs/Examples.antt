@@ -1,19 +1,18 @@
 -- Worked examples: the matrix 4, -2; -2, 2 in both kinds, and a refusal of each number. They hold by computing, but for the search of a value's
 -- digits among 10^15, which has laws. Assumes nothing.
 use mathlib.Core.Path.{◌≡◌, refl, sym, ◌∙◌}
-use mathlib.Core.Bool.{true, false}
+use mathlib.Core.Bool.{Bool, true, false}
 use mathlib.Core.List.{List, [], ◌∷◌}
 use Prim.Native.Nat.{ℕ, ◌<◌, ◌^◌}
 use native.Mathlib.Omega.{arith}
 use lib.Ieee.{Float, binary64, of_bits, nan, inf, fin, eq, lt, neg, round}
 use lib.ListN.{take, set}
+use Rattle.std.specs.Prelude.{Option, Some, None}
 use Rattle.refusal.specs.Outcome.{accepted, refused, ask_rows}
 use Rattle.refusal.specs.Refusal.{bad_offsets, bad_columns, store_too_small, bad_number, unequal_mirrors}
 use Rattle.store.specs.Vector.{tab, each}
 use Rattle.pattern.specs.Pattern.{some}
 use Rattle.csr.specs.Questions.{size_ok, never_fall, offsets_ok, entry_ok, row_ok, columns_ok}
-use Rattle.decimal.specs.declared.Found.{Found}
-use Rattle.decimal.specs.declared.Written.{Written}
 use Rattle.decimal.specs.Decimal.{value_of, gives, find_of, write_from, write_of}
 use Rattle.decimal.proofs.Laws.{find_sound, find_complete, write_nearest}
 use Rattle.decimal.proofs.Ties.{gives_unique}
@@ -27,17 +26,17 @@ use Rattle.matrix_writer.specs.Writing.{record_ok, mirrors, mirror_in, entry_ask
 
 -- a whole number is written as it is
 module _ (v : Float) (m : ℕ) (small : m < 10 ^ 15) (is : gives v false 0 m ≡ true) where
-  found : (f : Found) → f ≡ find_of v false 0 → f ≡ Found.At m
-  found (Found.At k) e =
+  found : (f : Option ℕ) → f ≡ find_of v false 0 → f ≡ Some m
+  found (Some k) e =
       let s = find_sound v false 0 k (sym e) in
       let same : k ≡ m = gives_unique v false 0 k m (omega arith) s.0 small s.1 is in
       rw same
-  found Found.Nothing e =
+  found None e =
       let no : gives v false 0 m ≡ false = find_complete v false 0 (sym e) m small in
       let none : true ≡ false = sym is ∙ no in
       absurd (let z : ◌≡◌ {A = ℕ} 0 1 = cc in omega arith)
 
-  whole : write_of v ≡ Written.Number m false 0
+  whole : write_of v ≡ Some (m, false, 0)
   unfolding write_from
   whole = rw (found (find_of v false 0) refl)
 
@@ -48,18 +47,18 @@ never_nan nan = refl
 never_nan (inf s) = refl
 never_nan (fin s m e) = refl
 
-not_written : (w : Written) → write_of nan ≡ w → w ≡ Written.Refused
-not_written (Written.Number m n q) e =
+not_written : (w : Option (ℕ × Bool × ℕ)) → write_of nan ≡ w → w ≡ None
+not_written (Some (m, n, q)) e =
     let yes : gives nan n q m ≡ true = (write_nearest nan m n q e).value in
     let none : true ≡ false = sym yes ∙ never_nan (value_of m n q) in
     absurd (let z : ◌≡◌ {A = ℕ} 0 1 = cc in omega arith)
-not_written Written.Refused e = refl
+not_written None e = refl
 
-four : write_of (of_bits binary64 0x4010000000000000) ≡ Written.Number 4 false 0
+four : write_of (of_bits binary64 0x4010000000000000) ≡ Some (4, false, 0)
 unfolding eq round of_bits
 four = whole (of_bits binary64 0x4010000000000000) 4 (omega arith) refl
 
-two : write_of (of_bits binary64 0x4000000000000000) ≡ Written.Number 2 false 0
+two : write_of (of_bits binary64 0x4000000000000000) ≡ Some (2, false, 0)
 unfolding eq round of_bits
 two = whole (of_bits binary64 0x4000000000000000) 2 (omega arith) refl
 

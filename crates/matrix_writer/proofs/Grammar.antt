@@ -9,14 +9,13 @@ use lib.Ieee.{Float}
 use lib.ListN.{length, get_or, take, length-append}
 use lib.Seq.{take_all}
 use borrow.Author.Tests.{lt-ltb, ltb-true, leb-true, ne_eqb}
+use Rattle.std.specs.Prelude.{Option, Some, None}
 use Rattle.store.proofs.store.Each.{both_l, both_r}
-use Rattle.decimal.specs.declared.Written.{Written}
 use Rattle.decimal.specs.Decimal.{is_minus, magnitude_of, write_of}
 use Rattle.decimal_text.specs.Field.{is_digit, all_digits}
 use Rattle.decimal_text.specs.Figures.{figures, sign_text, power_text, number_text, text_of, value_text}
 use Rattle.decimal_text.proofs.Trip.{figures_number}
-use Rattle.matrix_market.specs.Lines.{grown, pieces_of, kept, is_some, fields_of, without_return, lines_of, is_data}
-use Rattle.matrix_market.proofs.Data.{return_no}
+use Rattle.matrix_market.specs.Lines.{grown, pieces_of, kept, is_some, fields_of, return_of, without_return, lines_of, is_data}
 use Rattle.record_format.specs.Bytes.{flat}
 use Rattle.record_format.specs.Format.{Matrix}
 use Rattle.matrix_writer.specs.Text.{Triplet, header_text, kind_text, spaced, entry_line, triplets, file_text}
@@ -87,22 +86,22 @@ value_above : (v : Float) → all_above 32 (value_text v) ≡ true
 unfolding all_above
 value_above v = go (is_minus v) (write_of (magnitude_of v))
   where
-    go : (minus : Bool) (w : Written) → all_above 32 (text_of minus w) ≡ true
-    go minus (Written.Number m negative power) =
+    go : (minus : Bool) (w : Option (ℕ × Bool × ℕ)) → all_above 32 (text_of minus w) ≡ true
+    go minus (Some (m, negative, power)) =
         above_append 32 (sign_text minus ++ figures m) (power_text negative power) (above_append 32 (sign_text minus) (figures m) (sign_above minus) (fields_above m)) (power_above negative power)
-    go minus Written.Refused = refl
+    go minus None = refl
 
 value_some : (v : Float) → writable v ≡ true → is_some (value_text v) ≡ true
 value_some v = go (is_minus v) (write_of (magnitude_of v))
   where
-    go : (minus : Bool) (w : Written) → is_found w ≡ true → is_some (text_of minus w) ≡ true
-    go minus (Written.Number m negative power) e = lt-ltb 0 (length (number_text minus m negative power)) (omega (
+    go : (minus : Bool) (w : Option (ℕ × Bool × ℕ)) → is_found w ≡ true → is_some (text_of minus w) ≡ true
+    go minus (Some (m, negative, power)) e = lt-ltb 0 (length (number_text minus m negative power)) (omega (
       arith,
       length-append (sign_text minus ++ figures m) (power_text negative power),
       length-append (sign_text minus) (figures m),
       ltb-true 0 (length (figures m)) (figures_some m),
     ))
-    go minus Written.Refused e = absurd (false≢true e)
+    go minus None e = absurd (false≢true e)
 
 -- ---- pieces
 
@@ -130,6 +129,10 @@ module _ (a b n : ℕ) (p : a ≤ n) (q : b ≤ n) where
       rw c (ap (grown y) (cut_piece l x rest (both_r (ltb n y) (all_above n l) h) e))
 
 -- ---- lines
+
+-- a line that does not end in a carriage return is whole without one
+return_no : (l : List ℕ) → (get_or l (length l - 1) 0 ≡ 13 → ⊥) → length l ≡ return_of l
+return_no l h = let e : ◌≡◌ {A = ℕ} (cond (eqb (get_or l (length l - 1) 0) 13) 1 0) 0 = ap (λ (b : Bool). cond {A = ℕ} b 1 0) (ne_eqb (get_or l (length l - 1) 0) 13 h) in omega arith
 
 -- a line without a carriage return stays
 no_return : (l : List ℕ) → all_above 13 l ≡ true → without_return l ≡ l

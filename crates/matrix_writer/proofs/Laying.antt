@@ -6,15 +6,15 @@ use Prim.Native.Nat.{ℕ, zero, suc, ◌+◌, ◌-◌, ◌*◌, ◌≤◌, ◌<�
 use native.Mathlib.Numerals.{add-one}
 use native.Mathlib.Omega.{arith}
 use lib.Dec.{eqb}
+use mir.Val.{bool_byte}
 use lib.Ieee.{Float}
 use lib.ListN.{length, get_or, take, length-append, length-take}
 use lib.Seq.{take-suc, take_all}
 use borrow.Author.Tests.{not-true, not-false}
+use Rattle.std.specs.Prelude.{Option, Some, None, unwrap_or}
 use Rattle.store.specs.Region.{idx, at}
 use Rattle.store.proofs.store.Region.{length_splice}
-use Rattle.decimal.specs.declared.Written.{Written}
 use Rattle.decimal.specs.Decimal.{write_of, is_minus, magnitude_of}
-use Rattle.decimal_text.specs.declared.figures.Placed.{Placed}
 use Rattle.decimal_text.specs.Figures.{figures, sign_text, power_text, text_of, value_text}
 use Rattle.decimal_text.specs.Contract.{Laid, placed_of, PlacedValue}
 use Rattle.decimal_text.proofs.Writing.{laid_none, laid_on, laid_as, figures_length, sign_length}
@@ -69,20 +69,18 @@ module _ {t : List ℕ} {at : ℕ} {F : List ℕ} where
 
 -- ---- a value
 
-module _ (v : Float) {at : ℕ} {F G : List ℕ} {p : Placed} (a : PlacedValue v at F G p) where
-  pub value_placed : {n : ℕ} → p ≡ Placed.At n → Laid (value_text v) at F G n
-  value_placed {n} e = record { is = a.is; next = go (write_of (magnitude_of v)) (sym e ∙ a.next) }
-    where
-      go : (w : Written) → Placed.At n ≡ placed_of at (is_minus v) w → n ≡ at + length (text_of (is_minus v) w)
-      go (Written.Number m g q) z = cc
-      go Written.Refused z = absurd (let none : ◌≡◌ {A = ℕ} 0 1 = cc in omega arith)
-
-  pub value_none : p ≡ Placed.Outside → Laid (value_text v) at F G at
-  value_none e = record { is = a.is; next = go (write_of (magnitude_of v)) (sym e ∙ a.next) }
-    where
-      go : (w : Written) → Placed.Outside ≡ placed_of at (is_minus v) w → at ≡ at + length (text_of (is_minus v) w)
-      go (Written.Number m g q) z = absurd (let none : ◌≡◌ {A = ℕ} 0 1 = cc in omega arith)
-      go Written.Refused z = omega arith
+-- where a value's text ends, or where it would have begun
+pub value_laid : (v : Float) {at : ℕ} {F G : List ℕ} (p : Option ℕ) → PlacedValue v at F G p → Laid (value_text v) at F G (unwrap_or p at)
+value_laid v {at} (Some n) a = record { is = a.is; next = go (write_of (magnitude_of v)) a.next }
+  where
+    go : (w : Option (ℕ × Bool × ℕ)) → Some n ≡ placed_of at (is_minus v) w → n ≡ at + length (text_of (is_minus v) w)
+    go (Some (m, g, q)) z = cc
+    go None z = absurd (let none : ◌≡◌ {A = ℕ} 0 1 = cc in omega arith)
+value_laid v {at} None a = record { is = a.is; next = go (write_of (magnitude_of v)) a.next }
+  where
+    go : (w : Option (ℕ × Bool × ℕ)) → None ≡ placed_of at (is_minus v) w → at ≡ at + length (text_of (is_minus v) w)
+    go (Some (m, g, q)) z = absurd (let none : ◌≡◌ {A = ℕ} 0 1 = cc in omega arith)
+    go None z = omega arith
 
 -- ---- how long lines are
 
@@ -99,8 +97,8 @@ power_length negative power = go (eqb power 0)
 pub value_length : (v : Float) → length (value_text v) ≤ 43
 value_length v = go (is_minus v) (write_of (magnitude_of v))
   where
-    go : (minus : Bool) (w : Written) → length (text_of minus w) ≤ 43
-    go minus (Written.Number m negative power) = omega (
+    go : (minus : Bool) (w : Option (ℕ × Bool × ℕ)) → length (text_of minus w) ≤ 43
+    go minus (Some (m, negative, power)) = omega (
       arith,
       length-append (sign_text minus ++ figures m) (power_text negative power),
       length-append (sign_text minus) (figures m),
@@ -108,7 +106,7 @@ value_length v = go (is_minus v) (write_of (magnitude_of v))
       figures_length 19 m,
       power_length negative power,
     )
-    go minus Written.Refused = omega arith
+    go minus None = omega arith
 
 pub kind_length : (symmetric : Bool) → length (kind_text symmetric) ≤ 10
 kind_length true = omega arith
@@ -214,13 +212,13 @@ module _ (symmetric : Bool) (m : Matrix) (r e : ℕ) where
     no : t ≡ false → is_written symmetric r (idx m.columns e) ≡ false
     no h = ap (is_written symmetric r) (sym w.is) ∙ sym i ∙ h
 
-    pub counted_yes : t ≡ true → 1 ≡ length (written_at symmetric m r e)
+    pub counted : {n : ℕ} → n ≡ bool_byte t → n ≡ length (written_at symmetric m r e)
     unfolding written_at
-    counted_yes h = let z = yes h in rw z
-
-    pub counted_no : t ≡ false → 0 ≡ length (written_at symmetric m r e)
-    unfolding written_at
-    counted_no h = let z = no h in rw z
+    counted h = h ∙ ap bool_byte (i ∙ ap (is_written symmetric r) w.is) ∙ as_length (is_written symmetric r (idx m.columns e))
+      where
+        as_length : (b : Bool) → bool_byte b ≡ length (cond b (triplet_at m r e ∷ []) [])
+        as_length true = refl
+        as_length false = refl
 
     pub written_none : {at : ℕ} {F : List ℕ} → not t ≡ true → Laid (flat entry_line (written_at symmetric m r e)) at F F at
     unfolding written_at flat
@@ -260,21 +258,34 @@ module _ (symmetric : Bool) (m : Matrix) (r : ℕ) where
     total_is : s.last - s.first ≡ row_length m r
     total_is = rw (w.first_is, w.last_is)
 
-    pub row_count_on : {k n x : ℕ} → CountTo (written_from symmetric m r) (row_length m r) k n → k < s.last - s.first
-        → x ≡ length (written_at symmetric m r (s.first + k)) → CountTo (written_from symmetric m r) (row_length m r) (k + 1) (n + x)
+    -- entry e of the range is the entry of the row at its distance from the first
+    entry_is : {e : ℕ} → s.first ≤ e → written_at symmetric m r e ≡ written_from symmetric m r (e - idx m.offsets r)
     unfolding written_from
-    row_count_on a h e = count_on a (omega (arith, total_is)) (rw w.first_is at e)
+    entry_is {e} g = ap (written_at symmetric m r) (omega (arith, w.first_is))
 
-    pub row_count_end : {k n : ℕ} → CountTo (written_from symmetric m r) (row_length m r) k n → s.last - s.first ≤ k → n ≡ length (row_triplets symmetric m r)
+    pub row_count_start : CountTo (written_from symmetric m r) (row_length m r) (s.first - idx m.offsets r) 0
+    row_count_start = let none : s.first - idx m.offsets r ≡ 0 = omega (arith, w.first_is) in rw none (count_start (written_from symmetric m r) (row_length m r))
+
+    pub row_count_on : {e n x : ℕ} → CountTo (written_from symmetric m r) (row_length m r) (e - idx m.offsets r) n → s.first ≤ e → e < s.last
+        → x ≡ length (written_at symmetric m r e) → CountTo (written_from symmetric m r) (row_length m r) (e + 1 - idx m.offsets r) (n + x)
+    row_count_on {e} a g h i =
+        let next : e + 1 - idx m.offsets r ≡ e - idx m.offsets r + 1 = omega (arith, w.first_is) in
+        rw next (count_on a (omega (arith, total_is)) (i ∙ ap (λ (l : List Triplet). length l) (entry_is g)))
+
+    pub row_count_end : {e n : ℕ} → CountTo (written_from symmetric m r) (row_length m r) (e - idx m.offsets r) n → s.last ≤ e → n ≡ length (row_triplets symmetric m r)
     unfolding row_triplets written_from
     row_count_end a h = count_end a (omega (arith, total_is))
 
-    pub row_laid_on : {k at n o : ℕ} {F G H : List ℕ} → LaidTo (written_from symmetric m r) (row_length m r) k at F G n → k < s.last - s.first
-        → Laid (flat entry_line (written_at symmetric m r (s.first + k))) n G H o → LaidTo (written_from symmetric m r) (row_length m r) (k + 1) at F H o
-    unfolding written_from
-    row_laid_on {k} a h b = laid_step a (omega (arith, total_is)) (laid_as (ap (λ (i : ℕ). flat entry_line (written_at symmetric m r (i + k))) (sym w.first_is)) b)
+    pub row_laid_start : {at : ℕ} {F : List ℕ} → LaidTo (written_from symmetric m r) (row_length m r) (s.first - idx m.offsets r) at F F at
+    row_laid_start = let none : s.first - idx m.offsets r ≡ 0 = omega (arith, w.first_is) in rw none (laid_start (written_from symmetric m r) (row_length m r))
 
-    pub row_laid_end : {k at n : ℕ} {F G : List ℕ} → LaidTo (written_from symmetric m r) (row_length m r) k at F G n → s.last - s.first ≤ k
+    pub row_laid_on : {e at n o : ℕ} {F G H : List ℕ} → LaidTo (written_from symmetric m r) (row_length m r) (e - idx m.offsets r) at F G n → s.first ≤ e → e < s.last
+        → Laid (flat entry_line (written_at symmetric m r e)) n G H o → LaidTo (written_from symmetric m r) (row_length m r) (e + 1 - idx m.offsets r) at F H o
+    row_laid_on {e} a g h b =
+        let next : e + 1 - idx m.offsets r ≡ e - idx m.offsets r + 1 = omega (arith, w.first_is) in
+        rw next (laid_step a (omega (arith, total_is)) (laid_as (ap (flat entry_line) (sym (entry_is g))) b))
+
+    pub row_laid_end : {e at n : ℕ} {F G : List ℕ} → LaidTo (written_from symmetric m r) (row_length m r) (e - idx m.offsets r) at F G n → s.last ≤ e
         → Laid (flat entry_line (row_triplets symmetric m r)) at F G n
     unfolding row_triplets written_from
     row_laid_end a h = laid_end a (omega (arith, total_is))

@@ -1,4 +1,5 @@
 -- What the questions of a record tell, and how they go on. Assumes nothing.
+use Rattle.std.specs.Prelude.{Result, Ok, Err}
 use mathlib.Core.Path.{◌≡◌, refl, sym, ap, ◌∙◌}
 use mathlib.Core.Bool.{Bool, true, false, not, ◌&&◌, and-true}
 use mathlib.Core.List.{List}
@@ -10,7 +11,6 @@ use lib.ListN.{length}
 use borrow.Author.Tests.{eq-eqb, leb-true, not-true, not-false}
 use Rattle.refusal.specs.declared.Refusal.{Refusal}
 use Rattle.refusal.specs.Refusal.{too_large, bad_offsets, bad_columns, bad_number, unequal_mirrors}
-use Rattle.refusal.specs.declared.Verdict.{Verdict}
 use Rattle.refusal.specs.Outcome.{Outcome, accepted, refused, passed, ask, ◌>>=◌, verdict_of}
 use Rattle.refusal.proofs.Outcome.{passes}
 use Rattle.store.specs.Region.{idx, at}
@@ -27,7 +27,7 @@ use Rattle.matrix_writer.specs.Text.{row_length}
 use Rattle.matrix_writer.specs.Writing.{record_ok, writable, mirror_in, entry_asked, row_asked, entries_asked, record_asked}
 use Rattle.matrix_writer.specs.Turns.{asked_from}
 use Rattle.matrix_writer.specs.Contract.{sized_matrix, SizesFit, WordOf, RowsIn, RangeIs, StandsIn, Rises, Sound}
-use Rattle.matrix_writer.proofs.Asking.{Asking, asking_on, asking_stop, asking_done}
+use Rattle.matrix_writer.proofs.Asking.{Asking, asking_start, asking_on, asking_stop, asking_done}
 
 -- ---- entries
 
@@ -45,8 +45,8 @@ module _ {m : Matrix} {r e : ℕ} where
 
 module _ {m : Matrix} {r : ℕ} {s : RowRange} where
   -- The k-th entry of a row stands in it.
-  pub stands_at_lem : {k : ℕ} → r < m.rows → RangeIs m r s → k < s.last - s.first → StandsIn m r (s.first + k)
-  stands_at_lem h w g = record { row = h; from = omega (arith, w.first_is); to = omega (arith, w.last_is) }
+  pub stands_at_lem : {e : ℕ} → r < m.rows → RangeIs m r s → s.first ≤ e → e < s.last → StandsIn m r e
+  stands_at_lem h w g i = record { row = h; from = omega (arith, w.first_is); to = omega (arith, w.last_is) }
 
   -- The columns of a row rise.
   pub range_rises : Sound m → r < m.rows → RangeIs m r s → Rises m.columns s.first s.last
@@ -54,18 +54,18 @@ module _ {m : Matrix} {r : ℕ} {s : RowRange} where
 
 module _ (symmetric : Bool) (m : Matrix) (r e : ℕ) {x : Float} {t : Bool} (v : x ≡ at m.values e) (w : t ≡ writable x) where
   -- An entry's value cannot be written,
-  pub entry_bad : not t ≡ true → Verdict.Refused bad_number ≡ verdict_of (entry_asked symmetric m r e)
+  pub entry_bad : not t ≡ true → Err bad_number ≡ verdict_of (entry_asked symmetric m r e)
   unfolding entry_asked
   entry_bad h = let z : writable (at m.values e) ≡ false = ap writable (sym v) ∙ sym w ∙ not-true t h in rw z
 
   -- it can, and the file is general,
-  pub entry_general : not t ≡ false → not symmetric ≡ true → Verdict.Passed ≡ verdict_of (entry_asked symmetric m r e)
+  pub entry_general : not t ≡ false → not symmetric ≡ true → (Ok tt) ≡ verdict_of (entry_asked symmetric m r e)
   unfolding entry_asked
   entry_general h g = let z : writable (at m.values e) ≡ true = ap writable (sym v) ∙ sym w ∙ not-false t h in rw (z, g)
 
   module _ {c : ℕ} {u : Bool} (p : not t ≡ false) (q : not symmetric ≡ false) (y : WordOf m.columns e c) (k : u ≡ mirror_in m r e c) where
     -- or it has its mirror,
-    pub entry_mirrored : u ≡ true → Verdict.Passed ≡ verdict_of (entry_asked symmetric m r e)
+    pub entry_mirrored : u ≡ true → (Ok tt) ≡ verdict_of (entry_asked symmetric m r e)
     unfolding entry_asked
     entry_mirrored h =
         let z : writable (at m.values e) ≡ true = ap writable (sym v) ∙ sym w ∙ not-false t p in
@@ -73,7 +73,7 @@ module _ (symmetric : Bool) (m : Matrix) (r e : ℕ) {x : Float} {t : Bool} (v :
         rw (z, q, n)
 
     -- or not.
-    pub entry_alone : u ≡ false → Verdict.Refused unequal_mirrors ≡ verdict_of (entry_asked symmetric m r e)
+    pub entry_alone : u ≡ false → Err unequal_mirrors ≡ verdict_of (entry_asked symmetric m r e)
     unfolding entry_asked
     entry_alone h =
         let z : writable (at m.values e) ≡ true = ap writable (sym v) ∙ sym w ∙ not-false t p in
@@ -82,26 +82,31 @@ module _ (symmetric : Bool) (m : Matrix) (r e : ℕ) {x : Float} {t : Bool} (v :
 
 -- ---- the entries of a row
 
-module _ (symmetric : Bool) (m : Matrix) (r : ℕ) {s : RowRange} {k : ℕ} (w : RangeIs m r s) (a : Asking (asked_from symmetric m r) (row_length m r) k) where
+module _ (symmetric : Bool) (m : Matrix) (r : ℕ) {s : RowRange} (w : RangeIs m r s) where
   same_length : s.last - s.first ≡ row_length m r
   same_length = rw (w.first_is, w.last_is)
 
-  same_asked : {v : Verdict} → v ≡ verdict_of (entry_asked symmetric m r (s.first + k)) → v ≡ verdict_of (asked_from symmetric m r k)
+  pub row_begin : Asking (asked_from symmetric m r) (row_length m r) (s.first - idx m.offsets r)
+  row_begin = let none : s.first - idx m.offsets r ≡ 0 = omega (arith, w.first_is) in rw none (asking_start (asked_from symmetric m r) (row_length m r))
+
+  same_asked : {e : ℕ} {v : Result Unit Refusal} → s.first ≤ e → v ≡ verdict_of (entry_asked symmetric m r e) → v ≡ verdict_of (asked_from symmetric m r (e - idx m.offsets r))
   unfolding asked_from
-  same_asked e = rw w.first_is at e
+  same_asked g i = i ∙ ap (λ (d : ℕ). verdict_of (entry_asked symmetric m r d)) (omega (arith, w.first_is))
 
-  pub row_go : {v : Verdict} → k < s.last - s.first → v ≡ verdict_of (entry_asked symmetric m r (s.first + k)) → v ≡ Verdict.Passed
-      → Asking (asked_from symmetric m r) (row_length m r) (k + 1)
-  row_go h e y = asking_on a (omega (arith, same_length)) (same_asked e) y
+  pub row_go : {e : ℕ} {v : Result Unit Refusal} → Asking (asked_from symmetric m r) (row_length m r) (e - idx m.offsets r) → s.first ≤ e → e < s.last → v ≡ verdict_of (entry_asked symmetric m r e) → v ≡ Ok tt
+      → Asking (asked_from symmetric m r) (row_length m r) (e + 1 - idx m.offsets r)
+  row_go {e} a g h i y =
+      let next : e + 1 - idx m.offsets r ≡ e - idx m.offsets r + 1 = omega (arith, w.first_is) in
+      rw next (asking_on a (omega (arith, same_length)) (same_asked g i) y)
 
-  pub row_stop : {v : Verdict} {q : Refusal} → k < s.last - s.first → v ≡ verdict_of (entry_asked symmetric m r (s.first + k)) → v ≡ Verdict.Refused q
-      → Verdict.Refused q ≡ verdict_of (row_asked symmetric m r)
+  pub row_stop : {e : ℕ} {v : Result Unit Refusal} {q : Refusal} → Asking (asked_from symmetric m r) (row_length m r) (e - idx m.offsets r) → s.first ≤ e → e < s.last → v ≡ verdict_of (entry_asked symmetric m r e) → v ≡ Err q
+      → Err q ≡ verdict_of (row_asked symmetric m r)
   unfolding row_asked asked_from
-  row_stop h e y = asking_stop a (omega (arith, same_length)) (same_asked e) y
+  row_stop a g h i y = asking_stop a (omega (arith, same_length)) (same_asked g i) y
 
-  pub row_end : s.last - s.first ≤ k → Verdict.Passed ≡ verdict_of (row_asked symmetric m r)
+  pub row_end : {e : ℕ} → Asking (asked_from symmetric m r) (row_length m r) (e - idx m.offsets r) → s.last ≤ e → (Ok tt) ≡ verdict_of (row_asked symmetric m r)
   unfolding row_asked asked_from
-  row_end h = asking_done a (omega (arith, same_length))
+  row_end a h = asking_done a (omega (arith, same_length))
 
 -- ---- the record
 
@@ -115,7 +120,7 @@ sizes_told {rows} {entries} {t} e h =
     }
 
 -- A record of another mark or length is refused.
-pub record_bad : (symmetric : Bool) (b : List ℕ) {k : Bool} → k ≡ record_ok b → not k ≡ true → Verdict.Refused bad_record ≡ verdict_of (record_asked symmetric b)
+pub record_bad : (symmetric : Bool) (b : List ℕ) {k : Bool} → k ≡ record_ok b → not k ≡ true → Err bad_record ≡ verdict_of (record_asked symmetric b)
 unfolding record_asked
 record_bad symmetric b {k} o h = let z : record_ok b ≡ false = sym o ∙ not-true k h in rw z
 
@@ -183,27 +188,27 @@ module _ (b : List ℕ) (rows entries : ℕ) where
     opened h = let z : record_ok b ≡ true = sym o ∙ not-false k h in rw (p.is, q.is, z)
 
     module _ {t : Bool} (y : not k ≡ false) (e : t ≡ (leb rows 65536 && leb entries 1048576)) where
-      pub sizes_bad : not t ≡ true → Verdict.Refused too_large ≡ verdict_of (record_asked symmetric b)
+      pub sizes_bad : not t ≡ true → Err too_large ≡ verdict_of (record_asked symmetric b)
       sizes_bad h =
           let z : size_ok rows cols ≡ false = sizes_is ∙ sym e ∙ not-true t h in
           rw (opened y, z)
 
       module _ {u : Bool} (f : not t ≡ false) (g : u ≡ offsets_ok rows offs cols vals) where
-        pub offsets_bad : not u ≡ true → Verdict.Refused bad_offsets ≡ verdict_of (record_asked symmetric b)
+        pub offsets_bad : not u ≡ true → Err bad_offsets ≡ verdict_of (record_asked symmetric b)
         offsets_bad h =
             let z : size_ok rows cols ≡ true = sizes_is ∙ sym e ∙ not-false t f in
             let w : offsets_ok rows offs cols vals ≡ false = sym g ∙ not-true u h in
             rw (opened y, z, w)
 
         module _ {v : Bool} (i : not u ≡ false) (j : v ≡ columns_ok rows offs cols) where
-          pub columns_bad : not v ≡ true → Verdict.Refused bad_columns ≡ verdict_of (record_asked symmetric b)
+          pub columns_bad : not v ≡ true → Err bad_columns ≡ verdict_of (record_asked symmetric b)
           columns_bad h =
               let z : size_ok rows cols ≡ true = sizes_is ∙ sym e ∙ not-false t f in
               let w : offsets_ok rows offs cols vals ≡ true = sym g ∙ not-false u i in
               let x : columns_ok rows offs cols ≡ false = sym j ∙ not-true v h in
               rw (opened y, z, w, x)
 
-          pub arrays_good : {a : Verdict} → not v ≡ false → a ≡ verdict_of (entries_asked symmetric (sized_matrix b rows entries)) → a ≡ verdict_of (record_asked symmetric b)
+          pub arrays_good : {a : Result Unit Refusal} → not v ≡ false → a ≡ verdict_of (entries_asked symmetric (sized_matrix b rows entries)) → a ≡ verdict_of (record_asked symmetric b)
           arrays_good h l =
               let z : size_ok rows cols ≡ true = sizes_is ∙ sym e ∙ not-false t f in
               let w : offsets_ok rows offs cols vals ≡ true = sym g ∙ not-false u i in
@@ -211,7 +216,7 @@ module _ (b : List ℕ) (rows entries : ℕ) where
               l ∙ rw (opened y, z, w, x)
 
 -- what is followed by more passed where all passed
-first_passed : (o : Outcome Unit) (f : Unit → Outcome Unit) → verdict_of (◌>>=◌ o f) ≡ Verdict.Passed → verdict_of o ≡ Verdict.Passed
+first_passed : (o : Outcome Unit) (f : Unit → Outcome Unit) → verdict_of (◌>>=◌ o f) ≡ Ok tt → verdict_of o ≡ Ok tt
 first_passed (accepted a) f e = refl
 first_passed (refused q) f e = e
 
@@ -222,7 +227,7 @@ unfolding record_asked
 ready symmetric b {rows} {entries} p q e =
     let m = matrix_at b in
     let next = ◌>>=◌ (matrix_asked m.rows m.offsets m.columns m.values) (λ _. entries_asked symmetric m) in
-    let d : verdict_of (ask (record_ok b) bad_record next) ≡ Verdict.Passed = ap verdict_of e in
+    let d : verdict_of (ask (record_ok b) bad_record next) ≡ Ok tt = ap verdict_of e in
     let a = asked_yes (record_ok b) bad_record next d in
     let f = first_passed (matrix_asked m.rows m.offsets m.columns m.values) (λ _. entries_asked symmetric m) a.1 in
     let g = asked_yes (size_ok m.rows m.columns) too_large (ask (offsets_ok m.rows m.offsets m.columns m.values) bad_offsets (ask (columns_ok m.rows m.offsets m.columns) bad_columns passed)) f in
@@ -234,7 +239,7 @@ ready symmetric b {rows} {entries} p q e =
     )
 
 -- what follows passed where all passed
-then_passed : (o r : Outcome Unit) → verdict_of (◌>>=◌ o (λ _. r)) ≡ Verdict.Passed → verdict_of r ≡ Verdict.Passed
+then_passed : (o r : Outcome Unit) → verdict_of (◌>>=◌ o (λ _. r)) ≡ Ok tt → verdict_of r ≡ Ok tt
 then_passed (accepted a) r e = e
 then_passed (refused q) r e = absurd (let none : ◌≡◌ {A = ℕ} 0 1 = cc in omega arith)
 
@@ -246,7 +251,7 @@ sound_ready symmetric b e =
     let m = matrix_at b in
     let asked = matrix_asked m.rows m.offsets m.columns m.values in
     let next = ◌>>=◌ asked (λ _. entries_asked symmetric m) in
-    let d : verdict_of (ask (record_ok b) bad_record next) ≡ Verdict.Passed = ap verdict_of e in
+    let d : verdict_of (ask (record_ok b) bad_record next) ≡ Ok tt = ap verdict_of e in
     let a = asked_yes (record_ok b) bad_record next d in
     let f = first_passed asked (λ _. entries_asked symmetric m) a.1 in
     let g = asked_yes (size_ok m.rows m.columns) too_large (ask (offsets_ok m.rows m.offsets m.columns m.values) bad_offsets (ask (columns_ok m.rows m.offsets m.columns) bad_columns passed)) f in

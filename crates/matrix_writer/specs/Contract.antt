@@ -1,12 +1,12 @@
 -- What the functions of the writer require and ensure. Definitions only.
-use Rattle.std.specs.Prelude.{◌≡◌, Bool, List, ℕ, ◌+◌, ◌*◌, ◌≤◌, ◌<◌, length}
+use Rattle.refusal.specs.declared.Refusal.{Refusal}
+use Rattle.std.specs.Prelude.{◌≡◌, Bool, List, ℕ, ◌+◌, ◌*◌, ◌≤◌, ◌<◌, length, Result}
 use Rattle.refusal.specs.Outcome.{Outcome, passed}
 use Rattle.store.specs.Region.{idx}
 use Rattle.store.specs.Vector.{filled}
 use Rattle.record_format.specs.Bytes.{words_at, floats_at}
 use Rattle.record_format.specs.Format.{Matrix}
 use Rattle.matrix_writer.specs.declared.arrays.RowRange.{RowRange}
-use Rattle.matrix_writer.specs.declared.writer.FileWritten.{FileWritten}
 use Rattle.matrix_writer.specs.Writing.{record_asked, file_answer, written_text, zeros_behind}
 
 -- the matrix in the bytes of a record with so many rows and entries
@@ -76,6 +76,6 @@ pub record Ready (symmetric : Bool) (b F : List ℕ) : Type 0 where
   pub cleared : F ≡ filled (length F) 0
 
 -- A file was written: the answer, and the text with zeros behind it in the slice that was lent.
-pub record WriteDone (o : Outcome (List ℕ)) (F G : List ℕ) (r : FileWritten) : Type 0 where
+pub record WriteDone (o : Outcome (List ℕ)) (F G : List ℕ) (r : Result ℕ Refusal) : Type 0 where
   pub answer : r ≡ file_answer o
   pub out : G ≡ zeros_behind (length F) (written_text o)

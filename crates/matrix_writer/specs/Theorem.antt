@@ -1,11 +1,10 @@
 -- What is proved of a written text (proofs/Grammar.antt, proofs/Entries.antt). Definitions only.
-use Rattle.std.specs.Prelude.{◌≡◌, Bool, true, false, ◌&&◌, List, [], ◌∷◌, ◌++◌, map, ℕ, ◌+◌, ◌<◌, ltb, Float, length}
+use Rattle.std.specs.Prelude.{Option, Some, None, Result, Ok, ◌≡◌, Bool, true, false, ◌&&◌, List, [], ◌∷◌, ◌++◌, map, ℕ, ◌+◌, ◌<◌, ltb, Float, length}
 use Rattle.std.specs.Float.{nan}
 use Rattle.std.specs.Float.Ieee.{eq}
-use Rattle.decimal.specs.declared.Written.{Written}
 use Rattle.decimal.specs.Decimal.{value_of, signed_of, is_minus, magnitude_of, write_of}
 use Rattle.decimal_text.specs.Figures.{figures, value_text}
-use Rattle.matrix_market.specs.declared.placed.Placed.{Placed}
+use Rattle.matrix_market.specs.declared.placed.PlacedError.{PlacedError}
 use Rattle.matrix_market.specs.Lines.{fields_of, lines_of, data_of}
 use Rattle.matrix_market.specs.Placed.{placed_in}
 use Rattle.record_format.specs.Format.{Matrix}
@@ -26,9 +25,9 @@ abbrev pub entry_text : Triplet → List ℕ
 entry_text t = spaced (t.row + 1) ++ spaced (t.column + 1) ++ value_text t.value
 
 -- the value of what was found for a value; a NaN where nothing was
-abbrev pub found_value : Bool → Written → Float
-found_value minus (Written.Number m negative power) = signed_of minus (value_of m negative power)
-found_value minus Written.Refused = nan
+abbrev pub found_value : Bool → Option (ℕ × Bool × ℕ) → Float
+found_value minus (Some (m, negative, power)) = signed_of minus (value_of m negative power)
+found_value minus None = nan
 
 -- the value that the text of a value is read as: itself, but for +0 in the place of -0
 abbrev pub read_back : Float → Float
@@ -47,8 +46,8 @@ EachIn P [] = Unit
 EachIn P (t ∷ l) = P t × EachIn P l
 
 -- an entry as it is read
-abbrev pub back_of : Triplet → Placed
-back_of t = Placed.Entry t.row t.column (read_back t.value)
+abbrev pub back_of : Triplet → Result (ℕ × ℕ × Float) PlacedError
+back_of t = Ok (t.row, t.column, read_back t.value)
 
 -- A text that was written is in the grammar: its lines are the header, the sizes and the entries, each with its line feed; those that count are the
 -- sizes and the entries; the sizes have their three fields; and each entry is read as it was, its value as one that equals it.

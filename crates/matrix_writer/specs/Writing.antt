@@ -1,5 +1,6 @@
 -- What is asked of an MX record before it is written, and what writing it answers. Definitions only.
-use Rattle.std.specs.Prelude.{Bool, true, false, not, ◌&&◌, ◌||◌, List, [], ◌++◌, ℕ, ◌+◌, ◌-◌, eqb, leb, length, Float}
+use Rattle.refusal.specs.declared.Refusal.{Refusal}
+use Rattle.std.specs.Prelude.{Option, Some, None, Bool, true, false, not, ◌&&◌, ◌||◌, List, [], ◌++◌, ℕ, ◌+◌, ◌-◌, eqb, leb, length, Float, Result, Ok, Err}
 use Rattle.std.specs.Float.Ieee.{eq}
 use Rattle.refusal.specs.Outcome.{Outcome, accepted, refused, passed, ask, ◌>>=◌, ◌>>◌, ask_each}
 use Rattle.refusal.specs.Refusal.{store_too_small, bad_number, unequal_mirrors}
@@ -7,12 +8,10 @@ use Rattle.store.specs.Region.{idx, at}
 use Rattle.store.specs.Vector.{filled}
 use Rattle.pattern.specs.Pattern.{some}
 use Rattle.csr.specs.Questions.{matrix_asked}
-use Rattle.decimal.specs.declared.Written.{Written}
 use Rattle.decimal.specs.Decimal.{write_of, magnitude_of}
 use Rattle.record_format.specs.declared.marks.Mark.{Mark}
 use Rattle.record_format.specs.Bytes.{u32_at}
 use Rattle.record_format.specs.Format.{bad_record, Matrix, marked, matrix_length, matrix_at}
-use Rattle.matrix_writer.specs.declared.writer.FileWritten.{FileWritten}
 use Rattle.matrix_writer.specs.Text.{row_length, file_text}
 
 -- ---- questions
@@ -22,9 +21,9 @@ unfoldable pub record_ok : List ℕ → Bool
 record_ok b = marked Mark.Matrix b && eqb (length b) (matrix_length (u32_at b 2) (u32_at b 6))
 
 -- whether a number was found
-abbrev pub is_found : Written → Bool
-is_found (Written.Number m negative power) = true
-is_found Written.Refused = false
+abbrev pub is_found : Option (ℕ × Bool × ℕ) → Bool
+is_found (Some (m, negative, power)) = true
+is_found None = false
 
 -- whether some number of at most 15 digits and with a power from -22 to 22 gives a value
 abbrev pub writable : Float → Bool
@@ -70,9 +69,9 @@ write_file symmetric size b = do
   accepted (file_text symmetric (matrix_at b))
 
 -- how many bytes were written, or the refusal
-abbrev pub file_answer : Outcome (List ℕ) → FileWritten
-file_answer (accepted text) = FileWritten.Wrote (length text)
-file_answer (refused q) = FileWritten.Refused q
+abbrev pub file_answer : Outcome (List ℕ) → Result ℕ Refusal
+file_answer (accepted text) = Ok (length text)
+file_answer (refused q) = Err q
 
 -- what was written, and nothing where it was refused
 abbrev pub written_text : Outcome (List ℕ) → List ℕ

@@ -51,10 +51,7 @@ pub fn range_at(b: &[u8], rows: usize, entries: usize, row: usize) -> RowRange
 {
     let first = offset_at(b, rows, entries, row);
     let last = offset_at(b, rows, entries, row + 1);
-    RowRange {
-        first: first,
-        last: last,
-    }
+    RowRange { first, last }
 }
 
 // The column of entry e.

@@ -6,4 +6,4 @@ pub mod lines;
 pub mod questions;
 pub mod writer;
 
-pub use writer::{FileWritten, write_matrix_file};
+pub use writer::write_matrix_file;

@@ -7,18 +7,15 @@ ghost use Rattle.record_format.specs.Bytes.{flat};
 ghost use Rattle.matrix_writer.specs.Text.{kind_text, spaced, size_line, entry_line, is_written, written_at, row_triplets, triplets, file_text};
 ghost use Rattle.matrix_writer.specs.Contract.{sized_matrix, SizesFit, RowsIn};
 
-use crate::arrays::{column_at, range_at, value_at};
-use decimal_text::figures::{Placed, put_byte, put_number, put_value};
+use crate::arrays::{RowRange, column_at, range_at, value_at};
+use decimal_text::figures::{put_byte, put_number, put_value};
 
 // Every byte zero.
 pub fn zero_bytes(out: &mut [u8])
     ensures { out.new ≡ filled (length out.old) 0 }
 {
-    let mut k = 0;
-    while k < out.len() {
-        out[k] = 0;
-        k += 1;
-    }
+    let n = out.len();
+    store::fill(out, 0, n, 0);
 }
 
 // Bytes as they are.
@@ -27,11 +24,8 @@ fn put_bytes(out: &mut [u8], at: usize, text: &[u8]) -> usize
     ensures { Laid text.now at out.old out.new result }
 {
     let mut next = at;
-    let mut k = 0;
-    while k < text.len() {
-        let byte = text[k];
+    for &byte in text {
         next = put_byte(out, next, byte);
-        k += 1;
     }
     next
 }
@@ -72,11 +66,7 @@ fn put_float(out: &mut [u8], at: usize, v: f64) -> usize
     requires { at ≤ 2000000000 }
     ensures { Laid (value_text v) at out.old out.new result }
 {
-    let placed = put_value(out, at, v);
-    match placed {
-        Placed::At(next) => next,
-        Placed::Outside => at,
-    }
+    put_value(out, at, v).unwrap_or(at)
 }
 
 // The line of an entry; its row and column are counted from 0 here and from 1 in the file.
@@ -136,15 +126,10 @@ fn put_row(
     requires row_lt_rows { (row < rows) × (at ≤ 500000000) }
     ensures { Laid (flat entry_line (row_triplets symmetric (sized_matrix b.now rows entries) row)) at out.old out.new result }
 {
-    let range = range_at(b, rows, entries, row);
-    let first = range.first;
-    let last = range.last;
-    let count = last - first;
+    let RowRange { first, last } = range_at(b, rows, entries, row);
     let mut next = at;
-    let mut k = 0;
-    while k < count {
-        next = put_written(symmetric, b, rows, entries, row, first + k, out, next);
-        k += 1;
+    for e in first..last {
+        next = put_written(symmetric, b, rows, entries, row, e, out, next);
     }
     next
 }
@@ -164,10 +149,8 @@ fn put_rows(
     ensures { Laid (flat entry_line (triplets symmetric (sized_matrix b.now rows entries))) at out.old out.new result }
 {
     let mut next = at;
-    let mut row = 0;
-    while row < rows {
+    for row in 0..rows {
         next = put_row(symmetric, b, rows, entries, row, out, next);
-        row += 1;
     }
     next
 }
@@ -186,11 +169,7 @@ fn count_entry(
     ensures { result ≡ length (written_at symmetric (sized_matrix b.now rows entries) row e) }
 {
     let column = column_at(b, rows, entries, e);
-    if is_written(symmetric, row, column) {
-        1
-    } else {
-        0
-    }
+    usize::from(is_written(symmetric, row, column))
 }
 
 // How many entries of a row are written.
@@ -200,15 +179,10 @@ fn count_row(symmetric: bool, b: &[u8], rows: usize, entries: usize, row: usize)
     requires row_lt_rows { row < rows }
     ensures { result ≡ length (row_triplets symmetric (sized_matrix b.now rows entries) row) }
 {
-    let range = range_at(b, rows, entries, row);
-    let first = range.first;
-    let last = range.last;
-    let count = last - first;
+    let RowRange { first, last } = range_at(b, rows, entries, row);
     let mut n = 0;
-    let mut k = 0;
-    while k < count {
-        n += count_entry(symmetric, b, rows, entries, row, first + k);
-        k += 1;
+    for e in first..last {
+        n += count_entry(symmetric, b, rows, entries, row, e);
     }
     n
 }
@@ -220,10 +194,8 @@ fn count_written(symmetric: bool, b: &[u8], rows: usize, entries: usize) -> usiz
     ensures { result ≡ length (triplets symmetric (sized_matrix b.now rows entries)) }
 {
     let mut n = 0;
-    let mut row = 0;
-    while row < rows {
+    for row in 0..rows {
         n += count_row(symmetric, b, rows, entries, row);
-        row += 1;
     }
     n
 }

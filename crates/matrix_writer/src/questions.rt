@@ -5,10 +5,9 @@ ghost use Rattle.csr.specs.Questions.{never_fall, offsets_ok, entry_ok, row_ok, 
 ghost use Rattle.matrix_writer.specs.Writing.{record_ok, writable, mirror_in, entry_asked, row_asked, entries_asked, record_asked};
 ghost use Rattle.matrix_writer.specs.Contract.{sized_matrix, SizesFit, Span, StandsIn, RowsIn, Rises, Sound, LowerBound};
 
-use crate::arrays::{column_at, offset_at, range_at, size_at, value_at};
-use decimal::Written;
+use crate::arrays::{RowRange, column_at, offset_at, range_at, size_at, value_at};
 use record_format::{Mark, is_marked};
-use refusal::Verdict;
+use refusal::Refusal;
 
 // Whether bytes are an MX record. The sizes are below 2^32 each, so the length that they ask for does not wrap.
 fn is_record(b: &[u8]) -> bool
@@ -31,13 +30,10 @@ fn never_fall(b: &[u8], rows: usize, entries: usize) -> bool
     requires { SizesFit rows entries }
     ensures { result ≡ never_fall rows (sized_matrix b.now rows entries).offsets }
 {
-    let mut row = 0;
-    while row < rows {
+    for row in 0..rows {
         let first = offset_at(b, rows, entries, row);
         let last = offset_at(b, rows, entries, row + 1);
-        if first <= last {
-            row += 1;
-        } else {
+        if first > last {
             return false;
         }
     }
@@ -75,16 +71,7 @@ fn row_rises(b: &[u8], rows: usize, entries: usize, first: usize, last: usize) -
     requires span { Span entries first last }
     ensures { result ≡ row_ok rows (sized_matrix b.now rows entries).columns first last }
 {
-    let count = last - first;
-    let mut k = 0;
-    while k < count {
-        if entry_fits(b, rows, entries, last, first + k) {
-            k += 1;
-        } else {
-            return false;
-        }
-    }
-    true
+    (first..last).all(|e| entry_fits(b, rows, entries, last, e))
 }
 
 // Question 3. As question 2 has passed, each row lies among the entries.
@@ -93,14 +80,9 @@ fn columns_rise(b: &[u8], rows: usize, entries: usize) -> bool
     requires rows_in { RowsIn (sized_matrix b.now rows entries) }
     ensures { result ≡ columns_ok rows (sized_matrix b.now rows entries).offsets (sized_matrix b.now rows entries).columns }
 {
-    let mut row = 0;
-    while row < rows {
-        let range = range_at(b, rows, entries, row);
-        let first = range.first;
-        let last = range.last;
-        if row_rises(b, rows, entries, first, last) {
-            row += 1;
-        } else {
+    for row in 0..rows {
+        let RowRange { first, last } = range_at(b, rows, entries, row);
+        if !row_rises(b, rows, entries, first, last) {
             return false;
         }
     }
@@ -111,11 +93,7 @@ fn columns_rise(b: &[u8], rows: usize, entries: usize) -> bool
 fn is_writable(v: f64) -> bool
     ensures { result ≡ writable v }
 {
-    let w = decimal::write(decimal::magnitude(v));
-    match w {
-        Written::Number(_, _, _) => true,
-        Written::Refused => false,
-    }
+    decimal::write(decimal::magnitude(v)).is_some()
 }
 
 // The first of the rising columns from `first` to `last` that is not below `column`: by bisection.
@@ -134,6 +112,7 @@ fn lower_bound(
 {
     let mut low = first;
     let mut high = last;
+    // A while: the entries that are left are halved each time, so there is no range to walk.
     while low < high {
         let middle = low + (high - low) / 2;
         let here = column_at(b, rows, entries, middle);
@@ -153,9 +132,7 @@ fn has_mirror(b: &[u8], rows: usize, entries: usize, row: usize, column: usize, 
     requires column_lt_rows { (column < rows) × (e < entries) }
     ensures { result ≡ mirror_in (sized_matrix b.now rows entries) row e column }
 {
-    let range = range_at(b, rows, entries, column);
-    let first = range.first;
-    let last = range.last;
+    let RowRange { first, last } = range_at(b, rows, entries, column);
     let d = lower_bound(b, rows, entries, first, last, row);
     if last <= d {
         return false;
@@ -177,7 +154,7 @@ fn entry_verdict(
     entries: usize,
     row: usize,
     e: usize,
-) -> Verdict
+) -> Result<(), Refusal>
     requires sizes_fit { SizesFit rows entries }
     requires sound { Sound (sized_matrix b.now rows entries) }
     requires stands_in { StandsIn (sized_matrix b.now rows entries) row e }
@@ -185,83 +162,68 @@ fn entry_verdict(
 {
     let value = value_at(b, rows, entries, e);
     if !is_writable(value) {
-        return Verdict::Refused(refusal::BAD_NUMBER);
+        return Err(refusal::BAD_NUMBER);
     }
     if !symmetric {
-        return Verdict::Passed;
+        return Ok(());
     }
     let column = column_at(b, rows, entries, e);
     if has_mirror(b, rows, entries, row, column, e) {
-        Verdict::Passed
+        Ok(())
     } else {
-        Verdict::Refused(refusal::UNEQUAL_MIRRORS)
+        Err(refusal::UNEQUAL_MIRRORS)
     }
 }
 
 // What is asked of the entries of a row.
-fn row_verdict(symmetric: bool, b: &[u8], rows: usize, entries: usize, row: usize) -> Verdict
+fn row_verdict(
+    symmetric: bool,
+    b: &[u8],
+    rows: usize,
+    entries: usize,
+    row: usize,
+) -> Result<(), Refusal>
     requires sizes_fit { SizesFit rows entries }
     requires sound { Sound (sized_matrix b.now rows entries) }
     requires row_lt_rows { row < rows }
     ensures { result ≡ verdict_of (row_asked symmetric (sized_matrix b.now rows entries) row) }
 {
-    let range = range_at(b, rows, entries, row);
-    let first = range.first;
-    let last = range.last;
-    let count = last - first;
-    let mut k = 0;
-    while k < count {
-        let v = entry_verdict(symmetric, b, rows, entries, row, first + k);
-        match v {
-            Verdict::Refused(q) => {
-                return Verdict::Refused(q);
-            }
-            Verdict::Passed => {
-                k += 1;
-            }
-        }
+    let RowRange { first, last } = range_at(b, rows, entries, row);
+    for e in first..last {
+        entry_verdict(symmetric, b, rows, entries, row, e)?;
     }
-    Verdict::Passed
+    Ok(())
 }
 
 // What is asked of all entries, by row and then by column.
-fn entries_verdict(symmetric: bool, b: &[u8], rows: usize, entries: usize) -> Verdict
+fn entries_verdict(symmetric: bool, b: &[u8], rows: usize, entries: usize) -> Result<(), Refusal>
     requires sizes_fit { SizesFit rows entries }
     requires sound { Sound (sized_matrix b.now rows entries) }
     ensures { result ≡ verdict_of (entries_asked symmetric (sized_matrix b.now rows entries)) }
 {
-    let mut row = 0;
-    while row < rows {
-        let v = row_verdict(symmetric, b, rows, entries, row);
-        match v {
-            Verdict::Refused(q) => {
-                return Verdict::Refused(q);
-            }
-            Verdict::Passed => {
-                row += 1;
-            }
-        }
+    for row in 0..rows {
+        row_verdict(symmetric, b, rows, entries, row)?;
     }
-    Verdict::Passed
+    Ok(())
 }
 
 // What is asked of a record: 32, 1, 2, 3, and then 39 and 40 entry by entry.
-pub fn check_record(symmetric: bool, b: &[u8]) -> Verdict
+pub fn check_record(symmetric: bool, b: &[u8]) -> Result<(), Refusal>
     ensures { result ≡ verdict_of (record_asked symmetric b.now) }
 {
     if !is_record(b) {
-        return Verdict::Refused(record_format::BAD_RECORD);
+        return Err(record_format::BAD_RECORD);
     }
     let rows = size_at(b, 2);
     let entries = size_at(b, 6);
     if !sizes_fit(rows, entries) {
-        return Verdict::Refused(refusal::TOO_LARGE);
+        return Err(refusal::TOO_LARGE);
     }
     if !offsets_fit(b, rows, entries) {
-        return Verdict::Refused(refusal::BAD_OFFSETS);
+        return Err(refusal::BAD_OFFSETS);
     }
     if !columns_rise(b, rows, entries) {
-        return Verdict::Refused(refusal::BAD_COLUMNS);
+        return Err(refusal::BAD_COLUMNS);
     }
     entries_verdict(symmetric, b, rows, entries)
 }

@@ -6,17 +6,10 @@ ghost use Rattle.std.specs.Prelude.{length};
 use crate::arrays::size_at;
 use crate::lines::{put_file, zero_bytes};
 use crate::questions::check_record;
-use refusal::{Refusal, Verdict};
-
-// How many bytes the text has, or the refusal of the record or of the output.
-#[derive(Clone, Copy)]
-pub enum FileWritten {
-    Wrote(usize),
-    Refused(Refusal),
-}
+use refusal::Refusal;
 
 // The text of a record that passed its questions, into an output of zeros; where it is too short, the output is cleared again.
-fn write_checked(symmetric: bool, mx: &[u8], out: &mut [u8]) -> FileWritten
+fn write_checked(symmetric: bool, mx: &[u8], out: &mut [u8]) -> Result<usize, Refusal>
     requires { Ready symmetric mx.now out.old }
     ensures { WriteDone (write_file symmetric (length out.old) mx.now) out.old out.new result }
 {
@@ -24,21 +17,18 @@ fn write_checked(symmetric: bool, mx: &[u8], out: &mut [u8]) -> FileWritten
     let entries = size_at(mx, 6);
     let size = put_file(symmetric, mx, rows, entries, out);
     if size <= out.len() {
-        return FileWritten::Wrote(size);
+        return Ok(size);
     }
     zero_bytes(out);
-    FileWritten::Refused(refusal::STORE_TOO_SMALL)
+    Err(refusal::STORE_TOO_SMALL)
 }
 
 // The text of an MX record, symmetric or general, with zeros behind it; all zeros where it is refused. The output is cleared first, so that
 // nothing but the text is left of what is written.
-pub fn write_matrix_file(symmetric: bool, mx: &[u8], out: &mut [u8]) -> FileWritten
+pub fn write_matrix_file(symmetric: bool, mx: &[u8], out: &mut [u8]) -> Result<usize, Refusal>
     ensures { WriteDone (write_file symmetric (length out.old) mx.now) out.old out.new result }
 {
     zero_bytes(out);
-    let asked = check_record(symmetric, mx);
-    match asked {
-        Verdict::Refused(q) => FileWritten::Refused(q),
-        Verdict::Passed => write_checked(symmetric, mx, out),
-    }
+    check_record(symmetric, mx)?;
+    write_checked(symmetric, mx, out)
 }

@@ -5,15 +5,15 @@ ghost use Rattle.csr.specs.Questions.{matrix_asked};
 ghost use Rattle.csr.specs.Weights.{weights_asked};
 ghost use Rattle.meshprobe.specs.Mesh.{answer_of};
 
-use refusal::Verdict;
+use refusal::Refusal;
 
 // Zero where it passed, or the number of a refusal that names no place.
-fn unplaced(verdict: Verdict) -> u64
+fn unplaced(verdict: Result<(), Refusal>) -> u64
     ensures { result ≡ answer_of verdict }
 {
     match verdict {
-        Verdict::Passed => 0,
-        Verdict::Refused(refusal) => refusal.number,
+        Ok(()) => 0,
+        Err(refusal) => refusal.number,
     }
 }
 

@@ -32,14 +32,14 @@ pub fn probe_pairs(
         w.old w.new result }
 {
     let g = Graph {
-        rows: rows,
-        entries: entries,
-        offsets: offsets,
-        columns: columns,
-        map: map,
-        weights: weights,
+        rows,
+        entries,
+        offsets,
+        columns,
+        map,
+        weights,
         absolute: absolute != 0,
-        cap: cap,
+        cap,
     };
     aggregation::pairs(w, f, g, forward != 0)
 }
@@ -63,16 +63,16 @@ pub fn probe_coarse_pattern(
         (coarsening_of rows entries count offsets columns map positions coarse_offsets coarse_columns scratch) result }
 {
     let c = Coarsening {
-        rows: rows,
-        entries: entries,
-        count: count,
-        offsets: offsets,
-        columns: columns,
-        map: map,
-        positions: positions,
-        coarse_offsets: coarse_offsets,
-        coarse_columns: coarse_columns,
-        scratch: scratch,
+        rows,
+        entries,
+        count,
+        offsets,
+        columns,
+        map,
+        positions,
+        coarse_offsets,
+        coarse_columns,
+        scratch,
     };
     pattern::coarse_pattern(w, c)
 }

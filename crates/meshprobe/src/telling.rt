@@ -2,14 +2,13 @@
 ghost use Rattle.std.specs.Prelude.{◌≡◌, ◌≤◌, length, set};
 ghost use Rattle.meshprobe.specs.Telling.{flag, flag_of, written_of, Told};
 
-use refusal::{Refusal, Verdict};
-use vector::Product;
+use refusal::Refusal;
 
 // Yes is 1, no is 0.
 pub fn number(yes: bool) -> u8
     ensures { result ≡ flag yes }
 {
-    if yes { 1 } else { 0 }
+    u8::from(yes)
 }
 
 // The number of a refusal; its level and its row stand at `place`.
@@ -24,27 +23,27 @@ fn refuse(refusal: Refusal, place: &mut [u64]) -> u64
 }
 
 // Zero where it passed.
-pub fn answer(verdict: Verdict, place: &mut [u64]) -> u64
+pub fn answer(verdict: Result<(), Refusal>, place: &mut [u64]) -> u64
     requires { 2 ≤ length place.old }
     ensures { Told verdict place.old place.new result }
 {
     match verdict {
-        Verdict::Passed => 0,
-        Verdict::Refused(refusal) => refuse(refusal, place),
+        Ok(()) => 0,
+        Err(refusal) => refuse(refusal, place),
     }
 }
 
 // A finite product stands at the front of `out`; whether there was one.
-pub fn tell(product: Product, out: &mut [f64]) -> u8
+pub fn tell(product: Option<f64>, out: &mut [f64]) -> u8
     requires { 1 ≤ length out.old }
     ensures value { result ≡ flag_of product }
     ensures out_after { out.new ≡ written_of product out.old }
 {
     match product {
-        Product::Finite(value) => {
+        Some(value) => {
             out[0] = value;
             1
         }
-        Product::NotFinite => 0,
+        None => 0,
     }
 }

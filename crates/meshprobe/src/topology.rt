@@ -27,16 +27,16 @@ pub fn probe_face_offsets(
         (topology_of rows entries faces offsets columns starts diagonals neighbors uppers lowers) result }
 {
     let s = Faces {
-        rows: rows,
-        entries: entries,
-        faces: faces,
-        offsets: offsets,
-        columns: columns,
-        starts: starts,
-        diagonals: diagonals,
-        neighbors: neighbors,
-        uppers: uppers,
-        lowers: lowers,
+        rows,
+        entries,
+        faces,
+        offsets,
+        columns,
+        starts,
+        diagonals,
+        neighbors,
+        uppers,
+        lowers,
     };
     faces::face_offsets(w, s)
 }
@@ -59,16 +59,16 @@ pub fn probe_fill_faces(
         (topology_of rows entries faces offsets columns starts diagonals neighbors uppers lowers) }
 {
     let s = Faces {
-        rows: rows,
-        entries: entries,
-        faces: faces,
-        offsets: offsets,
-        columns: columns,
-        starts: starts,
-        diagonals: diagonals,
-        neighbors: neighbors,
-        uppers: uppers,
-        lowers: lowers,
+        rows,
+        entries,
+        faces,
+        offsets,
+        columns,
+        starts,
+        diagonals,
+        neighbors,
+        uppers,
+        lowers,
     };
     faces::fill_faces(w, s);
 }
@@ -94,16 +94,16 @@ pub fn probe_mirrors(
         (mirrored_of (pattern_at w.old (topology_of rows entries faces offsets columns starts diagonals neighbors uppers lowers))) }
 {
     let s = Faces {
-        rows: rows,
-        entries: entries,
-        faces: faces,
-        offsets: offsets,
-        columns: columns,
-        starts: starts,
-        diagonals: diagonals,
-        neighbors: neighbors,
-        uppers: uppers,
-        lowers: lowers,
+        rows,
+        entries,
+        faces,
+        offsets,
+        columns,
+        starts,
+        diagonals,
+        neighbors,
+        uppers,
+        lowers,
     };
     number(mirrors::mirrors(w, s))
 }
@@ -135,16 +135,16 @@ pub fn probe_diagonals(
         (pattern_at w.old (topology_of rows entries faces offsets columns starts diagonals neighbors uppers lowers)))) }
 {
     let s = Faces {
-        rows: rows,
-        entries: entries,
-        faces: faces,
-        offsets: offsets,
-        columns: columns,
-        starts: starts,
-        diagonals: diagonals,
-        neighbors: neighbors,
-        uppers: uppers,
-        lowers: lowers,
+        rows,
+        entries,
+        faces,
+        offsets,
+        columns,
+        starts,
+        diagonals,
+        neighbors,
+        uppers,
+        lowers,
     };
     answer(diagonals::diagonals(w, s, level), place)
 }
@@ -167,16 +167,16 @@ pub fn probe_coupled_count(
         (topology_of rows entries faces offsets columns starts diagonals neighbors uppers lowers) result }
 {
     let s = Faces {
-        rows: rows,
-        entries: entries,
-        faces: faces,
-        offsets: offsets,
-        columns: columns,
-        starts: starts,
-        diagonals: diagonals,
-        neighbors: neighbors,
-        uppers: uppers,
-        lowers: lowers,
+        rows,
+        entries,
+        faces,
+        offsets,
+        columns,
+        starts,
+        diagonals,
+        neighbors,
+        uppers,
+        lowers,
     };
     faces::coupled_count(w, s)
 }
@@ -200,16 +200,16 @@ pub fn probe_coupled_rows(
         (topology_of rows entries faces offsets columns starts diagonals neighbors uppers lowers) to }
 {
     let s = Faces {
-        rows: rows,
-        entries: entries,
-        faces: faces,
-        offsets: offsets,
-        columns: columns,
-        starts: starts,
-        diagonals: diagonals,
-        neighbors: neighbors,
-        uppers: uppers,
-        lowers: lowers,
+        rows,
+        entries,
+        faces,
+        offsets,
+        columns,
+        starts,
+        diagonals,
+        neighbors,
+        uppers,
+        lowers,
     };
     faces::coupled_rows(w, s, to);
 }

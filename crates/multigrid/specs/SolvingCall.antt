@@ -1,5 +1,7 @@
 -- `solve` of mod.rs: what it ensures of any handle and any stores. Definitions only.
-use Rattle.std.specs.Prelude.{◌≡◌, false, List, ℕ, length, Float}
+use Rattle.solver.specs.declared.solver.LinearSolveReport.{LinearSolveReport}
+use Rattle.refusal.specs.declared.Refusal.{Refusal}
+use Rattle.std.specs.Prelude.{◌≡◌, false, List, ℕ, length, Float, Result}
 use Rattle.store.specs.Region.{Kept}
 use Rattle.options.specs.declared.options.Handle.{Handle}
 use Rattle.solver.specs.declared.solver.LinearSolverOptions.{LinearSolverOptions}
@@ -7,7 +9,6 @@ use Rattle.refusal.specs.Refusal.{unsound_stores}
 use Rattle.refusal.specs.Outcome.{Outcome, accepted, refused, ask}
 use Rattle.layout.specs.Layout.{view_of}
 use Rattle.index_check.specs.Sound.{scratch_start, sound_of}
-use Rattle.solver.specs.declared.answers.Solved.{Solved}
 use Rattle.solver.specs.declared.statistics.MultigridLevelStatistics.{MultigridLevelStatistics}
 use Rattle.solver.specs.Statistics.{counted_on}
 use Rattle.iterations.specs.Iterate.{Solution, answer_of}
@@ -24,7 +25,7 @@ records_of levels t (refused q) = t
 
 -- What a solve with the stores w and F and the statistics t leaves: G, u and, in place of x, y; and its answer r. Nothing below the scratch
 -- changed and the hierarchy in the stores is as it was; refused by question 19, every float is.
-pub record SolveCall (h : Handle) (w : List ℕ) (F G : List Float) (t u : List MultigridLevelStatistics) (rhs x y : List Float) (s : LinearSolverOptions) (r : Solved) : Type 0 where
+pub record SolveCall (h : Handle) (w : List ℕ) (F G : List Float) (t u : List MultigridLevelStatistics) (rhs x y : List Float) (s : LinearSolverOptions) (r : Result LinearSolveReport Refusal) : Type 0 where
   pub answer : r ≡ answer_of (solved_of h w F (length t) rhs x s)
   pub solution : y ≡ solution_of x (solved_of h w F (length t) rhs x s)
   pub statistics : u ≡ records_of h.levels t (solved_of h w F (length t) rhs x s)

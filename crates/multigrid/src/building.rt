@@ -4,8 +4,9 @@ ghost use Rattle.build.specs.Steps.{input_of};
 ghost use Rattle.multigrid.specs.Contract.{cells_at, table_of, CellsOk, BuildRan};
 ghost use Rattle.multigrid.specs.New.{NewDone};
 
-use options::MultigridOptions;
-use solver::{BuildRun, Built, MultigridLevelStatistics};
+use options::{Handle, MultigridOptions};
+use refusal::Refusal;
+use solver::{BuildRun, MultigridLevelStatistics};
 
 // The rows of so many levels, as their words tell them, and zeros behind them.
 fn cells(words: &[u32], levels: usize) -> [u64; 128]
@@ -14,11 +15,9 @@ fn cells(words: &[u32], levels: usize) -> [u64; 128]
 {
     let mut table = [0u64; 128];
     let mut a = 0;
-    let mut k = 0;
-    while k < levels {
+    for k in 0..levels {
         table[k] = store::wide(words[a]) as u64;
         a = layout::words_end(words, a);
-        k += 1;
     }
     table
 }
@@ -41,17 +40,17 @@ fn run(
     match build::build(
         rows, offsets, columns, values, given, weights, options, lent, words, floats,
     ) {
-        Built::Made(h) => {
+        Ok(h) => {
             let table = cells(words, h.levels as usize);
             BuildRun {
-                answer: Built::Made(h),
+                answer: Ok(h),
                 cells: table,
             }
         }
-        Built::Refused(q) => {
+        Err(q) => {
             let table = [0u64; 128];
             BuildRun {
-                answer: Built::Refused(q),
+                answer: Err(q),
                 cells: table,
             }
         }
@@ -107,7 +106,7 @@ pub fn new(
     words: &mut [u32],
     floats: &mut [f64],
     statistics: &mut [MultigridLevelStatistics],
-) -> Built
+) -> Result<Handle, Refusal>
     ensures { NewDone words.old words.new floats.old floats.new statistics.old statistics.new (input_of rows offsets.now columns.now values.now false [] options) result }
 {
     let records = statistics.len();
@@ -129,7 +128,7 @@ pub fn new_with_face_weights(
     words: &mut [u32],
     floats: &mut [f64],
     statistics: &mut [MultigridLevelStatistics],
-) -> Built
+) -> Result<Handle, Refusal>
     ensures { NewDone words.old words.new floats.old floats.new statistics.old statistics.new (input_of rows offsets.now columns.now values.now true face_weights.now options) result }
 {
     let held = statistics.len();

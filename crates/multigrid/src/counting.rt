@@ -4,16 +4,18 @@ ghost use Rattle.multigrid.specs.CountingCall.{counted_of};
 
 use index_check::check;
 use options::Handle;
-use solver::{Counted, MultigridLevelStatistics};
+use refusal::Refusal;
+use solver::MultigridLevelStatistics;
 
 // How many of so many records are the levels', at the front of the statistics.
-fn levels(handle: Handle, words: &[u32], floats: &[f64], records: usize) -> Counted
+fn levels(handle: Handle, words: &[u32], floats: &[f64], records: usize) -> Result<u64, Refusal>
     ensures { result ≡ counted_of handle words.now floats.now records }
 {
     if check::check(handle, words, floats.len(), records) {
-        return Counted::Levels(handle.levels);
+        Ok(handle.levels)
+    } else {
+        Err(refusal::UNSOUND_STORES)
     }
-    Counted::Refused(refusal::UNSOUND_STORES)
 }
 
 // How many records at the front of the statistics are the levels'.
@@ -22,7 +24,7 @@ pub fn statistics(
     words: &[u32],
     floats: &[f64],
     statistics: &[MultigridLevelStatistics],
-) -> Counted
+) -> Result<u64, Refusal>
     ensures { result ≡ counted_of handle words.now floats.now (length statistics.now) }
 {
     let records = statistics.len();

@@ -8,6 +8,6 @@ pub mod updating;
 
 pub use building::{new, new_with_face_weights};
 pub use counting::statistics;
-pub use solver::{Counted, MultigridLevelStatistics};
+pub use solver::MultigridLevelStatistics;
 pub use solving::solve;
 pub use updating::update_values;

@@ -4,7 +4,8 @@ ghost use Rattle.multigrid.specs.SolvingCall.{SolveCall};
 
 use index_check::check;
 use options::Handle;
-use solver::{LinearSolverOptions, MultigridLevelStatistics, SolveRun, Solved};
+use refusal::Refusal;
+use solver::{LinearSolveReport, LinearSolverOptions, MultigridLevelStatistics, SolveRun};
 
 // A solve with so many records lent. Refused, x and the hierarchy stay as they were, and it counted on no level.
 fn run(
@@ -19,9 +20,10 @@ fn run(
     ensures { SolveRan handle words.now floats.old floats.new records rhs.now x.old x.new options result }
 {
     if check::check(handle, words, floats.len(), records) {
-        return solve::solve(handle, words, floats, rhs, x, options);
+        solve::solve(handle, words, floats, rhs, x, options)
+    } else {
+        solve::refused(refusal::UNSOUND_STORES)
     }
-    solve::refused(refusal::UNSOUND_STORES)
 }
 
 // Solves for the right-hand side, from what x holds, and adds what it counted to the statistics. Refused, x, the statistics and the
@@ -34,7 +36,7 @@ pub fn solve(
     rhs: &[f64],
     x: &mut [f64],
     options: LinearSolverOptions,
-) -> Solved
+) -> Result<LinearSolveReport, Refusal>
     ensures { SolveCall handle words.now floats.old floats.new statistics.old statistics.new rhs.now x.old x.new options result }
 {
     let records = statistics.len();

@@ -4,7 +4,8 @@ ghost use Rattle.multigrid.specs.UpdatingCall.{UpdateCall};
 
 use index_check::check;
 use options::Handle;
-use solver::{MultigridLevelStatistics, Updated};
+use refusal::Refusal;
+use solver::MultigridLevelStatistics;
 
 // An update with so many records lent.
 fn renew(
@@ -15,13 +16,14 @@ fn renew(
     words: &[u32],
     floats: &mut [f64],
     records: usize,
-) -> Updated
+) -> Result<(), Refusal>
     ensures { UpdateCall handle words.now floats.old floats.new records offsets.now columns.now values.now result }
 {
     if check::check(handle, words, floats.len(), records) {
-        return update::update(handle, offsets, columns, values, words, floats);
+        update::update(handle, offsets, columns, values, words, floats)
+    } else {
+        Err(refusal::UNSOUND_STORES)
     }
-    Updated::Refused(refusal::UNSOUND_STORES)
 }
 
 // New coefficients on the pattern of the build. Refused, the hierarchy stays as it was. Of the statistics the number of records alone
@@ -34,7 +36,7 @@ pub fn update_values(
     words: &[u32],
     floats: &mut [f64],
     statistics: &[MultigridLevelStatistics],
-) -> Updated
+) -> Result<(), Refusal>
     ensures { UpdateCall handle words.now floats.old floats.new (length statistics.now) offsets.now columns.now values.now result }
 {
     let records = statistics.len();

@@ -1,10 +1,9 @@
 -- What the exported calls ensure: what the call ensures, and its answer as a struct. Definitions only.
-use Rattle.std.specs.Prelude.{◌≡◌, List, ℕ, Float, length}
+use Rattle.solver.specs.declared.solver.LinearSolveReport.{LinearSolveReport}
+use Rattle.refusal.specs.declared.Refusal.{Refusal}
+use Rattle.std.specs.Prelude.{◌≡◌, List, ℕ, Float, length, Result}
 use Rattle.hierarchy.specs.Build.{Input, build_of}
 use Rattle.options.specs.declared.options.Handle.{Handle}
-use Rattle.solver.specs.declared.answers.Built.{Built}
-use Rattle.solver.specs.declared.answers.Updated.{Updated}
-use Rattle.solver.specs.declared.answers.Solved.{Solved}
 use Rattle.solver.specs.declared.solver.LinearSolverOptions.{LinearSolverOptions}
 use Rattle.solver.specs.declared.statistics.MultigridLevelStatistics.{MultigridLevelStatistics}
 use Rattle.build.specs.Built.{lent_of, built_of}
@@ -22,7 +21,7 @@ use Rattle.multigrid.specs.SolvingCall.{SolveCall, solved_of}
 use Rattle.multigrid.specs.CountingCall.{counted_of}
 
 -- the answer to a build in stores w and F with so many records of statistics
-abbrev pub built_by : List ℕ → List Float → ℕ → Input → Built
+abbrev pub built_by : List ℕ → List Float → ℕ → Input → Result Handle Refusal
 built_by w F records x = built_of x (build_of (lent_of w F records) x)
 
 -- What a build with the controls of a struct o ensures: what the call ensures, and its answer as a struct.
@@ -31,7 +30,7 @@ pub record BuildExported (w z : List ℕ) (F G : List Float) (s t : List Multigr
   pub told : r ≡ built_struct o (built_by w F (length s) x)
 
 -- the answer to an update of stores w and F with so many records of statistics
-abbrev pub updated_by : Handle → List ℕ → List Float → ℕ → List ℕ → List ℕ → List Float → Updated
+abbrev pub updated_by : Handle → List ℕ → List Float → ℕ → List ℕ → List ℕ → List Float → Result Unit Refusal
 updated_by h w F records offsets columns values = refresh.updated_answer (updated_of h w F records offsets columns values)
 
 -- What an update ensures: what the call ensures, and its answer as a struct.
@@ -40,7 +39,7 @@ pub record UpdateExported (h : Handle) (w : List ℕ) (F G : List Float) (record
   pub told : r ≡ updated_struct (updated_by h w F records offsets columns values)
 
 -- the answer to a solve with the stores w and F and so many records of statistics
-abbrev pub solved_by : Handle → List ℕ → List Float → ℕ → List Float → List Float → LinearSolverOptions → Solved
+abbrev pub solved_by : Handle → List ℕ → List Float → ℕ → List Float → List Float → LinearSolverOptions → Result LinearSolveReport Refusal
 solved_by h w F records rhs x s = iterating.answer_of (solved_of h w F records rhs x s)
 
 -- What a solve ensures: what the call ensures, and its answer as a struct.

@@ -5,7 +5,8 @@ ghost use Rattle.load.specs.Call.{room_of};
 ghost use Rattle.multigrid_c.specs.Loads.{loaded_struct, LoadExported};
 
 use export::AnswerForC;
-use load::loading::{Loaded, load};
+use load::loading::{Size, load};
+use refusal::Refusal;
 
 // The answer of a load. Every field has eight bytes.
 #[repr(C)]
@@ -17,11 +18,11 @@ pub struct LoadedForC {
 }
 
 // The answer as a struct.
-fn tell_loaded(loaded: Loaded) -> LoadedForC
+fn tell_loaded(loaded: Result<Size, Refusal>) -> LoadedForC
     ensures { result ≡ loaded_struct loaded }
 {
     match loaded {
-        Loaded::Made(size) => LoadedForC {
+        Ok(size) => LoadedForC {
             answer: AnswerForC {
                 question: 0,
                 level: 0,
@@ -30,7 +31,7 @@ fn tell_loaded(loaded: Loaded) -> LoadedForC
             rows: size.rows,
             entries: size.entries,
         },
-        Loaded::Refused(refusal) => LoadedForC {
+        Err(refusal) => LoadedForC {
             answer: AnswerForC {
                 question: refusal.number,
                 level: refusal.level,

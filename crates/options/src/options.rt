@@ -3,10 +3,10 @@ ghost use Rattle.std.specs.Prelude.{◌≡◌};
 ghost use Rattle.options.specs.Options.{default_options, tolerable, valid_of, needs_dic, controls_asked};
 ghost use Rattle.refusal.specs.Outcome.{verdict_of};
 
-use refusal::Verdict;
+use refusal::Refusal;
 
 // What damps the rough part of an error on a level.
-#[derive(Clone, Copy)]
+#[derive(Clone, Copy, PartialEq, Eq, Debug)]
 pub enum MultigridSmoother {
     GaussSeidel,
     SymmetricGaussSeidel,
@@ -14,14 +14,14 @@ pub enum MultigridSmoother {
 }
 
 // How a solve measures its residual.
-#[derive(Clone, Copy)]
+#[derive(Clone, Copy, PartialEq, Eq, Debug)]
 pub enum MultigridResidualNorm {
     AbsoluteL2,
     NormalizedL1,
 }
 
 // Terminal-level solve. Dense factorization is bounded by coarsest_cells.
-#[derive(Clone, Copy)]
+#[derive(Clone, Copy, PartialEq, Eq, Debug)]
 pub enum MultigridCoarseSolver {
     PcgDic,
     Cholesky,
@@ -63,10 +63,10 @@ pub struct Handle {
     pub entries: u64,
 }
 
-impl MultigridOptions {
-    pub fn default() -> MultigridOptions
-        ensures { result ≡ default_options }
-    {
+impl Default for MultigridOptions {
+    ghost is_default = { λ o. o ≡ default_options };
+
+    fn default() -> MultigridOptions {
         MultigridOptions {
             smoother: MultigridSmoother::DicGaussSeidel,
             residual_norm: MultigridResidualNorm::NormalizedL1,
@@ -87,7 +87,9 @@ impl MultigridOptions {
             max_aggregate_cells: 0,
         }
     }
+}
 
+impl MultigridOptions {
     // The coarse tolerances and limit are asked of every coarse solver. One expression of `&`: no branch.
     pub fn validate(self) -> bool
         ensures { result ≡ valid_of self }
@@ -119,23 +121,18 @@ pub fn is_tolerable(t: f64) -> bool
 pub fn needs_dic(kind: MultigridSmoother) -> bool
     ensures { result ≡ needs_dic kind }
 {
-    match kind {
-        MultigridSmoother::GaussSeidel => false,
-        MultigridSmoother::SymmetricGaussSeidel => false,
-        MultigridSmoother::DicGaussSeidel => true,
-    }
+    matches!(kind, MultigridSmoother::DicGaussSeidel)
 }
 
 // Questions 6 and 7: the controls are valid, and the coarse solver is Cholesky.
-pub fn check_controls(o: MultigridOptions) -> Verdict
+pub fn check_controls(o: MultigridOptions) -> Result<(), Refusal>
     ensures { result ≡ verdict_of (controls_asked o) }
 {
     if !o.validate() {
-        return Verdict::Refused(refusal::INVALID_CONTROLS);
+        return Err(refusal::INVALID_CONTROLS);
     }
-    let coarse_solver = o.coarse_solver;
-    match coarse_solver {
-        MultigridCoarseSolver::PcgDic => Verdict::Refused(refusal::NOT_CHOLESKY),
-        MultigridCoarseSolver::Cholesky => Verdict::Passed,
+    match o.coarse_solver {
+        MultigridCoarseSolver::PcgDic => Err(refusal::NOT_CHOLESKY),
+        MultigridCoarseSolver::Cholesky => Ok(()),
     }
 }

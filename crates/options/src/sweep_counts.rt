@@ -3,13 +3,6 @@ ghost use Rattle.std.specs.Prelude.{◌≡◌, min};
 ghost use Rattle.options.specs.Counts.{extra_of, pre_sweeps_of, post_sweeps_of};
 
 use crate::options::MultigridOptions;
-use float::{saturating_add, saturating_mul};
-
-fn min(a: u64, b: u64) -> u64
-    ensures { result ≡ min a b }
-{
-    if a <= b { a } else { b }
-}
 
 // Sweeps added for each level below the second.
 fn extra_sweeps_at(o: MultigridOptions, depth: u64) -> u64
@@ -18,7 +11,7 @@ fn extra_sweeps_at(o: MultigridOptions, depth: u64) -> u64
     if depth == 0 {
         return 0;
     }
-    saturating_mul(o.sweep_level_multiplier, depth - 1)
+    o.sweep_level_multiplier.saturating_mul(depth - 1)
 }
 
 // None on the finest level, and none at all where the control is zero.
@@ -33,7 +26,7 @@ pub fn pre_sweeps_at(o: MultigridOptions, depth: u64) -> u64
     } else {
         extra_sweeps_at(o, depth)
     };
-    min(saturating_add(o.pre_sweeps, extra), o.max_sweeps)
+    o.pre_sweeps.saturating_add(extra).min(o.max_sweeps)
 }
 
 // The finest level has a count of its own; on the others the extra sweeps come even where the control is zero.
@@ -44,5 +37,5 @@ pub fn post_sweeps_at(o: MultigridOptions, depth: u64) -> u64
         return o.finest_sweeps;
     }
     let extra = extra_sweeps_at(o, depth);
-    min(saturating_add(o.post_sweeps, extra), o.max_sweeps)
+    o.post_sweeps.saturating_add(extra).min(o.max_sweeps)
 }

@@ -4,7 +4,7 @@ ghost use Rattle.std.specs.Prelude.{◌+◌, length};
 ghost use Rattle.pattern.specs.Steps.{Linked, GatheringAt, Gathered, SlotOk, Slotted, MeetOk, EntriesOk, RowOk};
 
 use crate::pattern::Coarsening;
-use store::{fill_words, index_at, wide};
+use store::{fill, index_at, wide};
 
 // b in slot r, if it is one of the m slots.
 fn fill_slot(w: &mut [u32], slots: usize, m: usize, r: usize, b: usize)
@@ -13,7 +13,6 @@ fn fill_slot(w: &mut [u32], slots: usize, m: usize, r: usize, b: usize)
 {
     if r < m {
         w[slots + r] = b as u32;
-        return;
     }
 }
 
@@ -31,10 +30,7 @@ fn meet(w: &mut [u32], c: Coarsening, a: usize, e: usize, r: usize) -> usize
     let last = w[marks + b];
     w[marks + b] = stamp;
     fill_slot(w, c.positions, c.entries, r, b);
-    if last == stamp {
-        return r;
-    }
-    r + 1
+    if last == stamp { r } else { r + 1 }
 }
 
 // The entries from lo to hi, those of a row of aggregate a.
@@ -43,10 +39,8 @@ fn gather_entries(w: &mut [u32], c: Coarsening, a: usize, lo: usize, hi: usize, 
     ensures { Gathered w.old w.new c a hi result }
 {
     let mut found = r;
-    let mut e = lo;
-    while e < hi {
+    for e in lo..hi {
         found = meet(w, c, a, e, found);
-        e += 1;
     }
     found
 }
@@ -62,6 +56,7 @@ fn gather_row(w: &mut [u32], c: Coarsening, a: usize, r: usize) -> usize
     let nexts = c.scratch + c.count;
     let mut found = r;
     let mut i = wide(w[heads + a]);
+    // A while: the next row of a chain stands in the store, so no range has them.
     while i < rows {
         let lo = wide(w[offsets + i]);
         let hi = wide(w[offsets + i + 1]);
@@ -76,14 +71,11 @@ fn gather_rows(w: &mut [u32], c: Coarsening) -> usize
     requires { GatheringAt w.old c 0 0 0 }
     ensures { Gathered w.old w.new c c.count 0 result }
 {
-    let count = c.count;
     let starts = c.coarse_offsets;
     let mut found = 0;
-    let mut a = 0;
-    while a < count {
+    for a in 0..c.count {
         found = gather_row(w, c, a, found);
         w[starts + a + 1] = found as u32;
-        a += 1;
     }
     found
 }
@@ -94,7 +86,7 @@ pub fn gather(w: &mut [u32], c: Coarsening) -> usize
     ensures { Gathered w.old w.new c c.count 0 result }
 {
     let starts = c.coarse_offsets;
-    fill_words(w, c.scratch + c.count + c.rows, c.count, 0);
+    fill(w, c.scratch + c.count + c.rows, c.count, 0);
     w[starts] = 0;
     gather_rows(w, c)
 }

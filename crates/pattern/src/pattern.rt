@@ -5,7 +5,7 @@ ghost use Rattle.pattern.specs.Pattern.{compose_of};
 ghost use Rattle.pattern.specs.Coarsening.{PatternOk, ComposeOk};
 ghost use Rattle.pattern.specs.Steps.{Linked, Links};
 
-use store::{fill_words, index_at};
+use store::{fill, index_at};
 
 // Where everything stands in the store of words, and the sizes: what is read, then what is written, one after the other.
 #[derive(Clone, Copy)]
@@ -29,13 +29,10 @@ fn link(w: &mut [u32], c: Coarsening)
 {
     let heads = c.scratch;
     let nexts = c.scratch + c.count;
-    let mut i = c.rows;
-    while i > 0 {
-        let k = i - 1;
-        let a = index_at(w, c.map, k, c.count);
-        w[nexts + k] = w[heads + a];
-        w[heads + a] = k as u32;
-        i = k;
+    for i in (0..c.rows).rev() {
+        let a = index_at(w, c.map, i, c.count);
+        w[nexts + i] = w[heads + a];
+        w[heads + a] = i as u32;
     }
 }
 
@@ -44,7 +41,7 @@ pub fn chain(w: &mut [u32], c: Coarsening)
     requires { PatternOk w.old c }
     ensures { Links w.old w.new c 0 }
 {
-    fill_words(w, c.scratch, c.count, c.rows as u32);
+    fill(w, c.scratch, c.count, c.rows as u32);
     link(w, c);
 }
 
@@ -54,10 +51,8 @@ pub fn compose(w: &mut [u32], n: usize, map: usize, next: usize, count: usize)
     ensures { Wrote map n (compose_of n (part map n w.old) (part next count w.old))
         w.old w.new }
 {
-    let mut i = 0;
-    while i < n {
+    for i in 0..n {
         let a = index_at(w, map, i, count);
         w[map + i] = w[next + a];
-        i += 1;
     }
 }

@@ -1,9 +1,11 @@
 // Records from standard input.
 use record_format::Mark;
 use record_order::{Came, Next};
+use refusal::Refusal;
 use std::io;
 
-// What the input brings next: a record of so many bytes, its end, or bytes that are no record.
+// What the input brings next: a record of so many bytes, its end, or bytes that are no record. Three ways to go on: in the io::Result of a
+// reading a further Result of an Option would be no plainer.
 #[derive(Clone, Copy)]
 pub enum Arrived {
     Record(Mark, usize),
@@ -25,15 +27,15 @@ fn more(rt: &impl Input, buffer: &mut [u8], had: usize, n: usize) -> io::Result<
 }
 
 // What is to be done next, with so many bytes of a record read.
-fn judge_part(came: Came, buffer: &[u8], had: usize) -> Next {
+fn judge_part(came: Came, buffer: &[u8], had: usize) -> Result<Next, Refusal> {
     if had > buffer.len() {
-        return Next::Refused(record_format::BAD_RECORD);
+        return Err(record_format::BAD_RECORD);
     }
     record_order::judge(came, &buffer[..had])
 }
 
 // The same of the whole buffer.
-fn judge(came: Came, buffer: &[u8; 4110], had: usize) -> Next {
+fn judge(came: Came, buffer: &[u8; 4110], had: usize) -> Result<Next, Refusal> {
     judge_part(came, buffer, had)
 }
 
@@ -42,7 +44,7 @@ pub fn arrive(rt: &impl Input, came: Came, buffer: &mut [u8; 4110]) -> io::Resul
     let mut had: usize = 0;
     for _ in 0..4 {
         match judge(came, buffer, had) {
-            Next::Read(n) => {
+            Ok(Next::Read(n)) => {
                 let got = more(rt, buffer, had, n)?;
                 if got < n {
                     if (had == 0) & (got == 0) {
@@ -50,14 +52,10 @@ pub fn arrive(rt: &impl Input, came: Came, buffer: &mut [u8; 4110]) -> io::Resul
                     }
                     return Ok(Arrived::Bad);
                 }
-                had = std::num::wrapping_add_usize(had, n);
+                had = had.wrapping_add(n);
             }
-            Next::Whole(mark) => {
-                return Ok(Arrived::Record(mark, had));
-            }
-            Next::Refused(_) => {
-                return Ok(Arrived::Bad);
-            }
+            Ok(Next::Whole(mark)) => return Ok(Arrived::Record(mark, had)),
+            Err(_) => return Ok(Arrived::Bad),
         }
     }
     Ok(Arrived::Bad)

@@ -8,9 +8,8 @@ mod running;
 
 use input::Arrived;
 use press_run::Run;
-use record_format::{Mark, ProblemRead};
+use record_format::Mark;
 use record_order::Ending;
-use refusal::Verdict;
 use std::io;
 
 // UP: read whole, then the build if there was none, then the update.
@@ -30,7 +29,7 @@ fn update(
     let came = run.came;
     let entries = came.entries as usize;
     match record_format::read_values(record, Mark::Update, entries, &mut renewed) {
-        Verdict::Passed => {
+        Ok(()) => {
             let built = running::build(
                 rt, run, offsets, columns, values, weights, words, floats, statistics,
             )?;
@@ -38,7 +37,7 @@ fn update(
                 rt, built, offsets, columns, &renewed, words, floats, statistics,
             )
         }
-        Verdict::Refused(q) => running::refuse(rt, run, q),
+        Err(q) => running::refuse(rt, run, q),
     }
 }
 
@@ -60,13 +59,13 @@ fn solve(
     let came = run.came;
     let rows = came.rows as usize;
     match record_format::read_solve(record, rows, &mut rhs, &mut x) {
-        ProblemRead::Read(limits) => {
+        Ok(limits) => {
             let built = running::build(
                 rt, run, offsets, columns, values, weights, words, floats, statistics,
             )?;
             running::solve(rt, built, limits, &rhs, &mut x, words, floats, statistics)
         }
-        ProblemRead::Refused(q) => running::refuse(rt, run, q),
+        Err(q) => running::refuse(rt, run, q),
     }
 }
 
@@ -142,14 +141,14 @@ fn finish(
 ) -> io::Result<Run> {
     let came = run.came;
     match came.at_end() {
-        Ending::Build => {
+        Ok(Ending::Build) => {
             let built = running::build(
                 rt, run, offsets, columns, values, weights, words, floats, statistics,
             )?;
             Ok(built.end())
         }
-        Ending::Done => Ok(run.end()),
-        Ending::Refused(q) => running::refuse(rt, run, q),
+        Ok(Ending::Done) => Ok(run.end()),
+        Err(q) => running::refuse(rt, run, q),
     }
 }
 

@@ -1,9 +1,9 @@
 // What each record does, and what is written of it.
 use options::Handle;
 use press_run::Run;
-use record_format::{ControlsRead, Mark, MatrixRead};
-use refusal::{Refusal, Verdict};
-use solver::{Built, LinearSolveReport, LinearSolverOptions, Solved, Updated};
+use record_format::Mark;
+use refusal::Refusal;
+use solver::{LinearSolveReport, LinearSolverOptions};
 use std::io;
 
 // A refusal that ends the run.
@@ -15,7 +15,7 @@ pub fn refuse(rt: &impl Print, run: Run, q: Refusal) -> io::Result<Run> {
 // CO.
 pub fn controls(rt: &impl Print, run: Run, record: &[u8]) -> io::Result<Run> {
     let read = record_format::read_controls(record);
-    if let ControlsRead::Refused(q) = read {
+    if let Err(q) = read {
         result_lines::refused(rt, q)?;
     }
     Ok(run.take_controls(read))
@@ -31,7 +31,7 @@ pub fn matrix(
     values: &mut [f64; 320],
 ) -> io::Result<Run> {
     let read = record_format::read_matrix(record, offsets, columns, values);
-    if let MatrixRead::Refused(q) = read {
+    if let Err(q) = read {
         result_lines::refused(rt, q)?;
     }
     Ok(run.take_matrix(read))
@@ -46,7 +46,7 @@ pub fn weights(
 ) -> io::Result<Run> {
     let came = run.came;
     let read = record_format::read_values(record, Mark::Weights, came.entries as usize, weights);
-    if let Verdict::Refused(q) = read {
+    if let Err(q) = read {
         result_lines::refused(rt, q)?;
     }
     Ok(run.take_weights(read))
@@ -76,7 +76,7 @@ pub fn build(
             floats,
             statistics,
         );
-        if let Built::Refused(q) = built {
+        if let Err(q) = built {
             result_lines::refused(rt, q)?;
         }
         Ok(run.take_build(built))
@@ -103,8 +103,8 @@ pub fn update(
         run.came, run.handle, offsets, columns, renewed, words, floats, statistics,
     );
     match updated {
-        Updated::Done => result_lines::updated(rt)?,
-        Updated::Refused(q) => result_lines::refused(rt, q)?,
+        Ok(()) => result_lines::updated(rt)?,
+        Err(q) => result_lines::refused(rt, q)?,
     }
     Ok(run.take_update(updated))
 }
@@ -140,8 +140,8 @@ pub fn solve(
     let handle = run.handle;
     let solved = press_run::solve(run.came, handle, limits, rhs, x, words, floats, statistics);
     match solved {
-        Solved::Report(report) => tell_solve(rt, handle, report, x, statistics)?,
-        Solved::Refused(q) => result_lines::refused(rt, q)?,
+        Ok(report) => tell_solve(rt, handle, report, x, statistics)?,
+        Err(q) => result_lines::refused(rt, q)?,
     }
     Ok(run.take_solve(solved))
 }

@@ -1,4 +1,7 @@
 -- As much of an array as the run's matrix has is what a call sees. Assumes nothing.
+use Rattle.solver.specs.declared.solver.LinearSolveReport.{LinearSolveReport}
+use Rattle.refusal.specs.declared.Refusal.{Refusal}
+use Rattle.std.specs.Prelude.{Result}
 use mathlib.Core.Path.{◌≡◌, sym, ap, subst, ◌∙◌}
 use mathlib.Core.Bool.{true, false}
 use mathlib.Core.List.{List, [], ◌++◌, append-nil}
@@ -11,9 +14,6 @@ use lib.Ieee.{Float}
 use Rattle.store.proofs.store.Region.{le_or_lt}
 use Rattle.hierarchy.specs.Build.{Input}
 use Rattle.build.specs.Steps.{input_of}
-use Rattle.solver.specs.declared.answers.Built.{Built}
-use Rattle.solver.specs.declared.answers.Updated.{Updated}
-use Rattle.solver.specs.declared.answers.Solved.{Solved}
 use Rattle.solver.specs.declared.solver.LinearSolverOptions.{LinearSolverOptions}
 use Rattle.multigrid.specs.UpdatingCall.{UpdateCall}
 use Rattle.lists.specs.Numbers.{records_lent}
@@ -34,21 +34,21 @@ module _ (p : Came) (O C : List ℕ) (X : List Float) {rows a b c : ℕ} (few : 
   offsets_are : take a O ≡ run_offsets p O
   offsets_are = part_is (rows + 1) a O e ∙ ap (λ (k : ℕ). take (k + 1) O) few
 
-  pub run_weights : (o : MultigridOptions) (W : List Float) {d : ℕ} {w z : List ℕ} {F G : List Float} {S S' : List ℕ} {r : Built} → d ≡ min p.entries (length W) → p.weights ≡ true
+  pub run_weights : (o : MultigridOptions) (W : List Float) {d : ℕ} {w z : List ℕ} {F G : List Float} {S S' : List ℕ} {r : Result Handle Refusal} → d ≡ min p.entries (length W) → p.weights ≡ true
       → BuildOver w z F G S S' (input_of rows (take a O) (take b C) (take c X) true (take d W) o) r → RunBuild p o O C X W w z F G S S' r
   run_weights o W {d} {w} {z} {F} {G} {S} {S'} {r} h came done =
       subst (λ (x : Input). BuildOver w z F G S S' x r)
       (let is : input_of rows (take a O) (take b C) (take c X) true (take d W) o ≡ run_input p o O C X W =
       rw (came, offsets_are, part_is p.entries b C f, part_is p.entries c X g, part_is p.entries d W h, few) in is) done
 
-  pub run_values : (o : MultigridOptions) (W : List Float) {w z : List ℕ} {F G : List Float} {S S' : List ℕ} {r : Built} → p.weights ≡ false
+  pub run_values : (o : MultigridOptions) (W : List Float) {w z : List ℕ} {F G : List Float} {S S' : List ℕ} {r : Result Handle Refusal} → p.weights ≡ false
       → BuildOver w z F G S S' (input_of rows (take a O) (take b C) (take c X) false [] o) r → RunBuild p o O C X W w z F G S S' r
   run_values o W {w} {z} {F} {G} {S} {S'} {r} came done =
       subst (λ (x : Input). BuildOver w z F G S S' x r)
       (let is : input_of rows (take a O) (take b C) (take c X) false [] o ≡ run_input p o O C X W =
       rw (came, offsets_are, part_is p.entries b C f, part_is p.entries c X g, few) in is) done
 
-  pub run_update : (h : Handle) {w : List ℕ} {F G : List Float} (S : List ℕ) {r : Updated} → UpdateCall h w F G (records_lent S) (take a O) (take b C) (take c X) r → RunUpdate p h O C X w F G S r
+  pub run_update : (h : Handle) {w : List ℕ} {F G : List Float} (S : List ℕ) {r : Result Unit Refusal} → UpdateCall h w F G (records_lent S) (take a O) (take b C) (take c X) r → RunUpdate p h O C X w F G S r
   run_update h {w} {F} {G} S {r} done = rw (← offsets_are, ← part_is p.entries b C f, ← part_is p.entries c X g) done
 
 -- a part that was written in place is the part of the whole, and the others stay
@@ -65,7 +65,7 @@ module _ (n : ℕ) (X Z : List Float) {b : ℕ} (e : b ≡ min n (length X)) (sa
       (ap (take n) all ∙ take_all n Z (omega (arith, long)), ap (drop n) all ∙ drop_of_length-le Z {i = n} (omega (arith, long)) ∙ sym (drop_of_length-le X {i = n} (omega arith))))
       (le_or_lt n (length X))
 
-pub run_solve : (p : Came) (h : Handle) (s : LinearSolverOptions) (R X Z : List Float) {a b : ℕ} {w : List ℕ} {F G : List Float} {S S' : List ℕ} {r : Solved} → a ≡ min p.rows (length R)
+pub run_solve : (p : Came) (h : Handle) (s : LinearSolverOptions) (R X Z : List Float) {a b : ℕ} {w : List ℕ} {F G : List Float} {S S' : List ℕ} {r : Result LinearSolveReport Refusal} → a ≡ min p.rows (length R)
     → b ≡ min p.rows (length X) → length Z ≡ length (take b X) → SolveOver h w F G S S' (take a R) (take b X) Z s r
     → RunSolve p h s R X (Z ++ drop b X) w F G S S' r
 run_solve p h s R X Z {a} {b} {w} {F} {G} {S} {S'} {r} e f same done =

@@ -1,19 +1,14 @@
 -- What a record or an answer makes of a run, by the case that the code meets. Assumes nothing.
+use Rattle.std.specs.Prelude.{Result, Ok, Err}
 use mathlib.Core.Path.{◌≡◌}
 use mathlib.Core.Bool.{false}
 use Prim.Native.Nat.{ℕ}
 use Rattle.refusal.specs.declared.Refusal.{Refusal}
-use Rattle.refusal.specs.declared.Verdict.{Verdict}
 use Rattle.options.specs.declared.options.MultigridOptions.{MultigridOptions}
 use Rattle.options.specs.declared.options.Handle.{Handle}
 use Rattle.options.specs.Options.{default_options}
-use Rattle.solver.specs.declared.answers.Built.{Built}
-use Rattle.solver.specs.declared.answers.Updated.{Updated}
-use Rattle.solver.specs.declared.answers.Solved.{Solved}
 use Rattle.solver.specs.declared.solver.LinearSolveReport.{LinearSolveReport}
 use Rattle.record_format.specs.declared.marks.Mark.{Mark}
-use Rattle.record_format.specs.declared.controls.ControlsRead.{ControlsRead}
-use Rattle.record_format.specs.declared.matrix.MatrixRead.{MatrixRead}
 use Rattle.record_format.specs.declared.matrix.MatrixSizes.{MatrixSizes}
 use Rattle.record_order.specs.declared.Came.{Came}
 use Rattle.record_order.specs.Order.{nothing, after_of}
@@ -28,39 +23,39 @@ pub went_on_lem : (p : Run) (m : Mark) (rows entries : ℕ) {c : Came} → c ≡
     → record { over = p.over; came = c; options = p.options; handle = p.handle } ≡ went_on p m rows entries
 went_on_lem p m rows entries e = rw e
 
-pub controls_kept : (p : Run) {r : ControlsRead} {o : MultigridOptions} {q : Run} → r ≡ ControlsRead.Read o → q ≡ went_on p Mark.Controls 0 0
+pub controls_kept : (p : Run) {r : Result MultigridOptions Refusal} {o : MultigridOptions} {q : Run} → r ≡ Ok o → q ≡ went_on p Mark.Controls 0 0
     → record { over = q.over; came = q.came; options = o; handle = q.handle } ≡ controls_taken p r
 controls_kept p e f = rw (e, f)
 
-pub controls_over : (p : Run) {r : ControlsRead} {why : Refusal} {q : Run} → r ≡ ControlsRead.Refused why → q ≡ ended p → q ≡ controls_taken p r
+pub controls_over : (p : Run) {r : Result MultigridOptions Refusal} {why : Refusal} {q : Run} → r ≡ Err why → q ≡ ended p → q ≡ controls_taken p r
 controls_over p e f = rw e f
 
-pub matrix_kept : (p : Run) {r : MatrixRead} {s : MatrixSizes} {q : Run} → r ≡ MatrixRead.Read s → q ≡ went_on p Mark.Matrix s.rows s.entries → q ≡ matrix_taken p r
+pub matrix_kept : (p : Run) {r : Result MatrixSizes Refusal} {s : MatrixSizes} {q : Run} → r ≡ Ok s → q ≡ went_on p Mark.Matrix s.rows s.entries → q ≡ matrix_taken p r
 matrix_kept p e f = rw e f
 
-pub matrix_over : (p : Run) {r : MatrixRead} {why : Refusal} {q : Run} → r ≡ MatrixRead.Refused why → q ≡ ended p → q ≡ matrix_taken p r
+pub matrix_over : (p : Run) {r : Result MatrixSizes Refusal} {why : Refusal} {q : Run} → r ≡ Err why → q ≡ ended p → q ≡ matrix_taken p r
 matrix_over p e f = rw e f
 
-pub weights_kept : (p : Run) {r : Verdict} {q : Run} → r ≡ Verdict.Passed → q ≡ went_on p Mark.Weights 0 0 → q ≡ weights_taken p r
+pub weights_kept : (p : Run) {r : Result Unit Refusal} {q : Run} → r ≡ Ok tt → q ≡ went_on p Mark.Weights 0 0 → q ≡ weights_taken p r
 weights_kept p e f = rw e f
 
-pub weights_over : (p : Run) {r : Verdict} {why : Refusal} {q : Run} → r ≡ Verdict.Refused why → q ≡ ended p → q ≡ weights_taken p r
+pub weights_over : (p : Run) {r : Result Unit Refusal} {why : Refusal} {q : Run} → r ≡ Err why → q ≡ ended p → q ≡ weights_taken p r
 weights_over p e f = rw e f
 
-pub build_kept : (p : Run) {r : Built} {h : Handle} → r ≡ Built.Made h → record { over = p.over; came = p.came; options = p.options; handle = h } ≡ build_taken p r
+pub build_kept : (p : Run) {r : Result Handle Refusal} {h : Handle} → r ≡ Ok h → record { over = p.over; came = p.came; options = p.options; handle = h } ≡ build_taken p r
 build_kept p e = rw e
 
-pub build_over : (p : Run) {r : Built} {why : Refusal} {q : Run} → r ≡ Built.Refused why → q ≡ ended p → q ≡ build_taken p r
+pub build_over : (p : Run) {r : Result Handle Refusal} {why : Refusal} {q : Run} → r ≡ Err why → q ≡ ended p → q ≡ build_taken p r
 build_over p e f = rw e f
 
-pub update_done : (p : Run) {r : Updated} {q : Run} → r ≡ Updated.Done → q ≡ went_on p Mark.Update 0 0 → q ≡ update_taken p r
+pub update_done : (p : Run) {r : Result Unit Refusal} {q : Run} → r ≡ Ok tt → q ≡ went_on p Mark.Update 0 0 → q ≡ update_taken p r
 update_done p e f = rw e f
 
-pub update_refused : (p : Run) {r : Updated} {why : Refusal} {q : Run} → r ≡ Updated.Refused why → q ≡ went_on p Mark.Update 0 0 → q ≡ update_taken p r
+pub update_refused : (p : Run) {r : Result Unit Refusal} {why : Refusal} {q : Run} → r ≡ Err why → q ≡ went_on p Mark.Update 0 0 → q ≡ update_taken p r
 update_refused p e f = rw e f
 
-pub solve_done : (p : Run) {r : Solved} {t : LinearSolveReport} {q : Run} → r ≡ Solved.Report t → q ≡ went_on p Mark.Solve 0 0 → q ≡ solve_taken p r
+pub solve_done : (p : Run) {r : Result LinearSolveReport Refusal} {t : LinearSolveReport} {q : Run} → r ≡ Ok t → q ≡ went_on p Mark.Solve 0 0 → q ≡ solve_taken p r
 solve_done p e f = rw e f
 
-pub solve_refused : (p : Run) {r : Solved} {why : Refusal} {q : Run} → r ≡ Solved.Refused why → q ≡ went_on p Mark.Solve 0 0 → q ≡ solve_taken p r
+pub solve_refused : (p : Run) {r : Result LinearSolveReport Refusal} {why : Refusal} {q : Run} → r ≡ Err why → q ≡ went_on p Mark.Solve 0 0 → q ≡ solve_taken p r
 solve_refused p e f = rw e f

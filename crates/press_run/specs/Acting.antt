@@ -1,10 +1,9 @@
 -- What the build, an update and a solve of a run are: the calls, on as much of the arrays as the run's matrix has. Definitions only.
-use Rattle.std.specs.Prelude.{◌≡◌, cond, List, [], ℕ, ◌+◌, min, take, drop, Float}
+use Rattle.solver.specs.declared.solver.LinearSolveReport.{LinearSolveReport}
+use Rattle.refusal.specs.declared.Refusal.{Refusal}
+use Rattle.std.specs.Prelude.{◌≡◌, cond, List, [], ℕ, ◌+◌, min, take, drop, Float, Result}
 use Rattle.hierarchy.specs.Build.{Input}
 use Rattle.build.specs.Steps.{input_of}
-use Rattle.solver.specs.declared.answers.Built.{Built}
-use Rattle.solver.specs.declared.answers.Updated.{Updated}
-use Rattle.solver.specs.declared.answers.Solved.{Solved}
 use Rattle.solver.specs.declared.solver.LinearSolverOptions.{LinearSolverOptions}
 use Rattle.multigrid.specs.UpdatingCall.{UpdateCall}
 use Rattle.lists.specs.Numbers.{records_lent}
@@ -36,15 +35,15 @@ run_input p o offsets columns values weights =
     (cond p.weights (run_entries p weights) []) o
 
 -- the build of a run
-abbrev pub RunBuild : Came → MultigridOptions → List ℕ → List ℕ → List Float → List Float → List ℕ → List ℕ → List Float → List Float → List ℕ → List ℕ → Built → Type 0
+abbrev pub RunBuild : Came → MultigridOptions → List ℕ → List ℕ → List Float → List Float → List ℕ → List ℕ → List Float → List Float → List ℕ → List ℕ → Result Handle Refusal → Type 0
 RunBuild p o offsets columns values weights w z F G S S' r = BuildOver w z F G S S' (run_input p o offsets columns values weights) r
 
 -- an update of a run
-abbrev pub RunUpdate : Came → Handle → List ℕ → List ℕ → List Float → List ℕ → List Float → List Float → List ℕ → Updated → Type 0
+abbrev pub RunUpdate : Came → Handle → List ℕ → List ℕ → List Float → List ℕ → List Float → List Float → List ℕ → Result Unit Refusal → Type 0
 RunUpdate p h offsets columns renewed w F G S r =
     UpdateCall h w F G (records_lent S) (run_offsets p offsets) (run_entries p columns) (run_entries p renewed) r
 
 -- A solve of a run: the call, and the elements of x behind the rows as they were.
-pub record RunSolve (p : Came) (h : Handle) (s : LinearSolverOptions) (rhs x y : List Float) (w : List ℕ) (F G : List Float) (S S' : List ℕ) (r : Solved) : Type 0 where
+pub record RunSolve (p : Came) (h : Handle) (s : LinearSolverOptions) (rhs x y : List Float) (w : List ℕ) (F G : List Float) (S S' : List ℕ) (r : Result LinearSolveReport Refusal) : Type 0 where
   pub call : SolveOver h w F G S S' (run_vector p rhs) (run_vector p x) (run_vector p y) s r
   pub rest : drop p.rows y ≡ drop p.rows x

@@ -10,8 +10,9 @@ pub mod run;
 use lists::{calls, least};
 use options::{Handle, MultigridOptions};
 use record_order::Came;
+use refusal::Refusal;
 pub use run::Run;
-use solver::{Built, LinearSolverOptions, Solved, Updated};
+use solver::{LinearSolveReport, LinearSolverOptions};
 
 // The build: with the weights where these came.
 pub fn build(
@@ -24,7 +25,7 @@ pub fn build(
     words: &mut [u32],
     floats: &mut [f64],
     statistics: &mut [u64],
-) -> Built
+) -> Result<Handle, Refusal>
     ensures { RunBuild came options offsets.now columns.now values.now weights.now words.old words.new floats.old floats.new statistics.old statistics.new result }
 {
     let rows = least(came.rows as usize, 64);
@@ -68,7 +69,7 @@ pub fn update(
     words: &[u32],
     floats: &mut [f64],
     statistics: &[u64],
-) -> Updated
+) -> Result<(), Refusal>
     ensures { RunUpdate came handle offsets.now columns.now renewed.now words.now floats.old floats.new statistics.now result }
 {
     let rows = least(came.rows as usize, 64);
@@ -96,7 +97,7 @@ pub fn solve(
     words: &[u32],
     floats: &mut [f64],
     statistics: &mut [u64],
-) -> Solved
+) -> Result<LinearSolveReport, Refusal>
     ensures { RunSolve came handle limits rhs.now x.old x.new words.now floats.old floats.new statistics.old statistics.new result }
 {
     let a = least(came.rows as usize, rhs.len());

@@ -3,10 +3,10 @@ ghost use Rattle.std.specs.Prelude.{◌≡◌};
 ghost use Rattle.press_run.specs.Run.{started, ended, went_on, controls_taken, matrix_taken, weights_taken, builds_first, build_taken, update_taken, solve_taken};
 
 use options::{Handle, MultigridOptions};
-use record_format::{ControlsRead, Mark, MatrixRead};
+use record_format::{Mark, MatrixSizes};
 use record_order::Came;
-use refusal::Verdict;
-use solver::{Built, Solved, Updated};
+use refusal::Refusal;
+use solver::LinearSolveReport;
 
 // What has come, the controls, and once it is built the handle. A run that is over reads nothing more.
 #[derive(Clone, Copy)]
@@ -23,18 +23,17 @@ impl Run {
         ensures { result ≡ started }
     {
         let options = MultigridOptions::default();
-        let came = Came::nothing();
         let handle = Handle {
-            options: options,
+            options,
             levels: 0,
             rows: 0,
             entries: 0,
         };
         Run {
             over: false,
-            came: came,
-            options: options,
-            handle: handle,
+            came: Came::nothing(),
+            options,
+            handle,
         }
     }
 
@@ -50,43 +49,41 @@ impl Run {
     fn go_on(mut self, mark: Mark, rows: u64, entries: u64) -> Run
         ensures { result ≡ went_on self mark rows entries }
     {
-        let before = self.came;
-        let came = before.after(mark, rows, entries);
-        self.came = came;
+        self.came = self.came.after(mark, rows, entries);
         self
     }
 
     // After CO.
-    pub fn take_controls(self, read: ControlsRead) -> Run
+    pub fn take_controls(self, read: Result<MultigridOptions, Refusal>) -> Run
         ensures { result ≡ controls_taken self read }
     {
         match read {
-            ControlsRead::Read(options) => {
+            Ok(options) => {
                 let mut later = self.go_on(Mark::Controls, 0, 0);
                 later.options = options;
                 later
             }
-            ControlsRead::Refused(_) => self.end(),
+            Err(_) => self.end(),
         }
     }
 
     // After MX.
-    pub fn take_matrix(self, read: MatrixRead) -> Run
+    pub fn take_matrix(self, read: Result<MatrixSizes, Refusal>) -> Run
         ensures { result ≡ matrix_taken self read }
     {
         match read {
-            MatrixRead::Read(sizes) => self.go_on(Mark::Matrix, sizes.rows, sizes.entries),
-            MatrixRead::Refused(_) => self.end(),
+            Ok(sizes) => self.go_on(Mark::Matrix, sizes.rows, sizes.entries),
+            Err(_) => self.end(),
         }
     }
 
     // After FW.
-    pub fn take_weights(self, read: Verdict) -> Run
+    pub fn take_weights(self, read: Result<(), Refusal>) -> Run
         ensures { result ≡ weights_taken self read }
     {
         match read {
-            Verdict::Passed => self.go_on(Mark::Weights, 0, 0),
-            Verdict::Refused(_) => self.end(),
+            Ok(()) => self.go_on(Mark::Weights, 0, 0),
+            Err(_) => self.end(),
         }
     }
 
@@ -94,40 +91,39 @@ impl Run {
     pub fn builds_first(self) -> bool
         ensures { result ≡ builds_first self }
     {
-        let came = self.came;
-        !came.calls
+        !self.came.calls
     }
 
     // After the build, whose refusal ends the run.
-    pub fn take_build(mut self, built: Built) -> Run
+    pub fn take_build(mut self, built: Result<Handle, Refusal>) -> Run
         ensures { result ≡ build_taken self built }
     {
         match built {
-            Built::Made(handle) => {
+            Ok(handle) => {
                 self.handle = handle;
                 self
             }
-            Built::Refused(_) => self.end(),
+            Err(_refusal) => self.end(),
         }
     }
 
     // After an UP. Refused, the run goes on with the old coefficients.
-    pub fn take_update(self, updated: Updated) -> Run
+    pub fn take_update(self, updated: Result<(), Refusal>) -> Run
         ensures { result ≡ update_taken self updated }
     {
         match updated {
-            Updated::Done => self.go_on(Mark::Update, 0, 0),
-            Updated::Refused(_) => self.go_on(Mark::Update, 0, 0),
+            Ok(()) => self.go_on(Mark::Update, 0, 0),
+            Err(_) => self.go_on(Mark::Update, 0, 0),
         }
     }
 
     // After an SO. Refused, the run goes on.
-    pub fn take_solve(self, solved: Solved) -> Run
+    pub fn take_solve(self, solved: Result<LinearSolveReport, Refusal>) -> Run
         ensures { result ≡ solve_taken self solved }
     {
         match solved {
-            Solved::Report(_) => self.go_on(Mark::Solve, 0, 0),
-            Solved::Refused(_) => self.go_on(Mark::Solve, 0, 0),
+            Ok(_) => self.go_on(Mark::Solve, 0, 0),
+            Err(_) => self.go_on(Mark::Solve, 0, 0),
         }
     }
 }

@@ -1,10 +1,9 @@
 -- How places and answers cross the boundary: as numbers, and as words of a lent slice. Definitions only.
-use Rattle.std.specs.Prelude.{List, ◌≡◌, ℕ, Float, set}
+use Rattle.refusal.specs.declared.Refusal.{Refusal}
+use Rattle.std.specs.Prelude.{List, ◌≡◌, ℕ, Float, set, Result, Ok, Err}
 use Rattle.matrix.specs.declared.matrix.SymmetricMatrix.{SymmetricMatrix}
 use Rattle.coefficients.specs.declared.values.entries.Entries.{Entries}
 use Rattle.cholesky.specs.declared.Terminal.{Terminal}
-use Rattle.correction.specs.declared.scaling.Factor.{Factor}
-use Rattle.acceleration.specs.declared.acceleration.Corrected.{Corrected}
 pub use Rattle.meshprobe.specs.Telling.{flag, flag_of, written_of, answer_of, Told}
 
 -- the places of a kernel, as numbers
@@ -39,31 +38,31 @@ system_of rows entries offsets columns values size coupled factor =
     }
 
 -- zero, or the number of the question that refused the factor
-abbrev pub scale_answer : Factor → ℕ
-scale_answer (Factor.Factor x) = 0
-scale_answer (Factor.Refused q) = q.number
+abbrev pub scale_answer : Result Float Refusal → ℕ
+scale_answer (Ok x) = 0
+scale_answer (Err q) = q.number
 
 -- the factor stands at the front of `out`; a refusal writes nothing
-abbrev pub scale_written : Factor → List Float → List Float
-scale_written (Factor.Factor x) out = set out 0 x
-scale_written (Factor.Refused q) out = out
+abbrev pub scale_written : Result Float Refusal → List Float → List Float
+scale_written (Ok x) out = set out 0 x
+scale_written (Err q) out = out
 
 -- a factor or its refusal
-pub record Scaled (s : Factor) (P Q : List Float) (r : ℕ) : Type 0 where
+pub record Scaled (s : Result Float Refusal) (P Q : List Float) (r : ℕ) : Type 0 where
   pub is : r ≡ scale_answer s
   pub out : Q ≡ scale_written s P
 
 -- zero, or the number of the question that refused the correction
-abbrev pub count_answer : Corrected → ℕ
-count_answer (Corrected.Used n) = 0
-count_answer (Corrected.Refused q) = q.number
+abbrev pub count_answer : Result ℕ Refusal → ℕ
+count_answer (Ok n) = 0
+count_answer (Err q) = q.number
 
 -- how many pairs are stored, at the front of `count`; a refusal writes nothing
-abbrev pub count_written : Corrected → List ℕ → List ℕ
-count_written (Corrected.Used n) count = set count 0 n
-count_written (Corrected.Refused q) count = count
+abbrev pub count_written : Result ℕ Refusal → List ℕ → List ℕ
+count_written (Ok n) count = set count 0 n
+count_written (Err q) count = count
 
 -- a correction's count or its refusal
-pub record Counted (s : Corrected) (P Q : List ℕ) (r : ℕ) : Type 0 where
+pub record Counted (s : Result ℕ Refusal) (P Q : List ℕ) (r : ℕ) : Type 0 where
   pub is : r ≡ count_answer s
   pub count : Q ≡ count_written s P

@@ -10,8 +10,7 @@ ghost use Rattle.acceleration.specs.DirectionsContract.{pair_at, memory_at};
 ghost use Rattle.acceleration.specs.AccelerationContract.{corrected_of, CorrectOk, CorrectedBy};
 ghost use Rattle.probe.specs.Probe.{Scaled, Counted};
 
-use acceleration::Corrected;
-use correction::Factor;
+use refusal::Refusal;
 
 #[unsafe(no_mangle)]
 pub extern "C" fn probe_restrict(
@@ -78,16 +77,16 @@ pub extern "C" fn probe_subtract(f: &mut [f64], n: usize, rhs: usize, product: u
 }
 
 // Zero and the factor, or the number of the refusal.
-fn scaled(factor: Factor, out: &mut [f64]) -> u64
+fn scaled(factor: Result<f64, Refusal>, out: &mut [f64]) -> u64
     requires { 1 ≤ length out.old }
     ensures { Scaled factor out.old out.new result }
 {
     match factor {
-        Factor::Factor(value) => {
+        Ok(value) => {
             out[0] = value;
             0
         }
-        Factor::Refused(refusal) => refusal.number,
+        Err(refusal) => refusal.number,
     }
 }
 
@@ -144,16 +143,16 @@ pub extern "C" fn probe_add_plain(f: &mut [f64], n: usize, correction: usize, x:
 }
 
 // Zero and how many pairs are stored, or the number of the refusal.
-fn counted(corrected: Corrected, count: &mut [u64]) -> u64
+fn counted(corrected: Result<usize, Refusal>, count: &mut [u64]) -> u64
     requires { 1 ≤ length count.old }
     ensures { Counted corrected count.old count.new result }
 {
     match corrected {
-        Corrected::Used(used) => {
+        Ok(used) => {
             count[0] = used as u64;
             0
         }
-        Corrected::Refused(refusal) => refusal.number,
+        Err(refusal) => refusal.number,
     }
 }
 

@@ -34,12 +34,12 @@ pub extern "C" fn probe_apply(
         f.old f.new }
 {
     let s = SymmetricMatrix {
-        rows: rows,
-        diagonal: diagonal,
-        inverse: inverse,
-        offsets: offsets,
-        neighbors: neighbors,
-        coefficients: coefficients,
+        rows,
+        diagonal,
+        inverse,
+        offsets,
+        neighbors,
+        coefficients,
     };
     matrix::apply(w, f, s, x, out);
 }
@@ -68,12 +68,12 @@ pub extern "C" fn probe_residual(
         f.old f.new }
 {
     let s = SymmetricMatrix {
-        rows: rows,
-        diagonal: diagonal,
-        inverse: inverse,
-        offsets: offsets,
-        neighbors: neighbors,
-        coefficients: coefficients,
+        rows,
+        diagonal,
+        inverse,
+        offsets,
+        neighbors,
+        coefficients,
     };
     residual::residual(w, f, s, x, rhs, out);
 }
@@ -97,12 +97,12 @@ pub extern "C" fn probe_row_sums_into(
         f.old f.new }
 {
     let s = SymmetricMatrix {
-        rows: rows,
-        diagonal: diagonal,
-        inverse: inverse,
-        offsets: offsets,
-        neighbors: neighbors,
-        coefficients: coefficients,
+        rows,
+        diagonal,
+        inverse,
+        offsets,
+        neighbors,
+        coefficients,
     };
     matrix::row_sums_into(w, f, s, sums);
 }
@@ -139,18 +139,18 @@ pub extern "C" fn probe_update(
         (entries_of entries diagonals faces values) w.now f.old)) }
 {
     let s = SymmetricMatrix {
-        rows: rows,
-        diagonal: diagonal,
-        inverse: inverse,
-        offsets: offsets,
-        neighbors: neighbors,
-        coefficients: coefficients,
+        rows,
+        diagonal,
+        inverse,
+        offsets,
+        neighbors,
+        coefficients,
     };
     let e = Entries {
-        entries: entries,
-        diagonals: diagonals,
-        faces: faces,
-        values: values,
+        entries,
+        diagonals,
+        faces,
+        values,
     };
     answer(coefficients::update(w, f, s, e, level), place)
 }
@@ -189,18 +189,18 @@ pub extern "C" fn probe_update_given(
         (entries_of entries diagonals faces values) w.now given.now)) }
 {
     let s = SymmetricMatrix {
-        rows: rows,
-        diagonal: diagonal,
-        inverse: inverse,
-        offsets: offsets,
-        neighbors: neighbors,
-        coefficients: coefficients,
+        rows,
+        diagonal,
+        inverse,
+        offsets,
+        neighbors,
+        coefficients,
     };
     let e = Entries {
-        entries: entries,
-        diagonals: diagonals,
-        faces: faces,
-        values: values,
+        entries,
+        diagonals,
+        faces,
+        values,
     };
     let count = store::wide(w[offsets + rows]);
     coefficients::pick_given(w, given, f, count, faces, coefficients);

@@ -40,12 +40,12 @@ pub extern "C" fn probe_update_dic_diagonal(
         (verdict_of (dic_of level (kernel_at (symmetric_of rows diagonal inverse offsets neighbors coefficients) w.now f.old))) }
 {
     let s = SymmetricMatrix {
-        rows: rows,
-        diagonal: diagonal,
-        inverse: inverse,
-        offsets: offsets,
-        neighbors: neighbors,
-        coefficients: coefficients,
+        rows,
+        diagonal,
+        inverse,
+        offsets,
+        neighbors,
+        coefficients,
     };
     answer(dic::update_dic_diagonal(w, f, s, d, level), place)
 }
@@ -72,12 +72,12 @@ pub extern "C" fn probe_gauss_seidel(
         f.old f.new }
 {
     let s = SymmetricMatrix {
-        rows: rows,
-        diagonal: diagonal,
-        inverse: inverse,
-        offsets: offsets,
-        neighbors: neighbors,
-        coefficients: coefficients,
+        rows,
+        diagonal,
+        inverse,
+        offsets,
+        neighbors,
+        coefficients,
     };
     gauss_seidel::gauss_seidel(w, f, s, rhs, x, work, symmetric != 0);
 }
@@ -105,12 +105,12 @@ pub extern "C" fn probe_dic_sweep(
         f.old f.new }
 {
     let s = SymmetricMatrix {
-        rows: rows,
-        diagonal: diagonal,
-        inverse: inverse,
-        offsets: offsets,
-        neighbors: neighbors,
-        coefficients: coefficients,
+        rows,
+        diagonal,
+        inverse,
+        offsets,
+        neighbors,
+        coefficients,
     };
     dic::dic_sweep(w, f, s, dic, rhs, x, work, correction);
 }
@@ -150,19 +150,19 @@ pub extern "C" fn probe_smooth(
         (part dic rows f.old) (part rhs rows f.old) (smoother_of kind) sweeps (part x rows f.old))) }
 {
     let s = SymmetricMatrix {
-        rows: rows,
-        diagonal: diagonal,
-        inverse: inverse,
-        offsets: offsets,
-        neighbors: neighbors,
-        coefficients: coefficients,
+        rows,
+        diagonal,
+        inverse,
+        offsets,
+        neighbors,
+        coefficients,
     };
     // A smoother takes no product.
     let v = LevelScratch {
-        rhs: rhs,
-        x: x,
-        work: work,
-        correction: correction,
+        rhs,
+        x,
+        work,
+        correction,
         product: correction,
     };
     let smoother = smoother_of(kind as u64);

@@ -46,14 +46,14 @@ pub extern "C" fn probe_cholesky(
         (coupled_at (system_of rows entries offsets columns values size coupled factor) w.now))) }
 {
     let t = Terminal {
-        rows: rows,
-        entries: entries,
-        offsets: offsets,
-        columns: columns,
-        values: values,
-        size: size,
-        coupled: coupled,
-        factor: factor,
+        rows,
+        entries,
+        offsets,
+        columns,
+        values,
+        size,
+        coupled,
+        factor,
     };
     answer(cholesky::cholesky(w, f, t, level), place)
 }
@@ -103,14 +103,14 @@ pub extern "C" fn probe_solve(
         (part rhs rows f.old))) }
 {
     let t = Terminal {
-        rows: rows,
-        entries: entries,
-        offsets: offsets,
-        columns: columns,
-        values: values,
-        size: size,
-        coupled: coupled,
-        factor: factor,
+        rows,
+        entries,
+        offsets,
+        columns,
+        values,
+        size,
+        coupled,
+        factor,
     };
     answer(coarse::solve(w, f, t, inverse, rhs, x, work), place)
 }

@@ -1,4 +1,5 @@
 -- A record is read where its test passes, and refused by 32 where it does not. Assumes nothing.
+use Rattle.std.specs.Prelude.{Ok, Err}
 use mathlib.Core.Path.{◌≡◌, refl, sym, subst, ◌∙◌}
 use mathlib.Core.Bool.{Bool, true, false, ◌&&◌}
 use mathlib.Core.List.{List}
@@ -9,7 +10,6 @@ use lib.Dec.{eqb, leb}
 use lib.ListN.{length}
 use lib.Ieee.{Float}
 use Rattle.refusal.specs.Outcome.{Outcome, accepted, refused}
-use Rattle.refusal.specs.declared.Verdict.{Verdict}
 use Rattle.store.specs.Region.{Wrote}
 use Rattle.store.proofs.store.Each.{both_l, both_r}
 use Rattle.options.specs.declared.options.MultigridOptions.{MultigridOptions}
@@ -19,9 +19,6 @@ use Rattle.options.specs.declared.options.MultigridCoarseSolver.{MultigridCoarse
 use Rattle.export.specs.Flat.{smoother_of, residual_norm_of, coarse_solver_of}
 use Rattle.solver.specs.declared.solver.LinearSolverOptions.{LinearSolverOptions}
 use Rattle.record_format.specs.declared.marks.Mark.{Mark}
-use Rattle.record_format.specs.declared.controls.ControlsRead.{ControlsRead}
-use Rattle.record_format.specs.declared.matrix.MatrixRead.{MatrixRead}
-use Rattle.record_format.specs.declared.problem.ProblemRead.{ProblemRead}
 use Rattle.record_format.specs.Bytes.{u32_at, u64_at, float_at, floats_at}
 use Rattle.record_format.specs.Format.{bad_record, marked, Matrix, Problem, controls_ok, controls_at, read_controls, sizes_ok, matrix_length, matrix_ok, matrix_at, read_matrix, values_ok, read_values, limits_at, problem_at, solve_ok, read_solve}
 use Rattle.record_format.specs.Answers.{controlsAnswer, MatrixIs, ValuesAre, ProblemIs}
@@ -61,11 +58,11 @@ pub controls_accepts : (b : List ℕ) {t : Bool} → t ≡ controls_ok b → t �
 unfolding read_controls
 controls_accepts b told e = rw (sym told ∙ e)
 
-pub controls_yes : (b : List ℕ) {t : Bool} {c : MultigridOptions} → t ≡ controls_ok b → t ≡ true → c ≡ controls_at b → ControlsRead.Read c ≡ controlsAnswer (read_controls b)
+pub controls_yes : (b : List ℕ) {t : Bool} {c : MultigridOptions} → t ≡ controls_ok b → t ≡ true → c ≡ controls_at b → Ok c ≡ controlsAnswer (read_controls b)
 unfolding read_controls
 controls_yes b told e f = rw (sym told ∙ e, f)
 
-pub controls_no : (b : List ℕ) {t : Bool} → t ≡ controls_ok b → t ≡ false → ControlsRead.Refused bad_record ≡ controlsAnswer (read_controls b)
+pub controls_no : (b : List ℕ) {t : Bool} → t ≡ controls_ok b → t ≡ false → Err bad_record ≡ controlsAnswer (read_controls b)
 unfolding read_controls
 controls_no b told e = rw (sym told ∙ e)
 
@@ -90,9 +87,9 @@ unfolding read_matrix
 matrix_refuses b told e = rw (sym told ∙ e)
 
 pub matrix_yes : {b O O' C C' : List ℕ} {F F' : List Float} {t : Bool} {rows entries : ℕ} → t ≡ matrix_ok b → t ≡ true → WordIs b 2 rows → WordIs b 6 entries
-    → MatrixLaid b rows entries O O' C C' F F' → MatrixIs (read_matrix b) O O' C C' F F' (MatrixRead.Read (record { rows = rows; entries = entries }))
+    → MatrixLaid b rows entries O O' C C' F F' → MatrixIs (read_matrix b) O O' C C' F F' (Ok (record { rows = rows; entries = entries }))
 matrix_yes {b} {O} {O'} {C} {C'} {F} {F'} {t} {rows} {entries} told e r n laid =
-    subst (λ (o : Outcome Matrix). MatrixIs o O O' C C' F F' (MatrixRead.Read (record { rows = rows; entries = entries }))) (sym (matrix_accepts b told e))
+    subst (λ (o : Outcome Matrix). MatrixIs o O O' C C' F F' (Ok (record { rows = rows; entries = entries }))) (sym (matrix_accepts b told e))
     (record {
       answer = rw (r.is, n.is);
       offsets = rw (← r.is) laid.offsets;
@@ -100,9 +97,9 @@ matrix_yes {b} {O} {O'} {C} {C'} {F} {F'} {t} {rows} {entries} told e r n laid =
       values = rw (← r.is, ← n.is) laid.values;
     })
 
-pub matrix_no : (b : List ℕ) {O C : List ℕ} {F : List Float} {t : Bool} → t ≡ matrix_ok b → t ≡ false → MatrixIs (read_matrix b) O O C C F F (MatrixRead.Refused bad_record)
+pub matrix_no : (b : List ℕ) {O C : List ℕ} {F : List Float} {t : Bool} → t ≡ matrix_ok b → t ≡ false → MatrixIs (read_matrix b) O O C C F F (Err bad_record)
 matrix_no b {O} {C} {F} told e =
-    subst (λ (o : Outcome Matrix). MatrixIs o O O C C F F (MatrixRead.Refused bad_record)) (sym (matrix_refuses b told e))
+    subst (λ (o : Outcome Matrix). MatrixIs o O O C C F F (Err bad_record)) (sym (matrix_refuses b told e))
     (record { answer = refl; offsets = refl; columns = refl; values = refl })
 
 -- ---- FW and UP
@@ -130,14 +127,14 @@ unfolding read_values
 values_refuses m entries b told e = rw (sym told ∙ e)
 
 pub values_yes : (m : Mark) (entries : ℕ) (b : List ℕ) {F F' : List Float} {t : Bool} → t ≡ values_ok m entries b → t ≡ true
-    → Wrote 0 entries (floats_at b 2 entries) F F' → ValuesAre (read_values m entries b) F F' Verdict.Passed
+    → Wrote 0 entries (floats_at b 2 entries) F F' → ValuesAre (read_values m entries b) F F' (Ok tt)
 values_yes m entries b {F} {F'} told e laid =
-    subst (λ (o : Outcome (List Float)). ValuesAre o F F' Verdict.Passed) (sym (values_accepts m entries b told e)) (record { answer = refl; values = laid.is })
+    subst (λ (o : Outcome (List Float)). ValuesAre o F F' (Ok tt)) (sym (values_accepts m entries b told e)) (record { answer = refl; values = laid.is })
 
 pub values_no : (m : Mark) (entries : ℕ) (b : List ℕ) {F : List Float} {t : Bool} → t ≡ values_ok m entries b → t ≡ false
-    → ValuesAre (read_values m entries b) F F (Verdict.Refused bad_record)
+    → ValuesAre (read_values m entries b) F F (Err bad_record)
 values_no m entries b {F} told e =
-    subst (λ (o : Outcome (List Float)). ValuesAre o F F (Verdict.Refused bad_record)) (sym (values_refuses m entries b told e)) (record { answer = refl; values = refl })
+    subst (λ (o : Outcome (List Float)). ValuesAre o F F (Err bad_record)) (sym (values_refuses m entries b told e)) (record { answer = refl; values = refl })
 
 -- ---- SO
 
@@ -164,12 +161,12 @@ unfolding read_solve
 solve_refuses rows b told e = rw (sym told ∙ e)
 
 pub solve_yes : (rows : ℕ) (b : List ℕ) {R R' S S' : List Float} {t : Bool} {l : LinearSolverOptions} → t ≡ solve_ok rows b → t ≡ true
-    → VectorsLaid b rows R R' S S' → l ≡ limits_at b → ProblemIs (read_solve rows b) R R' S S' (ProblemRead.Read l)
+    → VectorsLaid b rows R R' S S' → l ≡ limits_at b → ProblemIs (read_solve rows b) R R' S S' (Ok l)
 solve_yes rows b {R} {R'} {S} {S'} {t} {l} told e laid f =
-    subst (λ (o : Outcome Problem). ProblemIs o R R' S S' (ProblemRead.Read l)) (sym (solve_accepts rows b told e))
+    subst (λ (o : Outcome Problem). ProblemIs o R R' S S' (Ok l)) (sym (solve_accepts rows b told e))
     (record { answer = rw f; rhs = laid.rhs; start = laid.start })
 
-pub solve_no : (rows : ℕ) (b : List ℕ) {R S : List Float} {t : Bool} → t ≡ solve_ok rows b → t ≡ false → ProblemIs (read_solve rows b) R R S S (ProblemRead.Refused bad_record)
+pub solve_no : (rows : ℕ) (b : List ℕ) {R S : List Float} {t : Bool} → t ≡ solve_ok rows b → t ≡ false → ProblemIs (read_solve rows b) R R S S (Err bad_record)
 solve_no rows b {R} {S} told e =
-    subst (λ (o : Outcome Problem). ProblemIs o R R S S (ProblemRead.Refused bad_record)) (sym (solve_refuses rows b told e))
+    subst (λ (o : Outcome Problem). ProblemIs o R R S S (Err bad_record)) (sym (solve_refuses rows b told e))
     (record { answer = refl; rhs = refl; start = refl })

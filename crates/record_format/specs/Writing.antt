@@ -1,11 +1,11 @@
 -- Writing a record to bytes that are lent: what is asked, and what is left of the bytes. Definitions only.
-use Rattle.std.specs.Prelude.{◌≡◌, List, ℕ, ◌-◌, eqb, leb, ltb, length, Float}
+use Rattle.refusal.specs.declared.Refusal.{Refusal}
+use Rattle.std.specs.Prelude.{◌≡◌, List, ℕ, ◌-◌, eqb, leb, ltb, length, Float, Result, Ok, Err}
 use Rattle.refusal.specs.Outcome.{Outcome, accepted, refused, passed, ask, ◌>>=◌, ◌>>◌}
 use Rattle.refusal.specs.Refusal.{too_large, bad_offsets, wrong_length, store_too_small}
 use Rattle.options.specs.declared.options.MultigridOptions.{MultigridOptions}
 use Rattle.solver.specs.declared.solver.LinearSolverOptions.{LinearSolverOptions}
 use Rattle.record_format.specs.declared.marks.Mark.{Mark}
-use Rattle.record_format.specs.declared.writing.RecordWritten.{RecordWritten}
 use Rattle.record_format.specs.Format.{Matrix, controls_bytes, matrix_length, matrix_bytes, values_length, values_bytes, solve_length, solve_bytes}
 use Rattle.record_format.specs.Answers.{leaves_of}
 
@@ -78,11 +78,11 @@ write_solve size limits rhs start = do
 -- ---- what a writer answers
 
 -- how many bytes it wrote, or the refusal
-abbrev pub written_answer : Outcome (List ℕ) → RecordWritten
-written_answer (accepted b) = RecordWritten.Bytes (length b)
-written_answer (refused q) = RecordWritten.Refused q
+abbrev pub written_answer : Outcome (List ℕ) → Result ℕ Refusal
+written_answer (accepted b) = Ok (length b)
+written_answer (refused q) = Err q
 
 -- A record is written over the start of an output, or refused: the answer, and what is left of the output.
-pub record WrittenIs (o : Outcome (List ℕ)) (B B' : List ℕ) (r : RecordWritten) : Type 0 where
+pub record WrittenIs (o : Outcome (List ℕ)) (B B' : List ℕ) (r : Result ℕ Refusal) : Type 0 where
   pub answer : r ≡ written_answer o
   pub bytes : B' ≡ leaves_of (λ b. b) o B

@@ -8,7 +8,7 @@ ghost use Rattle.record_format.specs.Steps.{ByteIs, WordIs, RoomFor, SpaceFor};
 pub fn byte_at(b: &[u8], at: usize) -> u64
     ensures { ByteIs b.now at result }
 {
-    if at < b.len() { b[at] as u64 } else { 0 }
+    b.get(at).map_or(0, |&byte| u64::from(byte))
 }
 
 // The u32 whose four bytes start at a place.
@@ -41,16 +41,14 @@ pub fn float_at(b: &[u8], at: usize) -> f64
     float::of_bits(u64_at(b, at))
 }
 
-// n numbers of four bytes each, which start at a place, to the start of a slice.
+// n numbers of four bytes each, which start at a place, to the start of a slice. This loop and those below are written out for each
+// kind of number: of a common one the width, the bytes and the call would be parameters, and it would be longer than they are.
 pub fn read_words(b: &[u8], at: usize, n: usize, out: &mut [u32])
     requires { RoomFor (length out.old) at n }
     ensures { Wrote 0 n (words_at b.now at n) out.old out.new }
 {
-    let mut k = 0;
-    while k < n {
-        let word = u32_at(b, at + 4 * k);
-        out[k] = word as u32;
-        k += 1;
+    for k in 0..n {
+        out[k] = u32_at(b, at + 4 * k) as u32;
     }
 }
 
@@ -59,11 +57,8 @@ pub fn read_floats(b: &[u8], at: usize, n: usize, out: &mut [f64])
     requires { RoomFor (length out.old) at n }
     ensures { Wrote 0 n (floats_at b.now at n) out.old out.new }
 {
-    let mut k = 0;
-    while k < n {
-        let value = float_at(b, at + 8 * k);
-        out[k] = value;
-        k += 1;
+    for k in 0..n {
+        out[k] = float_at(b, at + 8 * k);
     }
 }
 
@@ -108,11 +103,8 @@ pub fn write_words(out: &mut [u8], at: usize, words: &[u32])
     requires { SpaceFor at (4 * length words.now) (length out.old) }
     ensures { Wrote at (4 * length words.now) (flat bytes4 words.now) out.old out.new }
 {
-    let mut k = 0;
-    while k < words.len() {
-        let word = words[k] as u64;
-        put_u32(out, at + 4 * k, word);
-        k += 1;
+    for (k, &word) in words.iter().enumerate() {
+        put_u32(out, at + 4 * k, u64::from(word));
     }
 }
 
@@ -121,11 +113,8 @@ pub fn write_longs(out: &mut [u8], at: usize, longs: &[u64])
     requires { SpaceFor at (8 * length longs.now) (length out.old) }
     ensures { Wrote at (8 * length longs.now) (flat bytes8 longs.now) out.old out.new }
 {
-    let mut k = 0;
-    while k < longs.len() {
-        let long = longs[k];
+    for (k, &long) in longs.iter().enumerate() {
         put_u64(out, at + 8 * k, long);
-        k += 1;
     }
 }
 
@@ -134,10 +123,7 @@ pub fn write_floats(out: &mut [u8], at: usize, floats: &[f64])
     requires { SpaceFor at (8 * length floats.now) (length out.old) }
     ensures { Wrote at (8 * length floats.now) (flat float_bytes floats.now) out.old out.new }
 {
-    let mut k = 0;
-    while k < floats.len() {
-        let value = floats[k];
+    for (k, &value) in floats.iter().enumerate() {
         put_f64(out, at + 8 * k, value);
-        k += 1;
     }
 }

@@ -9,13 +9,6 @@ use export::controls::{coarse_solver_of, residual_norm_of, smoother_of};
 use options::MultigridOptions;
 use refusal::Refusal;
 
-// The controls of a record, or the refusal of its bytes.
-#[derive(Clone, Copy)]
-pub enum ControlsRead {
-    Read(MultigridOptions),
-    Refused(Refusal),
-}
-
 // Whether bytes are a CO record. One expression of `&`: no branch.
 fn controls_ok(b: &[u8]) -> bool
     ensures { result ≡ controls_ok b.now }
@@ -54,12 +47,12 @@ fn controls_at(b: &[u8]) -> MultigridOptions
 }
 
 // The controls of a CO record.
-pub fn read_controls(b: &[u8]) -> ControlsRead
+pub fn read_controls(b: &[u8]) -> Result<MultigridOptions, Refusal>
     ensures { result ≡ controlsAnswer (read_controls b.now) }
 {
     if controls_ok(b) {
-        ControlsRead::Read(controls_at(b))
+        Ok(controls_at(b))
     } else {
-        ControlsRead::Refused(crate::BAD_RECORD)
+        Err(crate::BAD_RECORD)
     }
 }

@@ -10,13 +10,13 @@ pub mod problem;
 pub mod values;
 pub mod writing;
 
-pub use controls::{ControlsRead, read_controls};
+pub use controls::read_controls;
 pub use marks::{Mark, is_marked};
-pub use matrix::{MatrixRead, MatrixSizes, read_matrix};
-pub use problem::{ProblemRead, read_solve};
+pub use matrix::{MatrixSizes, read_matrix};
+pub use problem::read_solve;
 use refusal::Refusal;
 pub use values::read_values;
-pub use writing::{RecordWritten, write_controls, write_matrix, write_solve, write_values};
+pub use writing::{write_controls, write_matrix, write_solve, write_values};
 
 pub const BAD_RECORD: Refusal = Refusal {
     number: 32,

@@ -15,13 +15,6 @@ pub struct MatrixSizes {
     pub entries: u64,
 }
 
-// The sizes of a matrix that was read, or the refusal of its bytes.
-#[derive(Clone, Copy)]
-pub enum MatrixRead {
-    Read(MatrixSizes),
-    Refused(Refusal),
-}
-
 // Whether bytes are an MX record.
 fn matrix_ok(b: &[u8]) -> bool
     ensures { result ≡ matrix_ok b.now }
@@ -56,18 +49,15 @@ pub fn read_matrix(
     offsets: &mut [u32; 65],
     columns: &mut [u32; 320],
     values: &mut [f64; 320],
-) -> MatrixRead
+) -> Result<MatrixSizes, Refusal>
     ensures { MatrixIs (read_matrix b.now) offsets.old offsets.new columns.old columns.new values.old values.new result }
 {
     let rows = u32_at(b, 2);
     let entries = u32_at(b, 6);
     if matrix_ok(b) {
         lay_matrix(b, rows as usize, entries as usize, offsets, columns, values);
-        MatrixRead::Read(MatrixSizes {
-            rows: rows,
-            entries: entries,
-        })
+        Ok(MatrixSizes { rows, entries })
     } else {
-        MatrixRead::Refused(crate::BAD_RECORD)
+        Err(crate::BAD_RECORD)
     }
 }

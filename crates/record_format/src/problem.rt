@@ -9,13 +9,6 @@ use crate::marks::{Mark, is_marked};
 use refusal::Refusal;
 use solver::LinearSolverOptions;
 
-// The tolerances and the limit of a solve that was read, or the refusal of its bytes.
-#[derive(Clone, Copy)]
-pub enum ProblemRead {
-    Read(LinearSolverOptions),
-    Refused(Refusal),
-}
-
 // Whether bytes are an SO record for so many rows.
 fn solve_ok(b: &[u8], rows: usize) -> bool
     ensures { result ≡ solve_ok rows b.now }
@@ -48,13 +41,18 @@ fn limits_at(b: &[u8]) -> LinearSolverOptions
 }
 
 // The solve of an SO record: its vectors to the starts of two slices.
-pub fn read_solve(b: &[u8], rows: usize, rhs: &mut [f64; 64], start: &mut [f64; 64]) -> ProblemRead
+pub fn read_solve(
+    b: &[u8],
+    rows: usize,
+    rhs: &mut [f64; 64],
+    start: &mut [f64; 64],
+) -> Result<LinearSolverOptions, Refusal>
     ensures { ProblemIs (read_solve rows b.now) rhs.old rhs.new start.old start.new result }
 {
     if solve_ok(b, rows) {
         lay_vectors(b, rows, rhs, start);
-        ProblemRead::Read(limits_at(b))
+        Ok(limits_at(b))
     } else {
-        ProblemRead::Refused(crate::BAD_RECORD)
+        Err(crate::BAD_RECORD)
     }
 }

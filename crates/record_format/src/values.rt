@@ -5,7 +5,7 @@ ghost use Rattle.record_format.specs.Answers.{ValuesAre};
 
 use crate::bytes::read_floats;
 use crate::marks::{Mark, is_marked};
-use refusal::Verdict;
+use refusal::Refusal;
 
 // Whether bytes are a record of that mark for so many entries.
 fn values_ok(b: &[u8], mark: Mark, entries: usize) -> bool
@@ -19,13 +19,18 @@ fn values_ok(b: &[u8], mark: Mark, entries: usize) -> bool
 }
 
 // The weights of an FW record or the values of an UP record, to the start of a slice.
-pub fn read_values(b: &[u8], mark: Mark, entries: usize, values: &mut [f64; 320]) -> Verdict
+pub fn read_values(
+    b: &[u8],
+    mark: Mark,
+    entries: usize,
+    values: &mut [f64; 320],
+) -> Result<(), Refusal>
     ensures { ValuesAre (read_values mark entries b.now) values.old values.new result }
 {
     if values_ok(b, mark, entries) {
         read_floats(b, 2, entries, values);
-        Verdict::Passed
+        Ok(())
     } else {
-        Verdict::Refused(crate::BAD_RECORD)
+        Err(crate::BAD_RECORD)
     }
 }

@@ -11,57 +11,37 @@ ghost use Rattle.record_format.specs.Writing.{matrix_of, matrix_room, values_roo
 use crate::bytes::{put_byte, put_f64, put_u32, put_u64, write_floats, write_longs, write_words};
 use crate::marks::Mark;
 use options::{MultigridCoarseSolver, MultigridOptions, MultigridResidualNorm, MultigridSmoother};
-use refusal::{Refusal, Verdict};
+use refusal::Refusal;
 use solver::LinearSolverOptions;
-
-// How many bytes a record has that was written, or its refusal.
-#[derive(Clone, Copy)]
-pub enum RecordWritten {
-    Bytes(usize),
-    Refused(Refusal),
-}
-
-// Two letters at the start.
-fn put_letters(out: &mut [u8], first: u8, second: u8)
-    requires { SpaceFor 0 2 (length out.old) }
-    ensures { Wrote 0 2 (first ∷ second ∷ []) out.old out.new }
-{
-    put_byte(out, 0, first);
-    put_byte(out, 1, second);
-}
 
 // A mark at the start.
 pub fn put_mark(out: &mut [u8], mark: Mark)
     requires { SpaceFor 0 2 (length out.old) }
     ensures { Wrote 0 2 (letters_of mark) out.old out.new }
 {
-    match mark {
-        Mark::Controls => put_letters(out, 67, 79),
-        Mark::Matrix => put_letters(out, 77, 88),
-        Mark::Weights => put_letters(out, 70, 87),
-        Mark::Update => put_letters(out, 85, 80),
-        Mark::Solve => put_letters(out, 83, 79),
-    }
+    let [first, second] = mark.letters();
+    put_byte(out, 0, first);
+    put_byte(out, 1, second);
 }
 
 // ---- MX
 
 // Whether a matrix may be written.
-fn matrix_room(offsets: usize, columns: usize, values: usize, size: usize) -> Verdict
+fn matrix_room(offsets: usize, columns: usize, values: usize, size: usize) -> Result<(), Refusal>
     ensures { result ≡ verdict_of (matrix_room offsets columns values size) }
 {
     if offsets > 65537 {
-        Verdict::Refused(refusal::TOO_LARGE)
+        Err(refusal::TOO_LARGE)
     } else if columns > 1048576 {
-        Verdict::Refused(refusal::TOO_LARGE)
+        Err(refusal::TOO_LARGE)
     } else if offsets == 0 {
-        Verdict::Refused(refusal::BAD_OFFSETS)
+        Err(refusal::BAD_OFFSETS)
     } else if columns != values {
-        Verdict::Refused(refusal::BAD_OFFSETS)
+        Err(refusal::BAD_OFFSETS)
     } else if 14 + 4 * (offsets - 1) + 12 * columns > size {
-        Verdict::Refused(refusal::STORE_TOO_SMALL)
+        Err(refusal::STORE_TOO_SMALL)
     } else {
-        Verdict::Passed
+        Ok(())
     }
 }
 
@@ -97,28 +77,25 @@ pub fn write_matrix(
     columns: &[u32],
     values: &[f64],
     out: &mut [u8],
-) -> RecordWritten
+) -> Result<usize, Refusal>
     ensures { WrittenIs (write_matrix (length out.old) offsets.now columns.now values.now) out.old out.new result }
 {
-    let room = matrix_room(offsets.len(), columns.len(), values.len(), out.len());
-    match room {
-        Verdict::Passed => RecordWritten::Bytes(put_matrix(offsets, columns, values, out)),
-        Verdict::Refused(q) => RecordWritten::Refused(q),
-    }
+    matrix_room(offsets.len(), columns.len(), values.len(), out.len())?;
+    Ok(put_matrix(offsets, columns, values, out))
 }
 
 // ---- FW and UP
 
 // Whether so many floats may be written.
-fn values_room(values: usize, size: usize) -> Verdict
+fn values_room(values: usize, size: usize) -> Result<(), Refusal>
     ensures { result ≡ verdict_of (values_room values size) }
 {
     if values > 1048576 {
-        Verdict::Refused(refusal::TOO_LARGE)
+        Err(refusal::TOO_LARGE)
     } else if 2 + 8 * values > size {
-        Verdict::Refused(refusal::STORE_TOO_SMALL)
+        Err(refusal::STORE_TOO_SMALL)
     } else {
-        Verdict::Passed
+        Ok(())
     }
 }
 
@@ -133,30 +110,27 @@ fn put_values(mark: Mark, values: &[f64], out: &mut [u8]) -> usize
 }
 
 // The FW record of weights or the UP record of values.
-pub fn write_values(mark: Mark, values: &[f64], out: &mut [u8]) -> RecordWritten
+pub fn write_values(mark: Mark, values: &[f64], out: &mut [u8]) -> Result<usize, Refusal>
     ensures { WrittenIs (write_values (length out.old) mark values.now) out.old out.new result }
 {
-    let room = values_room(values.len(), out.len());
-    match room {
-        Verdict::Passed => RecordWritten::Bytes(put_values(mark, values, out)),
-        Verdict::Refused(q) => RecordWritten::Refused(q),
-    }
+    values_room(values.len(), out.len())?;
+    Ok(put_values(mark, values, out))
 }
 
 // ---- SO
 
 // Whether a solve may be written.
-fn solve_room(rhs: usize, start: usize, size: usize) -> Verdict
+fn solve_room(rhs: usize, start: usize, size: usize) -> Result<(), Refusal>
     ensures { result ≡ verdict_of (solve_room rhs start size) }
 {
     if rhs > 65536 {
-        Verdict::Refused(refusal::TOO_LARGE)
+        Err(refusal::TOO_LARGE)
     } else if rhs != start {
-        Verdict::Refused(refusal::WRONG_LENGTH)
+        Err(refusal::WRONG_LENGTH)
     } else if 26 + 16 * rhs > size {
-        Verdict::Refused(refusal::STORE_TOO_SMALL)
+        Err(refusal::STORE_TOO_SMALL)
     } else {
-        Verdict::Passed
+        Ok(())
     }
 }
 
@@ -190,14 +164,11 @@ pub fn write_solve(
     rhs: &[f64],
     start: &[f64],
     out: &mut [u8],
-) -> RecordWritten
+) -> Result<usize, Refusal>
     ensures { WrittenIs (write_solve (length out.old) limits rhs.now start.now) out.old out.new result }
 {
-    let room = solve_room(rhs.len(), start.len(), out.len());
-    match room {
-        Verdict::Passed => RecordWritten::Bytes(put_solve(limits, rhs, start, out)),
-        Verdict::Refused(q) => RecordWritten::Refused(q),
-    }
+    solve_room(rhs.len(), start.len(), out.len())?;
+    Ok(put_solve(limits, rhs, start, out))
 }
 
 // ---- CO
@@ -304,13 +275,13 @@ fn put_controls(out: &mut [u8], o: MultigridOptions)
 }
 
 // The CO record of controls.
-pub fn write_controls(o: MultigridOptions, out: &mut [u8]) -> RecordWritten
+pub fn write_controls(o: MultigridOptions, out: &mut [u8]) -> Result<usize, Refusal>
     ensures { WrittenIs (write_controls (length out.old) o) out.old out.new result }
 {
     if out.len() < 110 {
-        RecordWritten::Refused(refusal::STORE_TOO_SMALL)
+        Err(refusal::STORE_TOO_SMALL)
     } else {
         put_controls(out, o);
-        RecordWritten::Bytes(110)
+        Ok(110)
     }
 }

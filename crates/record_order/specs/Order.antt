@@ -1,11 +1,11 @@
 -- The order of records in a problem file: which mark may come, how many bytes its record has, and what is to be done with the bytes of a
 -- record that have been read. Definitions only.
-use Rattle.std.specs.Prelude.{Bool, true, false, cond, not, ◌&&◌, List, ℕ, ◌+◌, ◌-◌, ◌≤◌, eqb, leb, ltb, length}
+use Rattle.std.specs.Prelude.{Bool, true, false, cond, not, ◌&&◌, List, ℕ, ◌+◌, ◌-◌, ◌≤◌, eqb, leb, ltb, length, Option, Some, None, Result, Ok, Err}
+use Rattle.refusal.specs.declared.Refusal.{Refusal}
 use Rattle.record_format.specs.Bytes.{u32_at}
 use Rattle.record_format.specs.Format.{bad_record, marked, sizes_ok, matrix_length, values_length, solve_length}
 use Rattle.record_format.specs.declared.marks.Mark.{Mark}
 use Rattle.record_order.specs.declared.Came.{Came}
-use Rattle.record_order.specs.declared.Named.{Named}
 use Rattle.record_order.specs.declared.Next.{Next}
 use Rattle.record_order.specs.declared.Ending.{Ending}
 
@@ -39,13 +39,13 @@ after_of c Mark.Solve rows entries =
 -- ---- the bytes of a record
 
 -- the mark that bytes start with
-unfoldable pub named_of : List ℕ → Named
+unfoldable pub named_of : List ℕ → Option Mark
 named_of b =
-    cond (marked Mark.Controls b) (Named.Known Mark.Controls)
-    (cond (marked Mark.Matrix b) (Named.Known Mark.Matrix)
-    (cond (marked Mark.Weights b) (Named.Known Mark.Weights)
-    (cond (marked Mark.Update b) (Named.Known Mark.Update)
-    (cond (marked Mark.Solve b) (Named.Known Mark.Solve) Named.Unknown))))
+    cond (marked Mark.Controls b) (Some Mark.Controls)
+    (cond (marked Mark.Matrix b) (Some Mark.Matrix)
+    (cond (marked Mark.Weights b) (Some Mark.Weights)
+    (cond (marked Mark.Update b) (Some Mark.Update)
+    (cond (marked Mark.Solve b) (Some Mark.Solve) None))))
 
 -- how many bytes of a record tell its size: of MX the rows and entries too, of the others the mark alone
 unfoldable pub head_length : Mark → ℕ
@@ -68,28 +68,28 @@ unfoldable pub until_of : Mark → ℕ → ℕ → Next
 until_of m size had = cond (ltb had size) (Next.Read (size - had)) (Next.Whole m)
 
 -- a record of that mark: what tells its size is read, the size is judged, and the rest is read
-unfoldable pub sized_of : Came → List ℕ → Mark → Next
+unfoldable pub sized_of : Came → List ℕ → Mark → Result Next Refusal
 sized_of c b m =
-    cond (ltb (length b) (head_length m)) (Next.Read (head_length m - length b))
-    (cond (eqb (record_size c b m) 0) (Next.Refused bad_record) (until_of m (record_size c b m) (length b)))
+    cond (ltb (length b) (head_length m)) (Ok (Next.Read (head_length m - length b)))
+    (cond (eqb (record_size c b m) 0) (Err bad_record) (Ok (until_of m (record_size c b m) (length b))))
 
 -- a mark is judged when it is read
-abbrev pub judged_of : Came → List ℕ → Named → Next
-judged_of c b (Named.Known m) = cond (allowed c m) (sized_of c b m) (Next.Refused bad_record)
-judged_of c b Named.Unknown = Next.Refused bad_record
+abbrev pub judged_of : Came → List ℕ → Option Mark → Result Next Refusal
+judged_of c b (Some m) = cond (allowed c m) (sized_of c b m) (Err bad_record)
+judged_of c b None = Err bad_record
 
 -- what is to be done next, with so many bytes of a record read: the mark first, then the rest, then the record is whole; or it is refused
-unfoldable pub what_next : Came → List ℕ → Next
-what_next c b = cond (ltb (length b) 2) (Next.Read (2 - length b)) (judged_of c b (named_of b))
+unfoldable pub what_next : Came → List ℕ → Result Next Refusal
+what_next c b = cond (ltb (length b) 2) (Ok (Next.Read (2 - length b))) (judged_of c b (named_of b))
 
 -- ---- the end of the input
 
 -- at the end between records: 32 without CO or MX, else a build that was not made yet is made
-abbrev pub ending_of : Came → Ending
-ending_of c = cond (c.controls && c.matrix) (cond c.calls Ending.Done Ending.Build) (Ending.Refused bad_record)
+abbrev pub ending_of : Came → Result Ending Refusal
+ending_of c = cond (c.controls && c.matrix) (cond c.calls (Ok Ending.Done) (Ok Ending.Build)) (Err bad_record)
 
 -- What is to be read next, behind so many bytes, ends by byte 4,110.
-abbrev pub WithinRoom : ℕ → Next → Type 0
-WithinRoom had (Next.Read n) = had + n ≤ 4110
-WithinRoom had (Next.Whole m) = Unit
-WithinRoom had (Next.Refused q) = Unit
+abbrev pub WithinRoom : ℕ → Result Next Refusal → Type 0
+WithinRoom had (Ok (Next.Read n)) = had + n ≤ 4110
+WithinRoom had (Ok (Next.Whole m)) = Unit
+WithinRoom had (Err q) = Unit

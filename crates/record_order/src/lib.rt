@@ -22,19 +22,11 @@ pub struct Came {
     pub entries: u64,
 }
 
-// The mark that bytes start with.
-#[derive(Clone, Copy)]
-pub enum Named {
-    Known(Mark),
-    Unknown,
-}
-
-// What is to be done next: read so many bytes more, act on a whole record, or refuse.
+// What is to be done next: read so many bytes more, or act on a whole record.
 #[derive(Clone, Copy)]
 pub enum Next {
     Read(usize),
     Whole(Mark),
-    Refused(Refusal),
 }
 
 // What the end of the input asks for.
@@ -42,7 +34,6 @@ pub enum Next {
 pub enum Ending {
     Build,
     Done,
-    Refused(Refusal),
 }
 
 impl Came {
@@ -67,8 +58,7 @@ impl Came {
             Mark::Controls => !self.controls & !self.calls,
             Mark::Matrix => !self.matrix & !self.calls,
             Mark::Weights => self.matrix & !self.weights & !self.calls,
-            Mark::Update => self.controls & self.matrix,
-            Mark::Solve => self.controls & self.matrix,
+            Mark::Update | Mark::Solve => self.controls & self.matrix,
         }
     }
 
@@ -77,80 +67,65 @@ impl Came {
         ensures { result ≡ after_of self mark rows entries }
     {
         match mark {
-            Mark::Controls => {
-                self.controls = true;
-                self
-            }
+            Mark::Controls => self.controls = true,
             Mark::Matrix => {
                 self.matrix = true;
                 self.rows = rows;
                 self.entries = entries;
-                self
             }
-            Mark::Weights => {
-                self.weights = true;
-                self
-            }
-            Mark::Update => {
-                self.calls = true;
-                self
-            }
-            Mark::Solve => {
-                self.calls = true;
-                self
-            }
+            Mark::Weights => self.weights = true,
+            Mark::Update | Mark::Solve => self.calls = true,
         }
+        self
     }
 
     // At the end of the input between records.
-    pub fn at_end(self) -> Ending
+    pub fn at_end(self) -> Result<Ending, Refusal>
         ensures { result ≡ ending_of self }
     {
         if self.controls & self.matrix {
             if self.calls {
-                Ending::Done
+                Ok(Ending::Done)
             } else {
-                Ending::Build
+                Ok(Ending::Build)
             }
         } else {
-            Ending::Refused(record_format::BAD_RECORD)
+            Err(record_format::BAD_RECORD)
         }
     }
 }
 
 // The mark that bytes start with.
-fn mark_of(b: &[u8]) -> Named
+fn mark_of(b: &[u8]) -> Option<Mark>
     ensures { result ≡ named_of b.now }
 {
     if is_marked(b, Mark::Controls) {
-        return Named::Known(Mark::Controls);
+        return Some(Mark::Controls);
     }
     if is_marked(b, Mark::Matrix) {
-        return Named::Known(Mark::Matrix);
+        return Some(Mark::Matrix);
     }
     if is_marked(b, Mark::Weights) {
-        return Named::Known(Mark::Weights);
+        return Some(Mark::Weights);
     }
     if is_marked(b, Mark::Update) {
-        return Named::Known(Mark::Update);
+        return Some(Mark::Update);
     }
     if is_marked(b, Mark::Solve) {
-        Named::Known(Mark::Solve)
+        Some(Mark::Solve)
     } else {
-        Named::Unknown
+        None
     }
 }
 
 // How many bytes of a record tell its size.
+#[tactic(auto, unfolding(crate::specs::Order::head_length))]
 fn head(mark: Mark) -> usize
     ensures { result ≡ head_length mark }
 {
     match mark {
-        Mark::Controls => 2,
         Mark::Matrix => 10,
-        Mark::Weights => 2,
-        Mark::Update => 2,
-        Mark::Solve => 2,
+        Mark::Controls | Mark::Weights | Mark::Update | Mark::Solve => 2,
     }
 }
 
@@ -182,14 +157,14 @@ fn solve_size(rows: u64) -> u64
 }
 
 // The size of a record that starts with these bytes; 0 where it would be too large.
+#[tactic(auto, unfolding(crate::specs::Order::record_size))]
 fn size(c: Came, b: &[u8], mark: Mark) -> u64
     ensures { result ≡ record_size c b.now mark }
 {
     match mark {
         Mark::Controls => 110,
         Mark::Matrix => matrix_size(b),
-        Mark::Weights => values_size(c.entries),
-        Mark::Update => values_size(c.entries),
+        Mark::Weights | Mark::Update => values_size(c.entries),
         Mark::Solve => solve_size(c.rows),
     }
 }
@@ -206,36 +181,30 @@ fn until(mark: Mark, size: usize, had: usize) -> Next
 }
 
 // A record of that mark: what tells its size is read, the size is judged, and the rest is read.
-fn sized(c: Came, b: &[u8], mark: Mark) -> Next
+fn sized(c: Came, b: &[u8], mark: Mark) -> Result<Next, Refusal>
     ensures { result ≡ sized_of c b.now mark }
 {
     let had = b.len();
     let head = head(mark);
     if had < head {
-        return Next::Read(head - had);
+        return Ok(Next::Read(head - had));
     }
     let size = size(c, b, mark);
     if size == 0 {
-        return Next::Refused(record_format::BAD_RECORD);
+        return Err(record_format::BAD_RECORD);
     }
-    until(mark, size as usize, had)
+    Ok(until(mark, size as usize, had))
 }
 
 // What is to be done next, with these bytes of a record read. A mark is judged when it is there.
-pub fn judge(c: Came, b: &[u8]) -> Next
+pub fn judge(c: Came, b: &[u8]) -> Result<Next, Refusal>
     ensures { result ≡ what_next c b.now }
 {
     if b.len() < 2 {
-        return Next::Read(2 - b.len());
+        return Ok(Next::Read(2 - b.len()));
     }
     match mark_of(b) {
-        Named::Known(mark) => {
-            if c.allows(mark) {
-                sized(c, b, mark)
-            } else {
-                Next::Refused(record_format::BAD_RECORD)
-            }
-        }
-        Named::Unknown => Next::Refused(record_format::BAD_RECORD),
+        Some(mark) if c.allows(mark) => sized(c, b, mark),
+        _ => Err(record_format::BAD_RECORD),
     }
 }

@@ -1,10 +1,11 @@
 -- How a chain of questions goes on, and how it ends. Assumes nothing.
+use Rattle.std.specs.Prelude.{Result, Ok, Err, IsErrAnd}
+use Rattle.std.proofs.lemmas.Result.{err_from_is_err_and}
 use mathlib.Core.Path.{◌≡◌, refl}
 use mathlib.Core.Bool.{Bool, true, false}
 use Prim.Native.Nat.{ℕ, zero, suc, ◌+◌, ◌-◌, ◌≤◌, ◌<◌}
 use native.Mathlib.Omega.{arith}
 use Rattle.refusal.specs.declared.Refusal.{Refusal}
-use Rattle.refusal.specs.declared.Verdict.{Verdict}
 use Rattle.refusal.specs.Outcome.{Outcome, accepted, refused, passed, ask, ◌>>=◌, ask_rows, ask_from, ask_each, verdict_of, is_refused}
 
 module _ {A : Type 0} (holds : Bool) (q : Refusal) (rest : Outcome A) where
@@ -78,34 +79,38 @@ module _ {A : Type 0} (asked : ℕ → Outcome Unit) (rest : Outcome A) where
 
 module _ {A : Type 0} (o : Outcome A) where
   -- an accepted outcome passes
-  pub verdict_passed : {a : A} → o ≡ accepted a → verdict_of o ≡ Verdict.Passed
+  pub verdict_passed : {a : A} → o ≡ accepted a → verdict_of o ≡ Ok tt
   verdict_passed e = rw e
 
   -- a refused outcome is that refusal
-  pub verdict_refused : {q : Refusal} → o ≡ refused q → verdict_of o ≡ Verdict.Refused q
+  pub verdict_refused : {q : Refusal} → o ≡ refused q → verdict_of o ≡ Err q
   verdict_refused e = rw e
 
 -- where the verdict is `Passed`, the questions have passed
-pub passes : {v : Verdict} (o : Outcome Unit) → v ≡ verdict_of o → v ≡ Verdict.Passed → o ≡ passed
+pub passes : {v : Result Unit Refusal} (o : Outcome Unit) → v ≡ verdict_of o → v ≡ Ok tt → o ≡ passed
 passes (accepted a) e told = refl
 passes (refused q) e told = let none : ◌≡◌ {A = ℕ} 0 1 = cc in absurd (omega arith)
 
 -- what passed was accepted
-pub accepts_it : {A : Type 0} {v : Verdict} (out : Outcome A) → v ≡ verdict_of out → v ≡ Verdict.Passed → (a : A) × (out ≡ accepted a)
+pub accepts_it : {A : Type 0} {v : Result Unit Refusal} (out : Outcome A) → v ≡ verdict_of out → v ≡ Ok tt → (a : A) × (out ≡ accepted a)
 accepts_it (accepted a) e told = (a, refl)
 accepts_it (refused q) e told = let none : ◌≡◌ {A = ℕ} 0 1 = cc in absurd (omega arith)
 
 -- where the verdict is a refusal, the outcome is that refusal
-pub refuses : {A : Type 0} {v : Verdict} {q : Refusal} (o : Outcome A) → v ≡ verdict_of o → v ≡ Verdict.Refused q → o ≡ refused q
+pub refuses : {A : Type 0} {v : Result Unit Refusal} {q : Refusal} (o : Outcome A) → v ≡ verdict_of o → v ≡ Err q → o ≡ refused q
 refuses (accepted a) e told = let none : ◌≡◌ {A = ℕ} 0 1 = cc in absurd (omega arith)
 refuses (refused p) e told = cc
 
 -- An answer that is no refusal has passed,
-pub went_on_lem : (v : Verdict) → is_refused v ≡ false → v ≡ Verdict.Passed
-went_on_lem Verdict.Passed e = refl
-went_on_lem (Verdict.Refused q) e = let none : ◌≡◌ {A = ℕ} 0 1 = cc in absurd (omega arith)
+pub went_on_lem : (v : Result Unit Refusal) → is_refused v ≡ false → v ≡ Ok tt
+went_on_lem (Ok tt) e = refl
+went_on_lem (Err q) e = let none : ◌≡◌ {A = ℕ} 0 1 = cc in absurd (omega arith)
 
 -- and another has refused.
-pub stopped : (v : Verdict) → is_refused v ≡ true → (q : Refusal) × (v ≡ Verdict.Refused q)
-stopped Verdict.Passed e = let none : ◌≡◌ {A = ℕ} 0 1 = cc in absurd (omega arith)
-stopped (Verdict.Refused q) e = (q, refl)
+pub stopped : (v : Result Unit Refusal) → is_refused v ≡ true → (q : Refusal) × (v ≡ Err q)
+stopped (Ok tt) e = let none : ◌≡◌ {A = ℕ} 0 1 = cc in absurd (omega arith)
+stopped (Err q) e = (q, refl)
+
+-- What a `?` returns where its call failed: that error.
+pub passed_up : {T E : Type 0} {q : E} (r : Result T E) → IsErrAnd r (λ x. x ≡ q) → r ≡ Err q
+passed_up r e = let p = err_from_is_err_and r e in rw (p.1, p.2) refl

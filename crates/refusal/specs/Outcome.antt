@@ -1,7 +1,6 @@
 -- Computations that may refuse: a chain of questions, which the first "no" ends. Definitions only.
-use Rattle.std.specs.Prelude.{Bool, true, false, ℕ, zero, suc, ◌+◌, ◌-◌}
+use Rattle.std.specs.Prelude.{Bool, true, false, ℕ, zero, suc, ◌+◌, ◌-◌, Result, Ok, Err}
 use Rattle.refusal.specs.declared.Refusal.{Refusal}
-use Rattle.refusal.specs.declared.Verdict.{Verdict}
 
 -- a result, or the first refusal
 pub data Outcome (A : Type 0) : Type 0 where
@@ -42,11 +41,11 @@ abbrev pub ask_each : {A : Type 0} → ℕ → (ℕ → Outcome Unit) → Outcom
 ask_each rows asked rest = ask_from 0 rows asked rest
 
 -- what a function that only asks questions answers
-abbrev pub verdict_of : {A : Type 0} → Outcome A → Verdict
-verdict_of (accepted a) = Verdict.Passed
-verdict_of (refused q) = Verdict.Refused q
+abbrev pub verdict_of : {A : Type 0} → Outcome A → Result Unit Refusal
+verdict_of (accepted a) = Ok tt
+verdict_of (refused q) = Err q
 
 -- whether a question refused
-abbrev pub is_refused : Verdict → Bool
-is_refused Verdict.Passed = false
-is_refused (Verdict.Refused q) = true
+abbrev pub is_refused : Result Unit Refusal → Bool
+is_refused (Ok tt) = false
+is_refused (Err q) = true

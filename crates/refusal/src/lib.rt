@@ -4,7 +4,8 @@
 ghost use Rattle.std.specs.Prelude.{◌≡◌};
 ghost use Rattle.refusal.specs.Outcome.{is_refused};
 
-// The question's number, and the level and row where it failed; both are zero where the question names no place.
+// The question's number, and the level and row where it failed; both are zero where the question names no place. A number and no enum: C has
+// it, docs/REFUSALS.md goes by it, and `export` and the printing of a refusal take any.
 #[derive(Clone, Copy)]
 pub struct Refusal {
     pub number: u64,
@@ -12,22 +13,13 @@ pub struct Refusal {
     pub row: u64,
 }
 
-// The answer of a function that only asks questions.
-#[derive(Clone, Copy)]
-pub enum Verdict {
-    Passed,
-    Refused(Refusal),
-}
-
-impl Verdict {
-    // Whether a question refused.
-    pub fn refused(self) -> bool
-        ensures { result ≡ is_refused self }
-    {
-        match self {
-            Verdict::Passed => false,
-            Verdict::Refused(_) => true,
-        }
+// Whether a question refused.
+pub fn refused(answer: Result<(), Refusal>) -> bool
+    ensures { result ≡ is_refused answer }
+{
+    match answer {
+        Ok(()) => false,
+        Err(_) => true,
     }
 }
 

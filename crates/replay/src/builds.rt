@@ -2,19 +2,20 @@
 use lists::kinds::Answer;
 use lists::stores::Extent;
 use lists::{Problem, kinds, reading, stores};
-use solver::Built;
+use options::Handle;
+use refusal::Refusal;
 use std::io;
 
-// The answer of a build in numbers.
-fn told(built: Built) -> Answer {
+// The answer of a build in numbers, as the list has it.
+fn told(built: Result<Handle, Refusal>) -> Answer {
     match built {
-        Built::Made(h) => Answer {
+        Ok(h) => Answer {
             number: 0,
             level: 0,
             row: 0,
             levels: h.levels,
         },
-        Built::Refused(q) => Answer {
+        Err(q) => Answer {
             number: q.number,
             level: q.level,
             row: q.row,
@@ -23,7 +24,7 @@ fn told(built: Built) -> Answer {
     }
 }
 
-// Whether something is as the list has it, and where the next number stands.
+// Whether something is as the list has it, and where the next number stands, which is read on where it is not, too.
 #[derive(Clone, Copy)]
 struct Agreed {
     same: bool,
@@ -49,30 +50,22 @@ fn same_answer(text: &[u8], at: usize, a: Answer) -> Agreed {
 fn same_statistics(text: &[u8], at: usize, levels: u64, s: &[u64], lent: usize) -> Agreed {
     let mut left = stores::statistics_sum(s, lent);
     let mut next = at;
-    let mut level: u64 = 0;
     let mut k = 0;
-    while level < levels {
+    for _ in 0..levels {
         if k >= s.len() {
-            return Agreed {
-                same: false,
-                next: next,
-            };
+            return Agreed { same: false, next };
         }
         let rows = reading::number(text, next);
         if s[k] != rows.value {
-            return Agreed {
-                same: false,
-                next: next,
-            };
+            return Agreed { same: false, next };
         }
-        left = std::num::wrapping_sub_u64(left, rows.value);
+        left = left.wrapping_sub(rows.value);
         next = rows.next;
         k += 5;
-        level += 1;
     }
     Agreed {
         same: left == 0,
-        next: next,
+        next,
     }
 }
 

@@ -4,21 +4,15 @@ ghost use Rattle.store.specs.Region.{part};
 ghost use Rattle.residual_norm.specs.Measure.{value_of, measure_of};
 ghost use Rattle.residual_norm.specs.Turns.{squares_of, sizes_of};
 
+use crate::rows::sum_rows;
 use options::MultigridResidualNorm;
-use vector::Product;
 
 // The squares of the n elements at x, added up.
 fn sum_squares(f: &[f64], n: usize, x: usize) -> f64
     requires { x + n ≤ length f.now }
     ensures { result ≡ squares_of n (part x n f.now) }
 {
-    let mut sum = -0.0;
-    let mut row = 0;
-    while row < n {
-        sum = sum + f[x + row] * f[x + row];
-        row += 1;
-    }
-    sum
+    sum_rows(n, |row| f[x + row] * f[x + row])
 }
 
 // Their absolute values, added up.
@@ -26,13 +20,7 @@ fn sum_sizes(f: &[f64], n: usize, x: usize) -> f64
     requires { x + n ≤ length f.now }
     ensures { result ≡ sizes_of n (part x n f.now) }
 {
-    let mut sum = -0.0;
-    let mut row = 0;
-    while row < n {
-        sum = sum + float::abs(f[x + row]);
-        row += 1;
-    }
-    sum
+    sum_rows(n, |row| float::abs(f[x + row]))
 }
 
 // The norm of the residual.
@@ -53,14 +41,14 @@ pub fn measure(
     residual: usize,
     norm: MultigridResidualNorm,
     factor: f64,
-) -> Product
+) -> Option<f64>
     requires { residual + n ≤ length f.now }
     ensures { result ≡ measure_of norm n (part residual n f.now) factor }
 {
     let value = value(f, n, residual, norm, factor);
     if float::is_finite(value) {
-        Product::Finite(value)
+        Some(value)
     } else {
-        Product::NotFinite
+        None
     }
 }

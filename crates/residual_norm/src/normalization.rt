@@ -6,6 +6,7 @@ ghost use Rattle.residual_norm.specs.Normalization.{mean_of, normalization_of};
 ghost use Rattle.residual_norm.specs.Contract.{NormalizationOk};
 ghost use Rattle.residual_norm.specs.Turns.{spread_of, spreads_of};
 
+use crate::rows::sum_rows;
 use options::MultigridResidualNorm;
 
 // The n elements at x, added up.
@@ -13,13 +14,7 @@ fn sum(f: &[f64], n: usize, x: usize) -> f64
     requires { x + n ≤ length f.now }
     ensures { result ≡ sum_of n (at (part x n f.now)) }
 {
-    let mut sum = -0.0;
-    let mut row = 0;
-    while row < n {
-        sum = sum + f[x + row];
-        row += 1;
-    }
-    sum
+    sum_rows(n, |row| f[x + row])
 }
 
 // The mean of the n elements at x.
@@ -45,13 +40,10 @@ fn sum_spreads(f: &[f64], n: usize, rhs: usize, product: usize, rowsums: usize, 
     ensures { result ≡ spreads_of n (part rhs n f.now) (part product n f.now)
         (part rowsums n f.now) mean }
 {
-    let mut sum = -0.0;
-    let mut row = 0;
-    while row < n {
-        sum = sum + spread(f[rhs + row], f[product + row], f[rowsums + row], mean);
-        row += 1;
-    }
-    sum
+    sum_rows(
+        n,
+        |row| spread(f[rhs + row], f[product + row], f[rowsums + row], mean),
+    )
 }
 
 // The factor by which the NormalizedL1 norm is divided; a sum that is a NaN gives the floor.

@@ -1,6 +1,6 @@
 -- The loops of the replay: what a turn keeps, and what the last one leaves. Assumes nothing.
 use mathlib.Core.Path.{◌≡◌, refl, ap, ◌∙◌}
-use mathlib.Core.Bool.{Bool, true, false, cond}
+use mathlib.Core.Bool.{Bool, true, false, cond, not}
 use mathlib.Core.List.{List}
 use Prim.Native.Nat.{ℕ, zero, suc, ◌+◌, ◌*◌, ◌/◌, ◌^◌, ◌≤◌, ◌<◌}
 use native.Mathlib.Nat.{lt_of_lt_of_le, suc-mul}
@@ -9,8 +9,8 @@ use native.Mathlib.Omega.{arith}
 use lib.Dec.{eqb}
 use lib.ListN.{get_or, length}
 use lib.Pow.{pow-add, pow_pos, pow_mono}
-use lib.Ieee.{Float, binary64, of_bits, to_bits}
-use borrow.Author.Tests.{eq-eqb, ne_eqb}
+use lib.Ieee.{binary64, of_bits, to_bits}
+use mir.Val.{bool_byte}
 use Rattle.float.specs.Sqrt.{sqrt_of}
 use Rattle.roots.specs.Replay.{digit_of, word_of, differs_of, differences_of}
 
@@ -46,25 +46,10 @@ module _ {s : List ℕ} {at : ℕ} where
   unfolding word_of
   word_on w h e = record { turns = omega arith; is = rw (add-one, w.is, e) }
 
-  -- After the last turn.
-  pub word_done : {i v : ℕ} → Word s at i v → 16 ≤ i → v ≡ word_of 16 at s
-  word_done {i} w h =
-      let t = w.turns in
-      let e : i ≡ 16 = omega arith in
-      w.is ∙ ap (λ (k : ℕ). word_of k at s) e
-
--- r, the bits of the root, against e.
-module _ (b e : ℕ) {r : ℕ} {x y : Float} (X : x ≡ of_bits binary64 b) (Y : y ≡ sqrt_of x) (R : r ≡ to_bits binary64 y)
-  where
-    differs_by : (t : Bool) → eqb r e ≡ t → cond t 0 1 ≡ differs_of b e
-    unfolding differs_of
-    differs_by t h = rw (← h, R, Y, X)
-
-    pub differs_not : r ≡ e → 0 ≡ differs_of b e
-    differs_not h = differs_by true (eq-eqb r e h)
-
-    pub differs_so : (r ≡ e → ⊥) → 1 ≡ differs_of b e
-    differs_so h = differs_by false (ne_eqb r e h)
+-- A yes that is turned round, as a number.
+pub byte_of_not : (t : Bool) → bool_byte (not t) ≡ cond t 0 1
+byte_of_not true = refl
+byte_of_not false = refl
 
 differs_le : (b e : ℕ) → differs_of b e ≤ 1
 unfolding differs_of
@@ -74,43 +59,27 @@ differs_le b e = bit (eqb (to_bits binary64 (sqrt_of (of_bits binary64 b))) e)
     bit true = omega arith
     bit false = omega arith
 
--- After some turns of `differences`, `count` of the lines before `at` differ.
-pub record Lines (s : List ℕ) (count at line : ℕ) : Type 0 where
-  pub within : line ≤ length s / 34
-  pub place : at ≡ line * 34
+-- After some turns of `differences`, `count` of the first lines differ.
+pub record Lines (s : List ℕ) (count line : ℕ) : Type 0 where
   pub few : count ≤ line
   pub is : count ≡ differences_of line s
 
 module _ {s : List ℕ} where
   -- Before the first turn.
-  pub lines_start : Lines s 0 0 0
+  pub lines_start : Lines s 0 0
   unfolding differences_of
-  lines_start = record { within = omega arith; place = omega arith; few = omega arith; is = refl }
+  lines_start = record { few = omega arith; is = refl }
 
-  module _ (a e : ℕ) {count at line d : ℕ} (l : Lines s count at line) (h : line < length s / 34) (D : d ≡ differs_of a e)
+  module _ (a e : ℕ) {count line d : ℕ} (l : Lines s count line) (h : line < length s / 34) (D : d ≡ differs_of a e)
     where
       -- A turn has room for one line more,
       pub lines_room : count + d ≤ length s
       lines_room = let b = differs_le a e in let f = l.few in omega arith
 
       -- and counts it.
-      pub lines_on : a ≡ word_of 16 at s → e ≡ word_of 16 (at + 17) s → Lines s (count + d) (at + 34) (line + 1)
+      pub lines_on : a ≡ word_of 16 (line * 34) s → e ≡ word_of 16 (line * 34 + 17) s → Lines s (count + d) (line + 1)
       unfolding differences_of
       lines_on A E =
-          let p = l.place in
           let f = l.few in
           let b = differs_le a e in
-          record {
-            within = omega arith;
-            place = omega arith;
-            few = omega arith;
-            is = rw (add-one, l.is, D, A, E, p);
-          }
-
-  -- After the last turn.
-  pub lines_done : {count at line : ℕ} → Lines s count at line → length s / 34 ≤ line
-      → count ≡ differences_of (length s / 34) s
-  lines_done {count} {at} {line} l h =
-      let w = l.within in
-      let e : line ≡ length s / 34 = omega arith in
-      l.is ∙ ap (λ (k : ℕ). differences_of k s) e
+          record { few = omega arith; is = rw (add-one, l.is, D, A, E) }

@@ -16,7 +16,7 @@ use std::io;
 fn digit(c: u8) -> u64
     ensures { result ≡ digit_of c }
 {
-    let code: u64 = c as u64;
+    let code = u64::from(c);
     (code % 16 + code / 64 * 9) % 16
 }
 
@@ -25,11 +25,9 @@ fn word(s: &[u8], at: usize) -> u64
     requires { at + 16 ≤ length s.now }
     ensures { result ≡ word_of 16 at s.now }
 {
-    let mut value: u64 = 0;
-    let mut i: usize = 0;
-    while i < 16 {
-        value = value * 16 + digit(s[at + i]);
-        i += 1;
+    let mut value = 0;
+    for &c in &s[at..at + 16] {
+        value = value * 16 + digit(c);
     }
     value
 }
@@ -38,25 +36,17 @@ fn word(s: &[u8], at: usize) -> u64
 fn differs(b: u64, e: u64) -> u64
     ensures { result ≡ differs_of b e }
 {
-    if float::to_bits(float::sqrt(float::of_bits(b))) == e {
-        0
-    } else {
-        1
-    }
+    u64::from(float::to_bits(float::sqrt(float::of_bits(b))) != e)
 }
 
 // How many lines differ.
 fn differences(s: &[u8]) -> u64
     ensures { result ≡ differences_of (length s.now / 34) s.now }
 {
-    let lines: usize = s.len() / 34;
-    let mut count: u64 = 0;
-    let mut at: usize = 0;
-    let mut line: usize = 0;
-    while line < lines {
+    let mut count = 0;
+    for line in 0..s.len() / 34 {
+        let at = line * 34;
         count += differs(word(s, at), word(s, at + 17));
-        at += 34;
-        line += 1;
     }
     count
 }

@@ -1,14 +1,12 @@
-// How many updates and solves there are of each kind of answer.
+// How many updates and solves there are of each kind of answer. Kinds are numbers, as recall::Agreed has them: the places of the counters
+// and the order of the lines, into which an enum would be made for each use.
 use lists::kinds;
 use std::io;
 
 // One more of a kind, as recall::Agreed has them.
 pub fn count(kinds: &mut [u64; 98], kind: usize) {
-    if kind < 98 {
-        let n = kinds[kind];
-        if n < 18446744073709551615 {
-            kinds[kind] = n + 1;
-        }
+    if let Some(count) = kinds.get_mut(kind) {
+        *count = count.saturating_add(1);
     }
 }
 
@@ -25,16 +23,11 @@ fn print_update(rt: &impl Print, kind: u64) -> io::Result<()> {
 }
 
 fn print_solve(rt: &impl Print, kind: u64) -> io::Result<()> {
-    if kind == 64 {
-        print!(rt; "solve converged at once")
-    } else if kind == 65 {
-        print!(rt; "solve converged")
-    } else if kind == 66 {
-        print!(rt; "solve used up its iterations")
-    } else if kind > 66 {
-        print!(rt; "solve refused by {}", kind - 66)
-    } else {
-        Ok(())
+    match kind {
+        64 => print!(rt; "solve converged at once"),
+        65 => print!(rt; "solve converged"),
+        66 => print!(rt; "solve used up its iterations"),
+        _ => print!(rt; "solve refused by {}", kind.saturating_sub(66)),
     }
 }
 
@@ -49,9 +42,9 @@ fn print_line(rt: &impl Print, kind: u64, count: u64) -> io::Result<()> {
 
 // A line for each kind that occurs.
 pub fn print(rt: &impl Print, kinds: &[u64; 98]) -> io::Result<()> {
-    for k in 0..98 {
-        if kinds[k] > 0 {
-            print_line(rt, k as u64, kinds[k])?;
+    for (kind, &count) in kinds.iter().enumerate() {
+        if count > 0 {
+            print_line(rt, kind as u64, count)?;
         }
     }
     Ok(())

@@ -19,8 +19,8 @@ pub struct Agreed {
 fn changed(handle: Handle, added: u64) -> Handle {
     let options = handle.options;
     Handle {
-        options: options,
-        levels: std::num::wrapping_add_u64(handle.levels, added),
+        options,
+        levels: handle.levels.wrapping_add(added),
         rows: handle.rows,
         entries: handle.entries,
     }

@@ -2,7 +2,6 @@
 use crate::{outcomes, recall};
 use lists::{Problem, least, reading};
 use options::Handle;
-use solver::Built;
 use std::io;
 
 // How many calls were made, and how often something differs.
@@ -15,15 +14,15 @@ struct Tally {
 // So many calls, and a difference unless something is the same.
 fn counted(calls: u64, same: bool) -> Tally {
     Tally {
-        calls: calls,
-        differences: if same { 0 } else { 1 },
+        calls,
+        differences: u64::from(!same),
     }
 }
 
 fn sum(a: Tally, b: Tally) -> Tally {
     Tally {
-        calls: float::saturating_add(a.calls, b.calls),
-        differences: float::saturating_add(a.differences, b.differences),
+        calls: a.calls.saturating_add(b.calls),
+        differences: a.differences.saturating_add(b.differences),
     }
 }
 
@@ -41,13 +40,11 @@ fn make_calls(
 ) -> Tally {
     let mut tally = counted(0, true);
     let mut next = at;
-    let mut k: u64 = 0;
-    while k < number {
+    for _ in 0..number {
         let made = recall::call(text, next, handle, words, floats, statistics);
         outcomes::count(counts, made.kind);
         tally = sum(tally, counted(1, made.same));
         next = made.next;
-        k += 1;
     }
     sum(tally, counted(0, next == size))
 }
@@ -92,11 +89,11 @@ fn compare(
     let r = lists::from_text(text, words, floats, statistics);
     let built = r.built;
     match built {
-        Built::Made(handle) => {
+        Ok(handle) => {
             let p = r.problem;
             go_on(text, size, p, handle, words, floats, statistics, counts)
         }
-        Built::Refused(_) => counted(0, false),
+        Err(_) => counted(0, false),
     }
 }
 

@@ -6,7 +6,7 @@ use lists::calls;
 use options::{
     Handle, MultigridCoarseSolver, MultigridOptions, MultigridResidualNorm, MultigridSmoother,
 };
-use solver::{Built, Counted, LinearSolverOptions, Solved};
+use solver::LinearSolverOptions;
 use std::io;
 
 // The defaults but Cholesky, AbsoluteL2 and plain cycles.
@@ -49,13 +49,13 @@ fn press(
         max_iterations: 5,
     };
     match calls::solve(handle, words, floats, statistics, &rhs, &mut x, options) {
-        Solved::Report(r) => result_lines::report(rt, r)?,
-        Solved::Refused(q) => result_lines::refused(rt, q)?,
+        Ok(r) => result_lines::report(rt, r)?,
+        Err(q) => result_lines::refused(rt, q)?,
     }
     result_lines::solution(rt, &x, 2)?;
     match calls::statistics(handle, words, floats, statistics) {
-        Counted::Levels(levels) => result_lines::counters(rt, statistics, levels),
-        Counted::Refused(q) => result_lines::refused(rt, q),
+        Ok(levels) => result_lines::counters(rt, statistics, levels),
+        Err(q) => result_lines::refused(rt, q),
     }
 }
 
@@ -76,7 +76,7 @@ fn main(rt: HostRuntime) -> io::Result<()> {
         &mut floats,
         &mut statistics,
     ) {
-        Built::Made(handle) => press(&rt, handle, &words, &mut floats, &mut statistics),
-        Built::Refused(q) => result_lines::refused(&rt, q),
+        Ok(handle) => press(&rt, handle, &words, &mut floats, &mut statistics),
+        Err(q) => result_lines::refused(&rt, q),
     }
 }

@@ -1,5 +1,6 @@
 -- `smooth`: sweep after sweep, and its ways out.
 -- Assumes nothing.
+use Rattle.std.specs.Prelude.{Ok, Err}
 use mathlib.Core.Path.{◌≡◌, refl, sym, ap, ◌∙◌}
 use mathlib.Core.Bool.{Bool, true, false, cond}
 use mathlib.Core.List.{List}
@@ -14,7 +15,6 @@ use Rattle.store.proofs.store.Loop.{for_done, Left, left_start, left_on, left_en
 use Rattle.store.proofs.store.Region.{length_splice, part_splice, part_splice_below, part_splice_clear}
 use Rattle.options.specs.declared.options.MultigridSmoother.{MultigridSmoother}
 use Rattle.refusal.specs.Refusal.{bad_smoother_output}
-use Rattle.refusal.specs.declared.Verdict.{Verdict}
 use Rattle.vector.specs.Finite.{all_finite}
 use Rattle.matrix.specs.declared.matrix.SymmetricMatrix.{SymmetricMatrix}
 use Rattle.matrix.specs.Kernel.{Kernel, kernel_at}
@@ -180,7 +180,7 @@ module _ (w : List ℕ) (F : List Float) (s : SymmetricMatrix) (dic rhs x work c
   -- No sweep, no question.
   pub smooth_none : sweeps ≡ 0
       → SmoothDone s.rows x work correction (smooth_of (kernel_at s w F) (part dic s.rows F) (part rhs s.rows F) kind sweeps (part x s.rows F))
-      (swept_of (kernel_at s w F) (part dic s.rows F) (part rhs s.rows F) kind sweeps (part x s.rows F)) F F Verdict.Passed
+      (swept_of (kernel_at s w F) (part dic s.rows F) (part rhs s.rows F) kind sweeps (part x s.rows F)) F F (Ok tt)
   unfolding smooth_of
   smooth_none z =
       rw z (record { verdict = refl; smoothed = rw (swept_none (kernel_at s w F) (part dic s.rows F) (part rhs s.rows F) kind (part x s.rows F)) smoothed_start })
@@ -194,13 +194,13 @@ module _ (w : List ℕ) (F : List Float) (s : SymmetricMatrix) (dic rhs x work c
     -- x is finite.
     pub smooth_yes : r ≡ true
         → SmoothDone s.rows x work correction (smooth_of (kernel_at s w F) (part dic s.rows F) (part rhs s.rows F) kind sweeps (part x s.rows F))
-        (swept_of (kernel_at s w F) (part dic s.rows F) (part rhs s.rows F) kind sweeps (part x s.rows F)) F G Verdict.Passed
+        (swept_of (kernel_at s w F) (part dic s.rows F) (part rhs s.rows F) kind sweeps (part x s.rows F)) F G (Ok tt)
     unfolding smooth_of kernel_at
     smooth_yes t = record { verdict = rw (ne_eqb sweeps 0 z, sym told ∙ t); smoothed = p }
 
     -- Question 25 refuses.
     pub smooth_no : r ≡ false
         → SmoothDone s.rows x work correction (smooth_of (kernel_at s w F) (part dic s.rows F) (part rhs s.rows F) kind sweeps (part x s.rows F))
-        (swept_of (kernel_at s w F) (part dic s.rows F) (part rhs s.rows F) kind sweeps (part x s.rows F)) F G (Verdict.Refused bad_smoother_output)
+        (swept_of (kernel_at s w F) (part dic s.rows F) (part rhs s.rows F) kind sweeps (part x s.rows F)) F G (Err bad_smoother_output)
     unfolding smooth_of kernel_at
     smooth_no t = record { verdict = rw (ne_eqb sweeps 0 z, sym told ∙ t); smoothed = p }

@@ -1,11 +1,11 @@
 -- `smooth` of smoother.rs, over lists, and the frame of its functions. Definitions only.
-use Rattle.std.specs.Prelude.{Bool, true, false, cond, List, ◌≡◌, ℕ, eqb, Float, length}
+use Rattle.refusal.specs.declared.Refusal.{Refusal}
+use Rattle.std.specs.Prelude.{Bool, true, false, cond, List, ◌≡◌, ℕ, eqb, Float, length, Result}
 use Rattle.store.specs.Loop.{for}
 use Rattle.store.specs.Region.{Clear, part}
 use Rattle.options.specs.declared.options.MultigridSmoother.{MultigridSmoother}
 use Rattle.options.specs.Options.{needs_dic}
 use Rattle.refusal.specs.Refusal.{bad_smoother_output}
-use Rattle.refusal.specs.declared.Verdict.{Verdict}
 use Rattle.refusal.specs.Outcome.{Outcome, accepted, ask, verdict_of}
 use Rattle.vector.specs.Finite.{all_finite}
 use Rattle.matrix.specs.Kernel.{Kernel}
@@ -46,6 +46,6 @@ pub record Smoothed (n x work correction : ℕ) (v F G : List Float) : Type 0 wh
   pub size : length G ≡ length F
 
 -- the answer of `smooth`, and x as the sweeps leave it
-pub record SmoothDone (n x work correction : ℕ) (o : Outcome (List Float)) (v F G : List Float) (r : Verdict) : Type 0 where
+pub record SmoothDone (n x work correction : ℕ) (o : Outcome (List Float)) (v F G : List Float) (r : Result Unit Refusal) : Type 0 where
   pub verdict : r ≡ verdict_of o
   pub smoothed : Smoothed n x work correction v F G

@@ -10,7 +10,7 @@ ghost use Rattle.smoother.specs.Scratch.{scratch_of};
 
 use matrix::SymmetricMatrix;
 use options::MultigridSmoother;
-use refusal::Verdict;
+use refusal::Refusal;
 
 // Where the vectors of a level stand in the floats: right-hand side, x, work, which also holds the residual, correction and product.
 #[derive(Clone, Copy)]
@@ -40,11 +40,7 @@ pub fn level_scratch(start: usize, n: usize) -> LevelScratch
 fn is_symmetric(kind: MultigridSmoother) -> bool
     ensures { result ≡ is_symmetric kind }
 {
-    match kind {
-        MultigridSmoother::GaussSeidel => false,
-        MultigridSmoother::SymmetricGaussSeidel => true,
-        MultigridSmoother::DicGaussSeidel => false,
-    }
+    matches!(kind, MultigridSmoother::SymmetricGaussSeidel)
 }
 
 // That many DIC sweeps.
@@ -59,14 +55,12 @@ fn dic_sweeps(
     requires { SmoothOk w.now (length f.old) s dic v.rhs v.x v.work v.correction }
     ensures { Smoothed s.rows v.x v.work v.correction (dic_sweeps_of (kernel_at s w.now f.old) (part dic s.rows f.old) (part v.rhs s.rows f.old) sweeps (part v.x s.rows f.old)) f.old f.new }
 {
-    let mut i = 0;
-    while i < sweeps {
+    for _i in 0..sweeps {
         dic::dic_sweep(w, f, s, dic, v.rhs, v.x, v.work, v.correction);
-        i += 1;
     }
 }
 
-// That many Gauss-Seidel sweeps.
+// That many Gauss-Seidel sweeps. Apart from `dic_sweeps`: the one writes `correction` and the other `work`, as their laws say.
 fn gauss_seidels(
     w: &[u32],
     f: &mut [f64],
@@ -79,10 +73,8 @@ fn gauss_seidels(
     requires { SmoothOk w.now (length f.old) s dic v.rhs v.x v.work v.correction }
     ensures { Smoothed s.rows v.x v.work v.correction (gauss_seidels_of (kernel_at s w.now f.old) (part v.rhs s.rows f.old) symmetric sweeps (part v.x s.rows f.old)) f.old f.new }
 {
-    let mut i = 0;
-    while i < sweeps {
+    for _i in 0..sweeps {
         gauss_seidel::gauss_seidel(w, f, s, v.rhs, v.x, v.work, symmetric);
-        i += 1;
     }
 }
 
@@ -102,10 +94,8 @@ fn sweep(
     let symmetric = is_symmetric(kind);
     if options::needs_dic(kind) {
         dic_sweeps(w, f, s, dic, v, sweeps);
-        gauss_seidels(w, f, s, dic, v, symmetric, sweeps);
-    } else {
-        gauss_seidels(w, f, s, dic, v, symmetric, sweeps);
     }
+    gauss_seidels(w, f, s, dic, v, symmetric, sweeps);
 }
 
 // Smooths x, and asks question 25 of it. No sweep, no question. What work and correction held is never read.
@@ -117,17 +107,17 @@ pub fn smooth(
     kind: MultigridSmoother,
     v: LevelScratch,
     sweeps: u64,
-) -> Verdict
+) -> Result<(), Refusal>
     requires { SmoothOk w.now (length f.old) s dic v.rhs v.x v.work v.correction }
     ensures { SmoothDone s.rows v.x v.work v.correction (smooth_of (kernel_at s w.now f.old) (part dic s.rows f.old) (part v.rhs s.rows f.old) kind sweeps (part v.x s.rows f.old)) (swept_of (kernel_at s w.now f.old) (part dic s.rows f.old) (part v.rhs s.rows f.old) kind sweeps (part v.x s.rows f.old)) f.old f.new result }
 {
     if sweeps == 0 {
-        return Verdict::Passed;
+        return Ok(());
     }
     sweep(w, f, s, dic, kind, v, sweeps);
     if vector::all_finite(f, s.rows, v.x) {
-        Verdict::Passed
+        Ok(())
     } else {
-        Verdict::Refused(refusal::BAD_SMOOTHER_OUTPUT)
+        Err(refusal::BAD_SMOOTHER_OUTPUT)
     }
 }

@@ -1,5 +1,6 @@
 -- The whole solve: a law for each way out, on copies and then in the caller's vectors.
 -- Assumes nothing.
+use Rattle.std.specs.Prelude.{Result, Ok, Err, Option, Some, None}
 use mathlib.Core.Path.{◌≡◌, refl, sym, ap, ◌∙◌}
 use mathlib.Core.Bool.{Bool, true, false, cond, ◌&&◌}
 use mathlib.Core.List.{List}
@@ -22,10 +23,8 @@ use Rattle.solver.specs.declared.solver.LinearSolverStatus.{LinearSolverStatus}
 use Rattle.solver.specs.declared.solver.LinearSolveReport.{LinearSolveReport}
 use Rattle.refusal.specs.declared.Refusal.{Refusal}
 use Rattle.refusal.specs.Refusal.{bad_normalization, bad_residual}
-use Rattle.refusal.specs.declared.Verdict.{Verdict}
 use Rattle.refusal.specs.Outcome.{Outcome, accepted, refused, verdict_of, ◌>>=◌}
 use Rattle.refusal.proofs.Outcome.{ask_yes, ask_no, refuses, never, accepts_it, accepted_one}
-use Rattle.vector.specs.declared.vector.Product.{Product}
 use Rattle.matrix.specs.Kernel.{Kernel, apply_of}
 use Rattle.correction.specs.Correction.{subtract_of}
 use Rattle.acceleration.specs.Directions.{finite}
@@ -46,7 +45,6 @@ use Rattle.iterations.specs.Iteration.{System, true_residual_of, system_of}
 use Rattle.iterations.specs.System.{system_at}
 use Rattle.iterations.specs.Steps.{regions_at, Opened, Ready, Renewed, product_at}
 use Rattle.iterations.proofs.stepping.Placing.{vectors, rows_is, system_kept, sums_is, kernel_is, kernel_rows}
-use Rattle.solver.specs.declared.answers.Solved.{Solved}
 use Rattle.solver.specs.declared.answers.SolveRun.{SolveRun}
 use Rattle.solve.specs.Input.{lengths_ok, input_ok}
 use Rattle.solve.specs.Steps.{SolveOk, asked_of, attempt_at, AttemptOk, begun_at, BeginOk}
@@ -57,6 +55,11 @@ use Rattle.iterations.proofs.iterating.Iterations.{ran_accepted, ran_refused}
 use Rattle.solve.specs.Solve.{uncounted, factor_of, run_of, empty_report, empty_solution, solve_of, attempt_of}
 use Rattle.solve.specs.Solved.{solved_at, solution_of}
 use Rattle.solve.specs.Contract.{levels_counted, uncounted_run, refused_run, empty_run, SolveDone}
+
+-- What is not refused has passed.
+pub not_refused : (v : Result Unit Refusal) → ((q : Refusal) → v ≡ Err q → ⊥) → v ≡ Ok tt
+not_refused (Ok tt) n = refl
+not_refused (Err q) n = absurd (n q refl)
 
 -- ---- from question 22 on
 
@@ -123,7 +126,7 @@ module _ {h : Handle} {w : List ℕ} (F : List Float) {g : Regions} (ready : Rea
 
     module _ {t : List ℕ} (zeros : t ≡ uncounted) (s : LinearSolverOptions) where
       -- A factor that is not finite.
-      pub attempt_none : is_finite factor ≡ false → Ran g (attempt_at h w F g s) F G t (Solved.Refused bad_normalization)
+      pub attempt_none : is_finite factor ≡ false → Ran g (attempt_at h w F g s) F G t (Err bad_normalization)
       attempt_none fails = ran_refused kept (ask_no _ _ _ (ap is_finite (sym factor_is_lem) ∙ fails))
 
       module _ (holds : is_finite factor ≡ true) where
@@ -147,21 +150,21 @@ module _ {h : Handle} {w : List ℕ} (F : List Float) {g : Regions} (ready : Rea
         attempt_is : attempt_at h w F g s ≡ following
         attempt_is = ask_yes _ _ _ (ap is_finite (sym factor_is_lem) ∙ holds) ∙ ap (run_of y s rhs x) (sym factor_is_lem) ∙ run_is
 
-        module _ {p : Product} (m : p ≡ measure_of h.options.residual_norm g.rows (part g.residual g.rows G) factor) where
+        module _ {p : Option Float} (m : p ≡ measure_of h.options.residual_norm g.rows (part g.residual g.rows G) factor) where
           -- A norm that is not finite.
-          pub attempt_bad : p ≡ Product.NotFinite → Ran g (attempt_at h w F g s) F G t (Solved.Refused bad_residual)
+          pub attempt_bad : p ≡ None → Ran g (attempt_at h w F g s) F G t (Err bad_residual)
           attempt_bad told = ran_refused kept (attempt_is ∙ rw (← m, told))
 
-          module _ {initial threshold : Float} (told : p ≡ Product.Finite initial)
+          module _ {initial threshold : Float} (told : p ≡ Some initial)
               (th : threshold ≡ threshold_of s.absolute_tolerance s.relative_tolerance initial) where
             -- A start that is good enough.
             pub attempt_done : le initial threshold ≡ true → {report : LinearSolveReport}
                 → report ≡ report_of LinearSolverStatus.Converged 0 initial initial
-                → Ran g (attempt_at h w F g s) F G t (Solved.Report report)
+                → Ran g (attempt_at h w F g s) F G t (Ok report)
             attempt_done below is = ran_accepted kept (attempt_is ∙ rw (← m, told, ← th, below)) is
 
             -- The iterations from one that is not.
-            pub attempt_on : le initial threshold ≡ false → {H : List Float} {u : List ℕ} {r : Solved}
+            pub attempt_on : le initial threshold ≡ false → {H : List Float} {u : List ℕ} {r : Result LinearSolveReport Refusal}
                 → Ran g (iterate_at h w G t g factor initial threshold s.max_iterations) G H u r
                 → Ran g (attempt_at h w F g s) F H u r
             attempt_on above {H} {u} {r} d =
@@ -182,12 +185,12 @@ zeros_are n =
     (λ i h. let b : i < n = rw length-replicate at h in get_or-replicate n i 0 0 b ∙ sym (get_d_tab (λ _. 0) n i 0 b))
 
 -- Only an accepted solve reports,
-report_is : {report : LinearSolveReport} (out : Outcome Solution) → Solved.Report report ≡ answer_of out → (a : Solution) × (out ≡ accepted a)
+report_is : {report : LinearSolveReport} (out : Outcome Solution) → Ok report ≡ answer_of out → (a : Solution) × (out ≡ accepted a)
 report_is (accepted a) e = (a, refl)
 report_is (refused q) e = absurd (let none : ◌≡◌ {A = ℕ} 0 1 = cc in omega arith)
 
 -- and only a refused one answers a refusal.
-refusal_is : {q : Refusal} (out : Outcome Solution) → Solved.Refused q ≡ answer_of out → out ≡ refused q
+refusal_is : {q : Refusal} (out : Outcome Solution) → Err q ≡ answer_of out → out ≡ refused q
 refusal_is (accepted a) e = absurd (let none : ◌≡◌ {A = ℕ} 0 1 = cc in omega arith)
 refusal_is (refused q) e = cc
 
@@ -223,7 +226,7 @@ module _ {h : Handle} {w : List ℕ} {size m n : ℕ} (b : BeginOk h w size m n)
         record { given = omega arith; room = omega arith }
 
 -- What a solve that counted on no level gives its call.
-pub uncounted_run_lem : {answer : Solved} {counts : List ℕ} → counts ≡ replicate 512 0
+pub uncounted_run_lem : {answer : Result LinearSolveReport Refusal} {counts : List ℕ} → counts ≡ replicate 512 0
     → ◌≡◌ {A = SolveRun} (record { answer = answer; levels = 0; counts = counts }) (uncounted_run answer)
 uncounted_run_lem zeros = rw (zeros ∙ zeros_are 512)
 
@@ -261,7 +264,7 @@ module _ {h : Handle} {w : List ℕ} (F rhs x : List Float) (s : LinearSolverOpt
       ∙ ap (λ (r : List Float). attempt_of (system_at h w F) s r (part g.solution g.rows D)) right
       ∙ ap (attempt_of (system_at h w F) s rhs) left
 
-  module _ {H : List Float} {u : List ℕ} {r : Solved} (d : Ran g (attempt_at h w D g s) D H u r) where
+  module _ {H : List Float} {u : List ℕ} {r : Result LinearSolveReport Refusal} (d : Ran g (attempt_at h w D g s) D H u r) where
     below : Kept (scratch_start h.levels w) F H
     below =
         let l = vectors ready in
@@ -277,8 +280,8 @@ module _ {h : Handle} {w : List ℕ} (F rhs x : List Float) (s : LinearSolverOpt
         omega (arith, ok.room)
 
     -- Accepted, the solution is copied out.
-    pub begin_yes : {report : LinearSolveReport} → r ≡ Solved.Report report → {z : List Float} → z ≡ part g.solution (length x) H
-        → SolveDone h w F H x z (begun_at h w F rhs x s) (record { answer = Solved.Report report; levels = h.levels; counts = u })
+    pub begin_yes : {report : LinearSolveReport} → r ≡ Ok report → {z : List Float} → z ≡ part g.solution (length x) H
+        → SolveDone h w F H x z (begun_at h w F rhs x s) (record { answer = Ok report; levels = h.levels; counts = u })
     begin_yes told {z} out =
         let answer = sym told ∙ d.answer in
         let a = report_is (attempt_at h w D g s) answer in
@@ -296,7 +299,7 @@ module _ {h : Handle} {w : List ℕ} (F rhs x : List Float) (s : LinearSolverOpt
         }
 
     -- Refused, it is as it was.
-    pub begin_no : {q : Refusal} {run : SolveRun} → r ≡ Solved.Refused q → run ≡ refused_run q → SolveDone h w F H x x (begun_at h w F rhs x s) run
+    pub begin_no : {q : Refusal} {run : SolveRun} → r ≡ Err q → run ≡ refused_run q → SolveDone h w F H x x (begun_at h w F rhs x s) run
     begin_no told e = done_refused (sym attempt_same ∙ refusal_is (attempt_at h w D g s) (sym told ∙ d.answer)) e below
 
 -- ---- questions 19 to 21
@@ -345,8 +348,8 @@ solve_ready h w size records e = record {
 }
 
 -- What the solve on copies requires.
-pub begin_ok : {h : Handle} {w : List ℕ} {size : ℕ} (s : LinearSolverOptions) (rhs x : List Float) {r : Verdict} → SolveOk h w size → (h.levels ≡ 0 → ⊥)
-    → r ≡ verdict_of (asked_of h.rows s rhs x) → r ≡ Verdict.Passed → BeginOk h w size (length rhs) (length x)
+pub begin_ok : {h : Handle} {w : List ℕ} {size : ℕ} (s : LinearSolverOptions) (rhs x : List Float) {r : Result Unit Refusal} → SolveOk h w size → (h.levels ≡ 0 → ⊥)
+    → r ≡ verdict_of (asked_of h.rows s rhs x) → r ≡ Ok tt → BeginOk h w size (length rhs) (length x)
 begin_ok {h} s rhs x o some a told =
     let yes = (accepts_it (asked_of h.rows s rhs x) a told).1 in
     let fits = (both_asked (lengths_ok h.rows rhs x) (input_ok s rhs x) x yes).0 in
@@ -385,20 +388,20 @@ module _ (h : Handle) (w : List ℕ) (F rhs x : List Float) (s : LinearSolverOpt
   abbrev after : Outcome Solution
   after = cond (eqb (length (system_at h w F).levels) 0) (accepted (empty_solution x)) (begun_at h w F rhs x s)
 
-  module _ {r : Verdict} (a : r ≡ verdict_of (asked_of h.rows s rhs x)) where
+  module _ {r : Result Unit Refusal} (a : r ≡ verdict_of (asked_of h.rows s rhs x)) where
     -- The questions of the definition are those of the handle's rows.
     asked_as : asked_of (system_at h w F).kernel.rows s rhs x ≡ asked_of h.rows s rhs x
     asked_as = ap (λ (k : ℕ). asked_of k s rhs x) rows_are
 
     -- Questions 20 and 21 refuse.
-    pub solve_no : {q : Refusal} {run : SolveRun} → r ≡ Verdict.Refused q → run ≡ refused_run q → SolveDone h w F F x x (solved_at h w F rhs x s) run
+    pub solve_no : {q : Refusal} {run : SolveRun} → r ≡ Err q → run ≡ refused_run q → SolveDone h w F F x x (solved_at h w F rhs x s) run
     unfolding solve_of
     solve_no {q} told e =
         let no = asked_as ∙ refuses (asked_of h.rows s rhs x) a told in
         done_refused (asked_no (lengths_ok (system_at h w F).kernel.rows rhs x) (input_ok s rhs x) x after no) e kept_self
 
     -- The solve of an input that passed.
-    pub solve_on : r ≡ Verdict.Passed → (h.levels ≡ 0 → ⊥) → {G z : List Float} {run : SolveRun}
+    pub solve_on : r ≡ Ok tt → (h.levels ≡ 0 → ⊥) → {G z : List Float} {run : SolveRun}
         → SolveDone h w F G x z (begun_at h w F rhs x s) run → SolveDone h w F G x z (solved_at h w F rhs x s) run
     unfolding solve_of
     solve_on told some {G} {z} {run} d =
@@ -409,7 +412,7 @@ module _ (h : Handle) (w : List ℕ) (F rhs x : List Float) (s : LinearSolverOpt
         rw same d
 
     -- That of no levels: nothing is written and nothing counted.
-    pub solve_empty : r ≡ Verdict.Passed → h.levels ≡ 0 → {run : SolveRun} → run ≡ empty_run → SolveDone h w F F x x (solved_at h w F rhs x s) run
+    pub solve_empty : r ≡ Ok tt → h.levels ≡ 0 → {run : SolveRun} → run ≡ empty_run → SolveDone h w F F x x (solved_at h w F rhs x s) run
     unfolding solve_of
     solve_empty told none {run} e =
         let yes = asked_as ∙ (accepts_it (asked_of h.rows s rhs x) a told).1 in

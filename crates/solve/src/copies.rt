@@ -3,15 +3,14 @@ ghost use Rattle.std.specs.Prelude.{◌≡◌, ◌+◌, ◌≤◌, length};
 ghost use Rattle.store.specs.Region.{part};
 ghost use Rattle.solve.specs.Copies.{EnterOk, Entered};
 
-// The vector at `from` in the store, over the whole of x.
+// The vector at `from` in the store, over the whole of x. A for: `copy_from_slice` needs the C library's memmove, and the archive for C needs
+// its memcpy and memset alone.
 pub fn copy_out(x: &mut [f64], f: &[f64], from: usize)
     requires { from + length x.old ≤ length f.now }
     ensures { x.new ≡ part from (length x.old) f.now }
 {
-    let mut k = 0;
-    while k < x.len() {
+    for k in 0..x.len() {
         x[k] = f[from + k];
-        k += 1;
     }
 }
 

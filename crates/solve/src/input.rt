@@ -4,7 +4,7 @@ ghost use Rattle.refusal.specs.Outcome.{verdict_of};
 ghost use Rattle.solve.specs.Input.{input_ok};
 ghost use Rattle.solve.specs.Steps.{asked_of};
 
-use refusal::Verdict;
+use refusal::Refusal;
 use solver::LinearSolverOptions;
 
 // Question 21: a limit above zero, tolerances finite and not below zero, both vectors finite.
@@ -19,17 +19,17 @@ fn input_fits(s: LinearSolverOptions, rhs: &[f64], x: &[f64]) -> bool
 }
 
 // Questions 20 and 21, of a system of so many rows.
-pub fn ask_input(n: usize, s: LinearSolverOptions, rhs: &[f64], x: &[f64]) -> Verdict
+pub fn ask_input(n: usize, s: LinearSolverOptions, rhs: &[f64], x: &[f64]) -> Result<(), Refusal>
     ensures { result ≡ verdict_of (asked_of n s rhs.now x.now) }
 {
     if rhs.len() != n {
-        return Verdict::Refused(refusal::WRONG_LENGTH);
+        return Err(refusal::WRONG_LENGTH);
     }
     if x.len() != n {
-        return Verdict::Refused(refusal::WRONG_LENGTH);
+        return Err(refusal::WRONG_LENGTH);
     }
     if !input_fits(s, rhs, x) {
-        return Verdict::Refused(refusal::BAD_INPUT);
+        return Err(refusal::BAD_INPUT);
     }
-    Verdict::Passed
+    Ok(())
 }

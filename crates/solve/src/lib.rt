@@ -9,10 +9,9 @@ ghost use Rattle.solve.specs.Steps.{SolveOk, AttemptOk, BeginOk, begun_at, attem
 
 use iterations::{Regions, iteration, places};
 use options::Handle;
-use refusal::{Refusal, Verdict};
+use refusal::Refusal;
 use residual_norm::{measure, normalization};
-use solver::{LinearSolveReport, LinearSolverOptions, LinearSolverStatus, SolveRun, Solved};
-use vector::Product;
+use solver::{LinearSolveReport, LinearSolverOptions, LinearSolverStatus, SolveRun};
 
 pub mod copies;
 pub mod input;
@@ -25,7 +24,7 @@ fn attempt(
     t: &mut [u64; 512],
     g: Regions,
     s: LinearSolverOptions,
-) -> Solved
+) -> Result<LinearSolveReport, Refusal>
     requires { AttemptOk h w.now (length f.old) g t.old }
     ensures { Ran g (attempt_at h w.now f.old g s) f.old f.new t.new result }
 {
@@ -36,34 +35,28 @@ fn attempt(
         f, g.rows, g.solution, g.rhs, g.product, g.sums, norm,
     );
     if !float::is_finite(factor) {
-        return Solved::Refused(refusal::BAD_NORMALIZATION);
+        return Err(refusal::BAD_NORMALIZATION);
     }
     match measure::measure(f, g.rows, g.residual, norm, factor) {
-        Product::Finite(initial) => {
+        Some(initial) => {
             let threshold = solver::threshold(s.absolute_tolerance, s.relative_tolerance, initial);
             if initial <= threshold {
-                return Solved::Report(solver::report(
-                    LinearSolverStatus::Converged,
-                    0,
-                    initial,
-                    initial,
-                ));
+                return Ok(solver::report(LinearSolverStatus::Converged, 0, initial, initial));
             }
             iterations::iterate(h, w, f, t, g, factor, initial, threshold, s.max_iterations)
         }
-        Product::NotFinite => Solved::Refused(refusal::BAD_RESIDUAL),
+        None => Err(refusal::BAD_RESIDUAL),
     }
 }
 
 // What a solve that counted on no level gives its call.
-fn uncounted(answer: Solved) -> SolveRun
+fn uncounted(answer: Result<LinearSolveReport, Refusal>) -> SolveRun
     ensures { result ≡ uncounted_run answer }
 {
-    let counts = [0u64; 512];
     SolveRun {
-        answer: answer,
+        answer,
         levels: 0,
-        counts: counts,
+        counts: [0u64; 512],
     }
 }
 
@@ -71,7 +64,7 @@ fn uncounted(answer: Solved) -> SolveRun
 pub fn refused(q: Refusal) -> SolveRun
     ensures { result ≡ refused_run q }
 {
-    uncounted(Solved::Refused(q))
+    uncounted(Err(q))
 }
 
 // What a solve of no levels gives its call. The residuals are said and not computed: an empty sum is minus zero, and the mean of no
@@ -79,7 +72,7 @@ pub fn refused(q: Refusal) -> SolveRun
 fn empty() -> SolveRun
     ensures { result ≡ empty_run }
 {
-    uncounted(Solved::Report(LinearSolveReport {
+    uncounted(Ok(LinearSolveReport {
         status: LinearSolverStatus::Converged,
         iterations: 0,
         initial_residual: 0.0,
@@ -104,15 +97,15 @@ fn begin(
     let mut t = [0u64; 512];
     copies::enter(f, rhs, x, g.rhs, g.solution);
     match attempt(h, w, f, &mut t, g, s) {
-        Solved::Report(report) => {
+        Ok(report) => {
             copies::copy_out(x, f, g.solution);
             SolveRun {
-                answer: Solved::Report(report),
+                answer: Ok(report),
                 levels: h.levels,
                 counts: t,
             }
         }
-        Solved::Refused(q) => refused(q),
+        Err(q) => refused(q),
     }
 }
 
@@ -128,13 +121,11 @@ pub fn solve(
     requires { SolveOk h w.now (length f.old) }
     ensures { SolveDone h w.now f.old f.new x.old x.new (solved_at h w.now f.old rhs.now x.old s) result }
 {
-    match input::ask_input(h.rows as usize, s, rhs, x) {
-        Verdict::Refused(q) => refused(q),
-        Verdict::Passed => {
-            if h.levels == 0 {
-                return empty();
-            }
-            begin(h, w, f, rhs, x, s)
-        }
+    if let Err(q) = input::ask_input(h.rows as usize, s, rhs, x) {
+        return refused(q);
     }
+    if h.levels == 0 {
+        return empty();
+    }
+    begin(h, w, f, rhs, x, s)
 }

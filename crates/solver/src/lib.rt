@@ -5,7 +5,7 @@ pub mod answers;
 pub mod solver;
 pub mod statistics;
 
-pub use answers::{BuildRun, Built, Counted, SolveRun, Solved, Updated};
+pub use answers::{BuildRun, SolveRun};
 pub use solver::{
     LinearSolveReport, LinearSolverOptions, LinearSolverStatus, relative, report, threshold,
 };

@@ -10,10 +10,10 @@ pub struct LinearSolverOptions {
     pub max_iterations: u64,
 }
 
-impl LinearSolverOptions {
-    pub fn default() -> LinearSolverOptions
-        ensures { result ≡ default_solver }
-    {
+impl Default for LinearSolverOptions {
+    ghost is_default = { λ o. o ≡ default_solver };
+
+    fn default() -> LinearSolverOptions {
         LinearSolverOptions {
             absolute_tolerance: 1.0e-10,
             relative_tolerance: 1.0e-8,
@@ -23,7 +23,7 @@ impl LinearSolverOptions {
 }
 
 // Whether the residual became small enough, or the iterations were used up.
-#[derive(Clone, Copy)]
+#[derive(Clone, Copy, PartialEq, Eq, Debug)]
 pub enum LinearSolverStatus {
     Converged,
     MaxIterations,
@@ -40,14 +40,11 @@ pub struct LinearSolveReport {
 }
 
 impl LinearSolveReport {
+    // Whether the solve came as far as it was asked to.
     pub fn converged(self) -> bool
         ensures { result ≡ converged_of self.status }
     {
-        let status = self.status;
-        match status {
-            LinearSolverStatus::Converged => true,
-            LinearSolverStatus::MaxIterations => false,
-        }
+        matches!(self.status, LinearSolverStatus::Converged)
     }
 }
 
@@ -75,8 +72,8 @@ pub fn report(
     ensures { result ≡ report_of status iterations initial last }
 {
     LinearSolveReport {
-        status: status,
-        iterations: iterations,
+        status,
+        iterations,
         initial_residual: initial,
         final_residual: last,
         relative_residual: relative(initial, last),

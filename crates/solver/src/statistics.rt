@@ -21,7 +21,7 @@ impl MultigridLevelStatistics {
         ensures { result ≡ unvisited cells }
     {
         MultigridLevelStatistics {
-            cells: cells,
+            cells,
             visits: 0,
             pre_sweeps: 0,
             post_sweeps: 0,
@@ -29,51 +29,43 @@ impl MultigridLevelStatistics {
         }
     }
 
+    // The record with so many visits more.
     pub fn add_visits(self, more: u64) -> MultigridLevelStatistics
         ensures { result ≡ add_visits more self }
     {
         MultigridLevelStatistics {
-            cells: self.cells,
-            visits: float::saturating_add(self.visits, more),
-            pre_sweeps: self.pre_sweeps,
-            post_sweeps: self.post_sweeps,
-            coarse_iterations: self.coarse_iterations,
+            visits: self.visits.saturating_add(more),
+            ..self
         }
     }
 
+    // The record with so many sweeps before the correction more.
     pub fn add_pre_sweeps(self, more: u64) -> MultigridLevelStatistics
         ensures { result ≡ add_pre_sweeps more self }
     {
         MultigridLevelStatistics {
-            cells: self.cells,
-            visits: self.visits,
-            pre_sweeps: float::saturating_add(self.pre_sweeps, more),
-            post_sweeps: self.post_sweeps,
-            coarse_iterations: self.coarse_iterations,
+            pre_sweeps: self.pre_sweeps.saturating_add(more),
+            ..self
         }
     }
 
+    // The record with so many sweeps after it more.
     pub fn add_post_sweeps(self, more: u64) -> MultigridLevelStatistics
         ensures { result ≡ add_post_sweeps more self }
     {
         MultigridLevelStatistics {
-            cells: self.cells,
-            visits: self.visits,
-            pre_sweeps: self.pre_sweeps,
-            post_sweeps: float::saturating_add(self.post_sweeps, more),
-            coarse_iterations: self.coarse_iterations,
+            post_sweeps: self.post_sweeps.saturating_add(more),
+            ..self
         }
     }
 
+    // The record with so many iterations of the coarse solver more.
     pub fn add_coarse_iterations(self, more: u64) -> MultigridLevelStatistics
         ensures { result ≡ add_coarse_iterations more self }
     {
         MultigridLevelStatistics {
-            cells: self.cells,
-            visits: self.visits,
-            pre_sweeps: self.pre_sweeps,
-            post_sweeps: self.post_sweeps,
-            coarse_iterations: float::saturating_add(self.coarse_iterations, more),
+            coarse_iterations: self.coarse_iterations.saturating_add(more),
+            ..self
         }
     }
 }

@@ -6,7 +6,9 @@ ghost use Rattle.solver.specs.Statistics.{unvisited};
 ghost use Rattle.statistics.specs.Contract.{PublishDone, CountOk, CountDone};
 ghost use Rattle.statistics.specs.Steps.{FreshAt};
 
-use solver::{BuildRun, Built, MultigridLevelStatistics, SolveRun, Solved};
+use options::Handle;
+use refusal::Refusal;
+use solver::{BuildRun, LinearSolveReport, MultigridLevelStatistics, SolveRun};
 
 // The record of a level, for programs that print it.
 pub fn record_at(statistics: &[MultigridLevelStatistics], level: usize) -> MultigridLevelStatistics
@@ -20,35 +22,33 @@ pub fn record_at(statistics: &[MultigridLevelStatistics], level: usize) -> Multi
 fn fresh(cells: [u64; 128], depth: usize) -> MultigridLevelStatistics
     ensures { FreshAt cells depth result }
 {
-    if depth < 128 {
-        MultigridLevelStatistics::unvisited(cells[depth])
-    } else {
-        MultigridLevelStatistics::unvisited(0)
-    }
+    MultigridLevelStatistics::unvisited(cells.get(depth).copied().unwrap_or(0))
 }
 
 // Every record as a build leaves it. The answer is passed on.
-pub fn publish(run: BuildRun, statistics: &mut [MultigridLevelStatistics]) -> Built
+pub fn publish(
+    run: BuildRun,
+    statistics: &mut [MultigridLevelStatistics],
+) -> Result<Handle, Refusal>
     ensures { PublishDone run statistics.old statistics.new result }
 {
-    let mut level: usize = 0;
-    while level < statistics.len() {
-        statistics[level] = fresh(run.cells, level);
-        level += 1;
+    for (level, record) in statistics.iter_mut().enumerate() {
+        *record = fresh(run.cells, level);
     }
     run.answer
 }
 
 // The records of the levels with what a solve counted there. The answer is passed on.
-pub fn count(run: SolveRun, statistics: &mut [MultigridLevelStatistics]) -> Solved
+pub fn count(
+    run: SolveRun,
+    statistics: &mut [MultigridLevelStatistics],
+) -> Result<LinearSolveReport, Refusal>
     requires { CountOk run.levels (length statistics.old) }
     ensures { CountDone run statistics.old statistics.new result }
 {
     let levels = run.levels as usize;
-    let mut depth: usize = 0;
-    while depth < levels {
+    for depth in 0..levels {
         statistics[depth] = solver::statistics::count_at(statistics[depth], run.counts, depth);
-        depth += 1;
     }
     run.answer
 }

@@ -1,4 +1,5 @@
-// Single floats of a lent store, of which a caller may hold one already.
+// Single floats of a lent store, of which a caller may hold one already. `near`, `watched` and `held` are parameters and no struct: the
+// functions are public, and what they promise (`Held`, `Put`) names the three.
 ghost use Rattle.std.specs.Prelude.{◌≡◌, ◌<◌, length};
 ghost use Rattle.store.specs.Region.{at};
 ghost use Rattle.store.specs.Held.{Held, Put};
@@ -7,7 +8,7 @@ ghost use Rattle.store.specs.Held.{Held, Put};
 pub fn float_at(f: &[f64], i: usize) -> f64
     ensures { result ≡ at f.now i }
 {
-    if i < f.len() { f[i] } else { 0.0 / 0.0 }
+    f.get(i).copied().unwrap_or(f64::NAN)
 }
 
 // The float at i, where the caller, if it is near, holds the one at `watched`: what was stored a moment ago is not read

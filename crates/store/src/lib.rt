@@ -5,6 +5,4 @@ pub mod held;
 pub mod store;
 
 pub use held::{float_at, float_near, held_at, put};
-pub use store::{
-    copy, copy_words, fill, fill_words, index_at, load, load_words, wide, zero_floats, zero_words,
-};
+pub use store::{copy, fill, index_at, load, wide, zero_floats, zero_words};

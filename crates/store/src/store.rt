@@ -6,7 +6,7 @@ ghost use Rattle.std.specs.Float.Ieee.{of_bits};
 ghost use Rattle.store.specs.Region.{idx, part, Wrote, CopyOk};
 ghost use Rattle.store.specs.Vector.{filled};
 
-// A word as an index.
+// A word as an index: as in Rust, there is no `From<u32>` for usize.
 pub fn wide(x: u32) -> usize
     ensures { result ≡ x }
 {
@@ -24,80 +24,38 @@ pub fn index_at(w: &[u32], base: usize, k: usize, n: usize) -> usize
 }
 
 // n times v, at `to`.
-pub fn fill(f: &mut [f64], to: usize, n: usize, v: f64)
-    requires { to + n ≤ length f.old }
-    ensures { Wrote to n (filled n v) f.old f.new }
+// A for: the slice's own `fill` clones v, and of a type parameter it is not known that a clone succeeds.
+pub fn fill<T: Copy>(s: &mut [T], to: usize, n: usize, v: T)
+    requires { to + n ≤ length s.old }
+    ensures { Wrote to n (filled n v) s.old s.new }
 {
-    let mut k = 0;
-    while k < n {
-        f[to + k] = v;
-        k += 1;
+    for k in 0..n {
+        s[to + k] = v;
     }
 }
 
-// The same of words.
-pub fn fill_words(w: &mut [u32], to: usize, n: usize, v: u32)
-    requires { to + n ≤ length w.old }
-    ensures { Wrote to n (filled n v) w.old w.new }
+// The n elements at `from`, copied to `to`. A for, here and below: the library's `copy_within` and `copy_from_slice` need the C library's memmove,
+// and the archive for C needs its memcpy and memset alone.
+pub fn copy<T: Copy>(s: &mut [T], n: usize, from: usize, to: usize)
+    requires { CopyOk (length s.old) n from to }
+    ensures { Wrote to n (part from n s.old) s.old s.new }
 {
-    let mut k = 0;
-    while k < n {
-        w[to + k] = v;
-        k += 1;
+    for k in 0..n {
+        s[to + k] = s[from + k];
     }
 }
 
-// The n elements at `from`, copied to `to`.
-pub fn copy(f: &mut [f64], n: usize, from: usize, to: usize)
-    requires { CopyOk (length f.old) n from to }
-    ensures { Wrote to n (part from n f.old) f.old f.new }
+// The elements of another slice, copied to `to`.
+pub fn load<T: Copy>(s: &mut [T], from: &[T], to: usize)
+    requires { to + length from.now ≤ length s.old }
+    ensures { Wrote to (length from.now) from.now s.old s.new }
 {
-    let mut k = 0;
-    while k < n {
-        f[to + k] = f[from + k];
-        k += 1;
+    for (k, &x) in from.iter().enumerate() {
+        s[to + k] = x;
     }
 }
 
-// The same of words.
-pub fn copy_words(w: &mut [u32], n: usize, from: usize, to: usize)
-    requires { CopyOk (length w.old) n from to }
-    ensures { Wrote to n (part from n w.old) w.old w.new }
-{
-    let mut k = 0;
-    while k < n {
-        w[to + k] = w[from + k];
-        k += 1;
-    }
-}
-
-// The floats of another slice, copied to `to`.
-pub fn load(f: &mut [f64], from: &[f64], to: usize)
-    requires { to + length from.now ≤ length f.old }
-    ensures { Wrote to (length from.now) from.now f.old f.new }
-{
-    let n = from.len();
-    let mut k = 0;
-    while k < n {
-        f[to + k] = from[k];
-        k += 1;
-    }
-}
-
-// The same of words.
-pub fn load_words(w: &mut [u32], from: &[u32], to: usize)
-    requires { to + length from.now ≤ length w.old }
-    ensures { Wrote to (length from.now) from.now w.old w.new }
-{
-    let n = from.len();
-    let mut k = 0;
-    while k < n {
-        w[to + k] = from[k];
-        k += 1;
-    }
-}
-
-// Every float zero.
+// Every float zero. Its twin of words stays beside it, since the zeros of the two types differ: one promises the bits 0, one the number.
 pub fn zero_floats(f: &mut [f64])
     ensures { f.new ≡ filled (length f.old) (of_bits binary64 0) }
 {
@@ -110,5 +68,5 @@ pub fn zero_words(w: &mut [u32])
     ensures { w.new ≡ filled (length w.old) 0 }
 {
     let n = w.len();
-    fill_words(w, 0, n, 0);
+    fill(w, 0, n, 0);
 }

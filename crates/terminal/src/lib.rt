@@ -13,6 +13,7 @@ pub fn fill<R: Read>(reader: &mut R, buffer: &mut [u8]) -> io::Result<usize>
     ensures end { IfOk result (λ n. n < length buffer.new → IsAtEnd (R.remaining reader.new)) }
 {
     let mut at = 0;
+    // A while: how far a turn goes is what the reader gave.
     while at < buffer.len() {
         let n = reader.read(&mut buffer[at..])?;
         if n == 0 {

@@ -1,6 +1,7 @@
 -- The calls of an example can be made, one after the other, after a build with face weights, and the book's build is accepted for each of
 -- their solves: the theorem on lists of calls is about something. What is left to an example holds by computing.
 -- Assumes nothing.
+use Rattle.std.specs.Prelude.{Ok, Err}
 use mathlib.Core.Path.{◌≡◌, refl, sym, ap, ◌∙◌}
 use mathlib.Core.Bool.{true}
 use mathlib.Core.List.{List, [], ◌∷◌, ◌++◌}
@@ -23,9 +24,6 @@ use Rattle.hierarchy.specs.First.{shapes_in}
 use Rattle.layout.specs.Layout.{view_of, words_fit}
 use Rattle.layout.specs.Headers.{head_of, heads_at, heads_of}
 use Rattle.index_check.specs.Sound.{sound_of}
-use Rattle.solver.specs.declared.answers.Built.{Built}
-use Rattle.solver.specs.declared.answers.Solved.{Solved}
-use Rattle.solver.specs.declared.answers.Updated.{Updated}
 use Rattle.solver.specs.declared.statistics.MultigridLevelStatistics.{MultigridLevelStatistics}
 use Rattle.solver.specs.Statistics.{unvisited, counted_on}
 use Rattle.build.specs.Built.{handle_of, lent_of}
@@ -116,7 +114,7 @@ module _ {e : Example} {before after : Hierarchy} (c : Computes e before after) 
 
   -- The build leaves these stores and these statistics.
   pub new_done : NewDone (filled e.words 0) words (filled e.floats zero64) (floats before) (statistics_lent e)
-      (statistics_of (length (statistics_lent e)) (accepted before)) e.input (Built.Made handle)
+      (statistics_of (length (statistics_lent e)) (accepted before)) e.input (Ok handle)
   unfolding words_for
   new_done = record {
     built = record {
@@ -156,7 +154,7 @@ module _ {e : Example} {before after : Hierarchy} (c : Computes e before after) 
 
     -- A solve can be made.
     pub solve_made : (a : Answer) → solve_of (system_of e.input.options h) e.asked e.rhs e.start ≡ given e a
-        → SolveCall handle words (floats h) (floats h) t (records_of handle.levels t outcome) e.rhs e.start a.solution e.asked (Solved.Report a.report)
+        → SolveCall handle words (floats h) (floats h) t (records_of handle.levels t outcome) e.rhs e.start a.solution e.asked (Ok a.report)
     solve_made a k =
         record {
           answer = sym (ap answer_of (outcome_is ∙ k));
@@ -179,14 +177,14 @@ module _ {e : Example} {before after : Hierarchy} (c : Computes e before after) 
 
   -- The update that is refused can be made,
   pub refused_update : (t : List MultigridLevelStatistics) → length t ≡ length (statistics_lent e)
-      → UpdateCall handle words (floats before) (floats before) (length t) e.input.offsets e.input.columns e.wrong (Updated.Refused e.refusal)
+      → UpdateCall handle words (floats before) (floats before) (length t) e.input.offsets e.input.columns e.wrong (Err e.refusal)
   refused_update t n =
       let is = update_is before c.view t n e.wrong ∙ c.refuses in
       record { done = record { answer = rw is refl; view = rw is refl; kept = λ q k. record { below = refl; size = refl }; size = refl }; unsound = λ _. refl }
 
   -- and so can the one that is accepted.
   pub accepted_update : (t : List MultigridLevelStatistics) → length t ≡ length (statistics_lent e)
-      → UpdateCall handle words (floats before) (floats after) (length t) e.input.offsets e.input.columns e.right Updated.Done
+      → UpdateCall handle words (floats before) (floats after) (length t) e.input.offsets e.input.columns e.right (Ok tt)
   accepted_update t n =
       let is = update_is before c.view t n e.right ∙ c.accepts in
       record {

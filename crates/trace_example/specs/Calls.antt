@@ -1,10 +1,8 @@
 -- Lists of calls after a build with face weights, that show what the theorem on such lists is about. Definitions only.
-use Rattle.std.specs.Prelude.{List, [], ◌∷◌, ℕ, Float}
+use Rattle.std.specs.Prelude.{List, [], ◌∷◌, ℕ, Float, Result, Ok, Err}
 use Rattle.refusal.specs.declared.Refusal.{Refusal}
 use Rattle.solver.specs.declared.solver.LinearSolverOptions.{LinearSolverOptions}
 use Rattle.solver.specs.declared.solver.LinearSolveReport.{LinearSolveReport}
-use Rattle.solver.specs.declared.answers.Solved.{Solved}
-use Rattle.solver.specs.declared.answers.Updated.{Updated}
 use Rattle.hierarchy.specs.Build.{Input}
 use Rattle.call_theorem.specs.Trace.{Event, updated, solved}
 
@@ -34,14 +32,14 @@ pub record Example : Type 0 where
 
 module _ (e : Example) where
   -- an update with these values and that answer
-  abbrev pub renewed : List Float → Updated → Event
+  abbrev pub renewed : List Float → Result Unit Refusal → Event
   renewed values r = updated e.input.offsets e.input.columns values r
 
   -- the solve with that answer
   abbrev pub pressed : Answer → Event
-  pressed a = solved e.rhs e.start e.asked (Solved.Report a.report) a.solution
+  pressed a = solved e.rhs e.start e.asked (Ok a.report) a.solution
 
   -- the solve; the update that is refused; the same solve with the same answer; the update that is accepted; and the same solve, which has
   -- another solution
   abbrev pub calls : List Event
-  calls = pressed e.before ∷ renewed e.wrong (Updated.Refused e.refusal) ∷ pressed e.before ∷ renewed e.right Updated.Done ∷ pressed e.after ∷ []
+  calls = pressed e.before ∷ renewed e.wrong (Err e.refusal) ∷ pressed e.before ∷ renewed e.right (Ok tt) ∷ pressed e.after ∷ []

@@ -1,9 +1,9 @@
 -- Questions 31 and 10 of an update: what the functions require and ensure. Definitions only.
-use Rattle.std.specs.Prelude.{◌≡◌, List, ℕ, ◌+◌, ◌≤◌, ◌<◌, length, Float}
+use Rattle.refusal.specs.declared.Refusal.{Refusal}
+use Rattle.std.specs.Prelude.{◌≡◌, List, ℕ, ◌+◌, ◌≤◌, ◌<◌, length, Float, Result, Ok}
 use Rattle.store.specs.Region.{idx, Kept}
-use Rattle.refusal.specs.declared.Verdict.{Verdict}
 use Rattle.refusal.specs.Refusal.{not_symmetric, other_pattern}
-use Rattle.refusal.specs.Outcome.{Outcome, passed, ask, verdict_of, ◌>>=◌, ◌>>◌}
+use Rattle.refusal.specs.Outcome.{Outcome, passed, ask, verdict_of, ◌>>◌}
 use Rattle.coefficients.specs.Mirrors.{mirrors_agree}
 use Rattle.hierarchy.specs.Level.{Shape}
 use Rattle.layout.specs.declared.Place.{Place}
@@ -39,7 +39,7 @@ pub record AskOk (w : List ℕ) (size image : ℕ) : Type 0 where
   pub room : (locate w 0 image).coefficients + (locate w 0 image).faces ≤ size
 
 -- The answer, and where both pass, the coefficients of the finest level in the shadow. Below the shadow nothing changed.
-pub record Asked (w : List ℕ) (F G : List Float) (offsets columns : List ℕ) (values : List Float) (image : ℕ) (r : Verdict) : Type 0 where
+pub record Asked (w : List ℕ) (F G : List Float) (offsets columns : List ℕ) (values : List Float) (image : ℕ) (r : Result Unit Refusal) : Type 0 where
   pub answer : r ≡ verdict_of (asked_of (shape_in w 0) offsets columns values)
-  pub taken : r ≡ Verdict.Passed → FacesReady w values G (locate w 0 image)
+  pub taken : r ≡ Ok tt → FacesReady w values G (locate w 0 image)
   pub kept : Kept image F G

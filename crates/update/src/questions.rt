@@ -9,19 +9,16 @@ ghost use Rattle.update_levels.specs.StandingContract.{bare_at};
 ghost use Rattle.update.specs.Arrays.{empty_asked, PatternOk, AskOk, Asked};
 
 use layout::Place;
-use refusal::Verdict;
+use refusal::Refusal;
 
 // Whether the words from `from` on are those of v. No branch leaves the loop, so that it takes several words at once.
 fn equal_words(w: &[u32], from: usize, v: &[u32]) -> bool
     requires { from + length v.now ≤ length w.now }
     ensures { result ≡ each (λ k. eqb (idx v.now k) (idx w.now (from + k))) (length v.now) }
 {
-    let n = v.len();
     let mut ok = true;
-    let mut k = 0;
-    while k < n {
-        ok = ok & (v[k] == w[from + k]);
-        k += 1;
+    for (k, &word) in v.iter().enumerate() {
+        ok = ok & (word == w[from + k]);
     }
     ok
 }
@@ -54,17 +51,18 @@ fn empty_pattern(offsets: &[u32], columns: &[u32], values: &[f64]) -> bool
     if offsets.len() != 1 {
         return false;
     }
-    (offsets[0] == 0) & (columns.len() == 0) & (values.len() == 0)
+    (offsets[0] == 0) & columns.is_empty() & values.is_empty()
 }
 
 // The same as an answer.
-pub fn asked_empty(offsets: &[u32], columns: &[u32], values: &[f64]) -> Verdict
+pub fn asked_empty(offsets: &[u32], columns: &[u32], values: &[f64]) -> Result<(), Refusal>
     ensures { result ≡ verdict_of (empty_asked offsets.now columns.now values.now) }
 {
     if empty_pattern(offsets, columns, values) {
-        return Verdict::Passed;
+        Ok(())
+    } else {
+        Err(refusal::OTHER_PATTERN)
     }
-    Verdict::Refused(refusal::OTHER_PATTERN)
 }
 
 // Questions 31 and 10. The values that 10 compares are the coefficients of the finest level: they are taken to its place in the shadow,
@@ -76,16 +74,16 @@ pub fn asked(
     columns: &[u32],
     values: &[f64],
     image: usize,
-) -> Verdict
+) -> Result<(), Refusal>
     requires { AskOk w.now (length f.old) image }
     ensures { Asked w.now f.old f.new offsets.now columns.now values.now image result }
 {
     let p = layout::place_at(w, 0, image);
-    if same_pattern(w, p, offsets, columns, values) {
-        if coefficients::take_faces(w, values, f, p.faces, p.uppers, p.lowers, p.coefficients) {
-            return Verdict::Passed;
-        }
-        return Verdict::Refused(refusal::NOT_SYMMETRIC);
+    if !same_pattern(w, p, offsets, columns, values) {
+        return Err(refusal::OTHER_PATTERN);
     }
-    Verdict::Refused(refusal::OTHER_PATTERN)
+    if !coefficients::take_faces(w, values, f, p.faces, p.uppers, p.lowers, p.coefficients) {
+        return Err(refusal::NOT_SYMMETRIC);
+    }
+    Ok(())
 }

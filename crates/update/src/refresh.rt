@@ -3,12 +3,11 @@
 ghost use Rattle.std.specs.Prelude.{◌≡◌, length};
 ghost use Rattle.update.specs.Updated.{updated_at, UpdateDone};
 ghost use Rattle.update.specs.ShadowContract.{With};
-ghost use Rattle.update.specs.Steps.{CommitOk, Committed, AttemptOk, attempt_of, Attempted, told_of, UpdateOk};
+ghost use Rattle.update.specs.Steps.{CommitOk, Committed, AttemptOk, attempt_of, Attempted, UpdateOk};
 
 use crate::{questions, shadow};
 use options::{Handle, MultigridResidualNorm, MultigridSmoother};
-use refusal::Verdict;
-use solver::Updated;
+use refusal::Refusal;
 
 // The numbers of all levels, copied from the shadow, which starts at `image`, over the old ones. The values before a level's numbers
 // are left out: no call reads them again.
@@ -21,6 +20,7 @@ fn commit(w: &[u32], f: &mut [f64], levels: u64, image: usize)
     let mut p = layout::place_at(w, 0, 0);
     // The row sums end the image. They are not copied: no question is asked of them, so they are made in their place.
     let end = image - p.rows;
+    // A while: the walk goes from place to place, and a for's counter would serve the proof alone.
     while level + 1 < levels {
         let from = p.coefficients;
         store::copy(f, p.factor - from, image + from, from);
@@ -42,32 +42,16 @@ fn attempt(
     offsets: &[u32],
     columns: &[u32],
     values: &[f64],
-) -> Verdict
+) -> Result<(), Refusal>
     requires { AttemptOk levels w.now (length f.old) }
     ensures { With kind norm (λ o. Attempted levels w.now f.old f.new (attempt_of o levels w.now f.old offsets.now columns.now values.now) result) }
 {
     let image = index_check::shadow_start(w, levels);
-    let asked = questions::asked(w, f, offsets, columns, values, image);
-    if asked.refused() {
-        return asked;
-    }
-    let answer = shadow::shadow(w, f, kind, levels, values, image);
-    if answer.refused() {
-        return answer;
-    }
+    questions::asked(w, f, offsets, columns, values, image)?;
+    shadow::shadow(w, f, kind, levels, values, image)?;
     commit(w, f, levels, image);
     shadow::sums(w, f, norm, image);
-    answer
-}
-
-// The answer of an update.
-fn told(answer: Verdict) -> Updated
-    ensures { result ≡ told_of answer }
-{
-    match answer {
-        Verdict::Passed => Updated::Done,
-        Verdict::Refused(refusal) => Updated::Refused(refusal),
-    }
+    Ok(())
 }
 
 // New values for a hierarchy, of the pattern that it was built from. Refused, no word of the image has changed. One of no levels has no
@@ -79,16 +63,22 @@ pub fn update(
     values: &[f64],
     w: &[u32],
     f: &mut [f64],
-) -> Updated
+) -> Result<(), Refusal>
     requires { UpdateOk h w.now (length f.old) }
     ensures { UpdateDone h w.now f.old f.new (updated_at h w.now f.old offsets.now columns.now values.now) result }
 {
     if h.levels == 0 {
-        return told(questions::asked_empty(offsets, columns, values));
+        return questions::asked_empty(offsets, columns, values);
     }
     let options = h.options;
-    let kind = options.smoother;
-    let norm = options.residual_norm;
-    let answer = attempt(w, f, kind, norm, h.levels, offsets, columns, values);
-    told(answer)
+    attempt(
+        w,
+        f,
+        options.smoother,
+        options.residual_norm,
+        h.levels,
+        offsets,
+        columns,
+        values,
+    )
 }

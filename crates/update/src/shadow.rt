@@ -6,7 +6,7 @@ ghost use Rattle.update_levels.specs.Steps.{Renewed};
 ghost use Rattle.update.specs.ShadowContract.{SumOk, Summed, Smoothed, ShadowOk};
 
 use options::{MultigridResidualNorm, MultigridSmoother};
-use refusal::Verdict;
+use refusal::Refusal;
 
 // The levels of the new image in the shadow, which starts where the old image ends and already has the coefficients of the finest.
 pub fn shadow(
@@ -16,7 +16,7 @@ pub fn shadow(
     levels: u64,
     values: &[f64],
     image: usize,
-) -> Verdict
+) -> Result<(), Refusal>
     requires shadow_ok { ShadowOk levels w.now (length f.old) (length values.now) image }
     requires faces_ready { FacesReady w.now values.now f.old (locate w.now 0 image) }
     ensures { Smoothed kind (λ o. Renewed o levels 0 w.now values.now f.old f.new 0 image result) }

@@ -1,15 +1,14 @@
 -- New numbers for one level and the values of the next: what the functions require and ensure. Definitions only.
-use Rattle.std.specs.Prelude.{◌≡◌, Bool, false, List, ℕ, ◌+◌, ◌≤◌, ◌<◌, length, Float}
+use Rattle.refusal.specs.declared.Refusal.{Refusal}
+use Rattle.std.specs.Prelude.{◌≡◌, Bool, false, List, ℕ, ◌+◌, ◌≤◌, ◌<◌, length, Float, Result}
 use Rattle.store.specs.Region.{idx, part, Kept}
 use Rattle.options.specs.declared.options.MultigridOptions.{MultigridOptions}
-use Rattle.refusal.specs.declared.Verdict.{Verdict}
-use Rattle.refusal.specs.Outcome.{Outcome, accepted, verdict_of, ◌>>=◌, ◌>>◌}
+use Rattle.refusal.specs.Outcome.{Outcome, accepted, verdict_of, ◌>>=◌}
 use Rattle.vector.specs.Finite.{all_finite}
 use Rattle.coefficients.specs.Update.{Coefficients}
 use Rattle.coefficients.specs.Contract.{update_with, FacesTaken, UpdateOk}
 use Rattle.cholesky.specs.Triangle.{tri}
 use Rattle.galerkin.specs.Contract.{galerkin_of, SumsOk, FacesOk}
-use Rattle.galerkin.specs.Values as galerkin
 use Rattle.galerkin.specs.Contract as galerkin-contract
 use Rattle.hierarchy.specs.Level.{Shape, Numbers}
 use Rattle.hierarchy.specs.Refresh.{needs_dic, numbers_of}
@@ -81,7 +80,7 @@ abbrev pub level_renewed : MultigridOptions → Bool → ℕ → ℕ → List �
 level_renewed o last coupled level w values p = level_of o level (shape_at w p last coupled) values
 
 -- Its answer, and where it accepts, its numbers. Up to the coefficients nothing changed.
-pub record LevelDone (w : List ℕ) (values F G : List Float) (o : MultigridOptions) (p : Place) (last : Bool) (coupled level : ℕ) (r : Verdict) : Type 0 where
+pub record LevelDone (w : List ℕ) (values F G : List Float) (o : MultigridOptions) (p : Place) (last : Bool) (coupled level : ℕ) (r : Result Unit Refusal) : Type 0 where
   pub answer : r ≡ verdict_of (level_renewed o last coupled level w values p)
   pub numbers : (n : Numbers) → level_renewed o last coupled level w values p ≡ accepted n → numbers_at G p coupled ≡ n
   pub kept : Kept p.coefficients F G

@@ -1,22 +1,21 @@
 -- The steps of a renewal: what its functions require and ensure. Definitions only.
-use Rattle.std.specs.Prelude.{◌≡◌, false, List, [], ◌∷◌, ℕ, zero, suc, ◌+◌, ◌-◌, ◌≤◌, Float}
+use Rattle.refusal.specs.declared.Refusal.{Refusal}
+use Rattle.std.specs.Prelude.{◌≡◌, false, List, [], ◌∷◌, ℕ, zero, suc, ◌+◌, ◌-◌, ◌≤◌, Float, Result, Ok}
 use Rattle.store.specs.Region.{part, Kept}
 use Rattle.options.specs.declared.options.MultigridOptions.{MultigridOptions}
 use Rattle.refusal.specs.Refusal.{bad_coarse_value}
-use Rattle.refusal.specs.declared.Verdict.{Verdict}
 use Rattle.refusal.specs.Outcome.{Outcome, accepted, ask, verdict_of, ◌>>=◌, ◌>>◌}
 use Rattle.vector.specs.Finite.{all_finite}
 use Rattle.hierarchy.specs.Level.{Shape, Numbers, Level}
 use Rattle.layout.specs.declared.Place.{Place}
 use Rattle.layout.specs.Layout.{entries_at, numbers_at, words_end, levels_at, image_end, locate}
-use Rattle.index_check.specs.declared.sound.Walk.{Walk}
 use Rattle.index_check.specs.Sound.{shape_in, walk_of}
 use Rattle.update_levels.specs.Level.{LevelOk, level_renewed, CoarseOk, coarse_at}
 use Rattle.update_levels.specs.Update.{renew_of}
 
 -- So many levels from the one at a and b on, which is `level`: the walk went through them, and their floats end within `size`.
 pub record Chain (w : List ℕ) (size left level a b : ℕ) : Type 0 where
-  pub walk : walk_of left w level a ≡ Walk.Sound
+  pub walk : walk_of left w level a ≡ Ok tt
   pub room : image_end left w a b ≤ size
   pub few : level + left ≤ 128
   pub fits : size ≤ 18446744073709551615
@@ -37,10 +36,10 @@ turn_of o level w values p t = do
   accepted n
 
 -- Its answer, and where it accepts, the numbers of the level and the values of the next. Up to the coefficients nothing changed.
-pub record Turned (w : List ℕ) (old F G : List Float) (o : MultigridOptions) (p t : Place) (level : ℕ) (r : Verdict) : Type 0 where
+pub record Turned (w : List ℕ) (old F G : List Float) (o : MultigridOptions) (p t : Place) (level : ℕ) (r : Result Unit Refusal) : Type 0 where
   pub answer : r ≡ verdict_of (turn_of o level w old p t)
   pub numbers : (n : Numbers) → turn_of o level w old p t ≡ accepted n → numbers_at G p 0 ≡ n
-  pub values : r ≡ Verdict.Passed → part t.values t.entries G ≡ coarse_at w old p t
+  pub values : r ≡ Ok tt → part t.values t.entries G ≡ coarse_at w old p t
   pub kept : Kept p.coefficients F G
 
 -- ---- the levels
@@ -60,7 +59,7 @@ pub record RenewOk (w : List ℕ) (size left level a b : ℕ) : Type 0 where
   pub some : 1 ≤ left
 
 -- The answer, and where it accepts, the levels. Below their floats nothing changed.
-pub record Renewed (o : MultigridOptions) (left level : ℕ) (w : List ℕ) (values F G : List Float) (a b : ℕ) (r : Verdict) : Type 0 where
+pub record Renewed (o : MultigridOptions) (left level : ℕ) (w : List ℕ) (values F G : List Float) (a b : ℕ) (r : Result Unit Refusal) : Type 0 where
   pub answer : r ≡ verdict_of (renew_at o left level w values a)
   pub levels : (ls : List Level) → renew_at o left level w values a ≡ accepted ls → levels_at left w G a b ≡ ls
   pub kept : Kept b F G

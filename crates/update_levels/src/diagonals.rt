@@ -7,7 +7,7 @@ ghost use Rattle.update_levels.specs.Standing.{diagonal_stands, diagonals_stand}
 ghost use Rattle.update_levels.specs.StandingContract.{RowsOk, RowOk, bare_at};
 
 use layout::Place;
-use refusal::{Refusal, Verdict};
+use refusal::Refusal;
 
 // The word at i as an index.
 fn word_at(w: &[u32], i: usize) -> usize
@@ -35,33 +35,26 @@ pub fn all_stand(w: &[u32], p: Place) -> bool
     requires { RowsOk w.now p }
     ensures { result ≡ each (diagonal_stands (bare_at w.now p)) p.rows }
 {
-    let rows = p.rows;
     let mut ok = true;
-    let mut row = 0;
-    while row < rows {
+    for row in 0..p.rows {
         ok = ok & diagonal_stands(w, p, row);
-        row += 1;
     }
     ok
 }
 
 // Question 11, row by row, which finds the first row that fails.
-pub fn rows_stand(w: &[u32], p: Place, level: u64) -> Verdict
+pub fn rows_stand(w: &[u32], p: Place, level: u64) -> Result<(), Refusal>
     requires { RowsOk w.now p }
     ensures { result ≡ verdict_of (diagonals_stand level (bare_at w.now p)) }
 {
-    let rows = p.rows;
-    let mut row = 0;
-    while row < rows {
-        if diagonal_stands(w, p, row) {
-            row += 1;
-        } else {
-            return Verdict::Refused(Refusal {
+    for row in 0..p.rows {
+        if !diagonal_stands(w, p, row) {
+            return Err(Refusal {
                 number: refusal::MISSING_DIAGONAL,
-                level: level,
+                level,
                 row: row as u64,
             });
         }
     }
-    Verdict::Passed
+    Ok(())
 }

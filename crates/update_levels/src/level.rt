@@ -8,10 +8,10 @@ ghost use Rattle.update_levels.specs.Level.{LevelOk, LevelReady, LevelDone, Coar
 
 use crate::diagonals;
 use layout::Place;
-use refusal::Verdict;
+use refusal::Refusal;
 
 // The coefficients of the level, from its values: 12 and 13, once 11 has passed. Only stores that no build wrote can fail 11.
-fn coefficients(w: &[u32], f: &mut [f64], p: Place, level: u64) -> Verdict
+fn coefficients(w: &[u32], f: &mut [f64], p: Place, level: u64) -> Result<(), Refusal>
     requires { CoefficientsOk w.now (length f.old) p }
     ensures { Updated w.now (kernel_in p) (coefficients_asked level w.now (part p.values p.entries f.old) p) f.old f.new result }
 {
@@ -30,14 +30,11 @@ pub fn renew_level(
     last: bool,
     coupled: usize,
     level: u64,
-) -> Verdict
+) -> Result<(), Refusal>
     requires { LevelReady w.now (length f.old) p last coupled }
     ensures { Under dic (λ o. LevelDone w.now (part p.values p.entries f.old) f.old f.new o p last coupled level result) }
 {
-    let own = coefficients(w, f, p, level);
-    if own.refused() {
-        return own;
-    }
+    coefficients(w, f, p, level)?;
     if last {
         return layout::factor(w, f, p, coupled, level);
     }
@@ -55,7 +52,13 @@ pub fn coarse_values(w: &[u32], f: &mut [f64], p: Place, t: Place) -> bool
 }
 
 // The coefficients of the level from values that are given, those of the faces stand there already: 11, 12 and 13.
-fn coefficients_given(w: &[u32], given: &[f64], f: &mut [f64], p: Place, level: u64) -> Verdict
+fn coefficients_given(
+    w: &[u32],
+    given: &[f64],
+    f: &mut [f64],
+    p: Place,
+    level: u64,
+) -> Result<(), Refusal>
     requires coefficients_ok { CoefficientsOk w.now (length f.old) p }
     requires entries_in_bounds { p.entries ≤ length given.now }
     requires faces_ready { FacesReady w.now given.now f.old p }
@@ -82,16 +85,13 @@ pub fn first_level(
     dic: bool,
     p: Place,
     level: u64,
-) -> Verdict
+) -> Result<(), Refusal>
     requires level_ok { LevelOk w.now (length f.old) p 0 }
     requires entries_in_bounds { p.entries ≤ length given.now }
     requires faces_ready { FacesReady w.now given.now f.old p }
     ensures { Under dic (λ o. LevelDone w.now given.now f.old f.new o p false 0 level result) }
 {
-    let own = coefficients_given(w, given, f, p, level);
-    if own.refused() {
-        return own;
-    }
+    coefficients_given(w, given, f, p, level)?;
     layout::smoother_data(w, f, dic, p, level)
 }
 

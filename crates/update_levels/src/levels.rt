@@ -7,37 +7,38 @@ ghost use Rattle.update_levels.specs.Steps.{TurnOk, Turned, RestOk, StartOk, Ren
 
 use crate::level;
 use layout::Place;
-use refusal::Verdict;
+use refusal::Refusal;
 
 // A level that is not the last, at p, and the values of the next, at t: question 18.
-fn turn(w: &[u32], f: &mut [f64], dic: bool, p: Place, t: Place, level: u64) -> Verdict
+fn turn(w: &[u32], f: &mut [f64], dic: bool, p: Place, t: Place, level: u64) -> Result<(), Refusal>
     requires { TurnOk w.now (length f.old) p t }
     ensures { Under dic (λ o. Turned w.now (part p.values p.entries f.old) f.old f.new o p t level result) }
 {
-    let numbers = level::renew_level(w, f, dic, p, false, 0, level);
-    if numbers.refused() {
-        return numbers;
+    level::renew_level(w, f, dic, p, false, 0, level)?;
+    if !level::coarse_values(w, f, p, t) {
+        return Err(refusal::BAD_COARSE_VALUE);
     }
-    if level::coarse_values(w, f, p, t) {
-        return numbers;
-    }
-    Verdict::Refused(refusal::BAD_COARSE_VALUE)
+    Ok(())
 }
 
 // The same of the finest level, from values that are given; those of the faces stand there already.
-fn first_turn(w: &[u32], given: &[f64], f: &mut [f64], dic: bool, p: Place, t: Place) -> Verdict
+fn first_turn(
+    w: &[u32],
+    given: &[f64],
+    f: &mut [f64],
+    dic: bool,
+    p: Place,
+    t: Place,
+) -> Result<(), Refusal>
     requires first_ok { FirstOk w.now (length f.old) (length given.now) p t }
     requires faces_ready { FacesReady w.now given.now f.old p }
     ensures { Under dic (λ o. Turned w.now given.now f.old f.new o p t 0 result) }
 {
-    let numbers = level::first_level(w, given, f, dic, p, 0);
-    if numbers.refused() {
-        return numbers;
+    level::first_level(w, given, f, dic, p, 0)?;
+    if !level::coarse_given(w, given, f, p, t) {
+        return Err(refusal::BAD_COARSE_VALUE);
     }
-    if level::coarse_given(w, given, f, p, t) {
-        return numbers;
-    }
-    Verdict::Refused(refusal::BAD_COARSE_VALUE)
+    Ok(())
 }
 
 // The levels from `first` on, which stands at p with its values. The words of the last level tell its coupled rows.
@@ -49,20 +50,18 @@ fn renew_rest(
     first: u64,
     start: usize,
     q: Place,
-) -> Verdict
+) -> Result<(), Refusal>
     requires { RestOk w.now (length f.old) levels first start q }
     ensures { Under dic (λ o. Renewed o (levels - first) first w.now (part q.values q.entries f.old) f.old f.new start q.values result) }
 {
     let mut level = first;
     let mut a = start;
     let mut p = q;
+    // A while: three places walk together, and the number of the last level is needed behind the loop.
     while level + 1 < levels {
         a = layout::words_end(w, a);
         let t = layout::place_at(w, a, p.factor);
-        let answer = turn(w, f, dic, p, t, level);
-        if answer.refused() {
-            return answer;
-        }
+        turn(w, f, dic, p, t, level)?;
         p = t;
         level += 1;
     }
@@ -80,7 +79,7 @@ pub fn renew(
     dic: bool,
     levels: u64,
     image: usize,
-) -> Verdict
+) -> Result<(), Refusal>
     requires start_ok { StartOk w.now (length f.old) (length given.now) levels image }
     requires faces_ready { FacesReady w.now given.now f.old (locate w.now 0 image) }
     ensures { Under dic (λ o. Renewed o levels 0 w.now given.now f.old f.new 0 image result) }
@@ -92,9 +91,6 @@ pub fn renew(
     }
     let a = layout::words_end(w, 0);
     let t = layout::place_at(w, a, p.factor);
-    let answer = first_turn(w, given, f, dic, p, t);
-    if answer.refused() {
-        return answer;
-    }
+    first_turn(w, given, f, dic, p, t)?;
     renew_rest(w, f, dic, levels, 1, a, t)
 }

@@ -5,4 +5,4 @@ pub mod finite;
 pub mod vector;
 
 pub use finite::all_finite;
-pub use vector::{Product, dot, norm_l2};
+pub use vector::{dot, norm_l2};

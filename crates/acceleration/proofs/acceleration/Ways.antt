@@ -1,5 +1,6 @@
 -- The ways out of `correct`.
 -- Assumes nothing.
+use Rattle.std.specs.Prelude.{Result, Ok, Err}
 use mathlib.Core.Path.{◌≡◌, refl, sym, ap, ◌∙◌}
 use mathlib.Core.Bool.{Bool, true, false, cond}
 use mathlib.Core.List.{List, [], ◌∷◌, ◌++◌}
@@ -13,13 +14,10 @@ use lib.Dec.{eqb}
 use lib.Ieee.{Float}
 use lib.ListN.{length, length-append}
 use Rattle.refusal.specs.declared.Refusal.{Refusal}
-use Rattle.refusal.specs.Refusal.{bad_dot_product}
-use Rattle.refusal.specs.declared.Verdict.{Verdict}
 use Rattle.refusal.specs.Outcome.{Outcome, accepted, refused}
 use Rattle.refusal.proofs.Outcome.{refuses}
 use Rattle.store.specs.Region.{part}
 use Rattle.store.proofs.store.Region.{le_or_lt}
-use Rattle.acceleration.specs.declared.acceleration.Corrected.{Corrected}
 use Rattle.acceleration.specs.Directions.{Pair}
 use Rattle.acceleration.specs.DirectionsContract.{pair_at, memory_at, Stepped, PassOk}
 use Rattle.acceleration.proofs.directions.Passes.{memory_same}
@@ -80,7 +78,7 @@ module _ (F : List Float) {n krylov used solution directions images residual dir
   abbrev outcome : Outcome Corrections
   outcome = correct_of n krylov (memory_at used n directions images F) (pair_at n direction image F) (part residual n F) (part solution n F)
 
-  abbrev By : List Float → Corrected → Type 0
+  abbrev By : List Float → Result ℕ Refusal → Type 0
   By G r = CorrectedBy n krylov solution directions images direction image outcome F G r
 
   kept_is : memory_at k n directions images F ≡ kept_of krylov (memory_at used n directions images F)
@@ -91,14 +89,14 @@ module _ (F : List Float) {n krylov used solution directions images residual dir
       go true = refl
       go false = refl
 
-  module _ {G : List Float} {r : Bool}
+  module _ {G : List Float} {r : Result Unit Refusal}
       (d : Stepped n direction image (twice_of n (memory_at k n directions images F) (pair_at n direction image F)) F G r) where
     -- 28, in a pass.
-    pub correct_first : r ≡ false → By G (Corrected.Refused bad_dot_product)
+    pub correct_first : {reason : Refusal} → r ≡ Err reason → By G (Err reason)
     unfolding correct_of
-    correct_first t =
-        let e : refused bad_dot_product ≡ twice_of n (memory_at k n directions images F) (pair_at n direction image F) = rw t at d.is in
-        let o : outcome ≡ refused bad_dot_product = rw (← kept_is, ← e) in
+    correct_first {reason} t =
+        let e : refused reason ≡ twice_of n (memory_at k n directions images F) (pair_at n direction image F) = rw t at d.is in
+        let o : outcome ≡ refused reason = rw (← kept_is, ← e) in
         record {
           answer = rw o;
           fits = λ j u. let z : ◌≡◌ {A = ℕ} 0 1 = cc in absurd (omega arith);
@@ -118,7 +116,7 @@ module _ (F : List Float) {n krylov used solution directions images residual dir
         let e : length G ≡ length F = d.frame.size in
         record { ps = omega arith; qs = omega arith; directions = ok.pairs; images = omega arith }
 
-    module _ {H : List Float} {v : Verdict} (t : r ≡ true)
+    module _ {H : List Float} {v : Result Unit Refusal} (t : r ≡ Ok tt)
         (c : Normal n (directions + k * n) (images + k * n) (normal_of n (pair_at n direction image G)) G H v) where
       orthogonal : twice_of n (memory_at k n directions images F) (pair_at n direction image F) ≡ accepted (pair_at n direction image G)
       orthogonal = sym (rw t at d.is)
@@ -139,7 +137,7 @@ module _ (F : List Float) {n krylov used solution directions images residual dir
           c.off a m (omega arith) (omega arith) ∙ d.frame.above a m l
 
       -- 28, 29 or 30, in the normalisation.
-      pub correct_second : {q : Refusal} → v ≡ Verdict.Refused q → By H (Corrected.Refused q)
+      pub correct_second : {q : Refusal} → v ≡ Err q → By H (Err q)
       unfolding correct_of
       correct_second {q} y =
           let e = refuses (normal_of n (pair_at n direction image G)) c.answer y in
@@ -164,7 +162,7 @@ module _ (F : List Float) {n krylov used solution directions images residual dir
           let e' : length H ≡ length G = c.size in
           record { solutions = omega arith; ps = omega arith; qs = omega arith; residuals = omega arith }
 
-      module _ {I : List Float} {b : Bool} (y : v ≡ Verdict.Passed)
+      module _ {I : List Float} {b : Result Unit Refusal} (y : v ≡ Ok tt)
           (x : Advanced n solution (advance_of n (part residual n H) (pair_at n (directions + k * n) (images + k * n) H) (part solution n H)) H I b) where
         residual_is : part residual n H ≡ part residual n F
         residual_is = middle residual n ok.second ok.residuals
@@ -173,19 +171,19 @@ module _ (F : List Float) {n krylov used solution directions images residual dir
         solution_is = low solution n ok.solutions
 
         -- 28, in the step along the new direction.
-        pub correct_last : b ≡ false → By I (Corrected.Refused bad_dot_product)
+        pub correct_last : {reason : Refusal} → b ≡ Err reason → By I (Err reason)
         unfolding correct_of
-        correct_last z =
+        correct_last {reason} z =
             let e = c.pair y in
-            let f : refused bad_dot_product ≡ advance_of n (part residual n H) (pair_at n (directions + k * n) (images + k * n) H) (part solution n H) = rw z at x.is in
-            let o : outcome ≡ refused bad_dot_product = rw (← kept_is, orthogonal, e, ← residual_is, ← solution_is, ← f) in
+            let f : refused reason ≡ advance_of n (part residual n H) (pair_at n (directions + k * n) (images + k * n) H) (part solution n H) = rw z at x.is in
+            let o : outcome ≡ refused reason = rw (← kept_is, orthogonal, e, ← residual_is, ← solution_is, ← f) in
             let m = next_fits ok s in
             record {
               answer = rw o;
               fits = λ j u. let z : ◌≡◌ {A = ℕ} 0 1 = cc in absurd (omega arith);
               solved = λ s' u. let z : ◌≡◌ {A = ℕ} 0 1 = cc in absurd (omega arith);
               stored = λ s' u. let z : ◌≡◌ {A = ℕ} 0 1 = cc in absurd (omega arith);
-              still = λ q' u. x.still z ∙ solution_is;
+              still = λ q' u. x.still reason z ∙ solution_is;
               below = λ a m c l. x.off a m c ∙ low a m l;
               between = λ a m l h. x.off a m (omega arith) ∙ middle a m l h;
               above = λ a m l. x.off a m (omega arith) ∙ high a m l;
@@ -193,7 +191,7 @@ module _ (F : List Float) {n krylov used solution directions images residual dir
             }
 
         -- All questions passed: one pair more, and the solution has moved.
-        pub correct_done : b ≡ true → By I (Corrected.Used (k + 1))
+        pub correct_done : b ≡ Ok tt → By I (Ok (k + 1))
         unfolding correct_of
         correct_done z =
             let e = c.pair y in

@@ -1,22 +1,22 @@
 -- A stored pair out of the new one, and a pass over all of them, by running offsets.
 -- Assumes nothing.
+use Rattle.std.specs.Prelude.{Option, Some, None, Result, Ok, Err}
+use Rattle.std.specs.Option.{ok_or}
 use mathlib.Core.Path.{◌≡◌, refl, sym, ◌∙◌}
-use mathlib.Core.Bool.{Bool, true, false}
 use mathlib.Core.List.{List, ◌∷◌}
 use Prim.Native.Nat.{ℕ, zero, suc, ◌+◌, ◌-◌, ◌*◌, ◌≤◌, ◌<◌}
 use native.Mathlib.Nat.{suc-mul}
 use native.Mathlib.Omega.{arith}
 use lib.Ieee.{Float}
 use lib.ListN.{length}
+use Rattle.refusal.specs.declared.Refusal.{Refusal}
 use Rattle.refusal.specs.Refusal.{bad_dot_product}
-use Rattle.refusal.specs.Outcome.{accepted, refused, ask}
+use Rattle.refusal.specs.Outcome.{accepted, refused}
 use Rattle.store.specs.Region.{part, Wrote}
 use Rattle.store.proofs.store.Region.{wrote_at, wrote_off}
-use Rattle.vector.specs.declared.vector.Product.{Product}
-use Rattle.vector.specs.declared.vector.Product.TheVariants.{Finite, NotFinite}
 use Rattle.vector.specs.Dot.{dot_of, product_of}
 use Rattle.acceleration.specs.Directions.{less_of, orthogonal_to, pass_of}
-use Rattle.acceleration.specs.DirectionsContract.{pair_at, memory_at, AxpyOk, Between, StepOk, Stepped, PassOk}
+use Rattle.acceleration.specs.DirectionsContract.{pair_at, memory_at, made_of, AxpyOk, Between, StepOk, Stepped, PassOk}
 
 -- ---- frames
 
@@ -33,6 +33,23 @@ between_on g h =
       size = h.size ∙ g.size;
     }
 
+-- ---- a value, or a refusal where there is none
+
+-- Where the answer has a value, so had the option,
+pub asked_some : (reason : Refusal) (d : Option Float) {r : Result Float Refusal} {x : Float} → r ≡ ok_or d reason → r ≡ Ok x → d ≡ Some x
+asked_some reason (Some y) v e = cc
+asked_some reason None v e = let z : ◌≡◌ {A = ℕ} 0 1 = cc in absurd (omega arith)
+
+-- where it refuses, the option had none,
+pub asked_none : (reason : Refusal) {told : Refusal} (d : Option Float) {r : Result Float Refusal} → r ≡ ok_or d reason → r ≡ Err told → d ≡ None
+asked_none reason (Some y) v e = let z : ◌≡◌ {A = ℕ} 0 1 = cc in absurd (omega arith)
+asked_none reason None v e = refl
+
+-- and it refuses with that refusal.
+pub asked_told : {reason told : Refusal} (d : Option Float) {r : Result Float Refusal} → r ≡ ok_or d reason → r ≡ Err told → told ≡ reason
+asked_told (Some y) v e = let z : ◌≡◌ {A = ℕ} 0 1 = cc in absurd (omega arith)
+asked_told None v e = cc
+
 -- ---- one stored pair
 
 -- Where the first `lessen` finds its regions.
@@ -44,12 +61,12 @@ pub direction_ok : {F G v : List Float} {b m n p q direction image : ℕ} → St
     → Wrote b m v F G → AxpyOk (length G) n p direction
 direction_ok ok h = record { xs = omega (arith, h.size); ys = omega (arith, h.size); clear = omega arith }
 
-module _ {F : List Float} {n p q direction image : ℕ} {d : Product} (ok : StepOk (length F) n p q direction image)
+module _ {F : List Float} {n p q direction image : ℕ} {d : Option Float} (ok : StepOk (length F) n p q direction image)
     (e : d ≡ product_of (dot_of n (part image n F) (part q n F))) where
   -- A finite product: both vectors are lessened.
-  pub step_yes : {G H : List Float} {b : Float} → d ≡ Finite b → Wrote image n (less_of n b (part q n F) (part image n F)) F G
+  pub step_yes : {G H : List Float} {b : Float} → d ≡ Some b → Wrote image n (less_of n b (part q n F) (part image n F)) F G
       → Wrote direction n (less_of n b (part p n G) (part direction n G)) G H
-      → Stepped n direction image (orthogonal_to n (pair_at n p q F) (pair_at n direction image F)) F H true
+      → Stepped n direction image (orthogonal_to n (pair_at n p q F) (pair_at n direction image F)) F H (Ok tt)
   unfolding orthogonal_to
   step_yes t g h =
       let told = sym e ∙ t in
@@ -68,7 +85,7 @@ module _ {F : List Float} {n p q direction image : ℕ} {d : Product} (ok : Step
       }
 
   -- One that is not: refused, and nothing is written.
-  pub step_no : d ≡ NotFinite → Stepped n direction image (orthogonal_to n (pair_at n p q F) (pair_at n direction image F)) F F false
+  pub step_no : d ≡ None → Stepped n direction image (orthogonal_to n (pair_at n p q F) (pair_at n direction image F)) F F (Err bad_dot_product)
   unfolding orthogonal_to
   step_no t = let told = sym e ∙ t in record { is = rw told; frame = between_self }
 
@@ -119,12 +136,12 @@ module _ {F G : List Float} {n used index p₀ q₀ p q direction image : ℕ}
   unfolding memory_at
   opened k e = rw e at s.left
 
-  module _ {H : List Float} {r : Bool} (d : Stepped n direction image (orthogonal_to n (pair_at n p q G) (pair_at n direction image G)) G H r) where
-    stepped : ask r bad_dot_product (accepted (pair_at n direction image H)) ≡ orthogonal_to n (pair_at n p q F) (pair_at n direction image G)
+  module _ {H : List Float} {r : Result Unit Refusal} (d : Stepped n direction image (orthogonal_to n (pair_at n p q G) (pair_at n direction image G)) G H r) where
+    stepped : made_of r (pair_at n direction image H) ≡ orthogonal_to n (pair_at n p q F) (pair_at n direction image G)
     stepped = d.is ∙ rw (s.frame.below p n passing_ok.ps, s.frame.below q n passing_ok.qs)
 
     -- A pair that passes.
-    pub passing_on : r ≡ true → Passing n used (index + 1) p₀ q₀ (p + n) (q + n) direction image F H
+    pub passing_on : r ≡ Ok tt → Passing n used (index + 1) p₀ q₀ (p + n) (q + n) direction image F H
     unfolding pass_of
     passing_on t =
         let e : accepted (pair_at n direction image H) ≡ orthogonal_to n (pair_at n p q F) (pair_at n direction image G) = rw t at stepped in
@@ -138,17 +155,17 @@ module _ {F G : List Float} {n used index p₀ q₀ p q direction image : ℕ}
         }
 
     -- A pair that is refused ends the pass.
-    pub passing_no : r ≡ false
-        → Stepped n direction image (pass_of n (memory_at used n p₀ q₀ F) (pair_at n direction image F)) F H false
+    pub passing_no : {reason : Refusal} → r ≡ Err reason
+        → Stepped n direction image (pass_of n (memory_at used n p₀ q₀ F) (pair_at n direction image F)) F H (Err reason)
     unfolding pass_of
-    passing_no t =
-        let e : refused bad_dot_product ≡ orthogonal_to n (pair_at n p q F) (pair_at n direction image G) = rw t at stepped in
+    passing_no {reason} t =
+        let e : refused reason ≡ orthogonal_to n (pair_at n p q F) (pair_at n direction image G) = rw t at stepped in
         record { is = rw (← e) at (opened (used - (index + 1)) next); frame = between_on s.frame d.frame }
 
 -- At the end nothing is left.
 pub passing_end : {F G : List Float} {n used index p₀ q₀ p q direction image : ℕ}
     → Passing n used index p₀ q₀ p q direction image F G → used ≤ index
-    → Stepped n direction image (pass_of n (memory_at used n p₀ q₀ F) (pair_at n direction image F)) F G true
+    → Stepped n direction image (pass_of n (memory_at used n p₀ q₀ F) (pair_at n direction image F)) F G (Ok tt)
 unfolding pass_of memory_at
 passing_end {F} {G} {n} {used} {index} s h =
     let z : used - index ≡ 0 = omega arith in

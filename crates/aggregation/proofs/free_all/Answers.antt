@@ -3,4 +3,4 @@ use Rattle.aggregation.proofs.Laws.{all_free}
 use Rattle.aggregation.proofs.free_all.Goals as goal
 
 pub returns : goal.returns
-returns c = all_free c.requires.rows_in_bounds c.fill_words.ensures c.fill_words-2.ensures
+returns c = all_free c.requires.rows_in_bounds c.fill.ensures c.fill-2.ensures

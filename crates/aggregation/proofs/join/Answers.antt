@@ -1,14 +1,10 @@
 -- `aggregation::join` meets its contract.
 use Rattle.aggregation.proofs.Laws.{size_few, join_done}
-use lib.ListN.{length-set}
 use native.Mathlib.Omega.{arith}
 use Rattle.aggregation.proofs.join.Goals as goal
 
 pub overflow_add-w-2 : goal.overflow_add-w-2
 overflow_add-w-2 c = omega (arith, size_few c.requires c.wide.ensures)
-
-pub bounds-w-place-2 : goal.bounds-w-place-2
-bounds-w-place-2 c = rw length-set (omega (arith, c.requires.room, c.requires.below, c.wide.ensures))
 
 pub returns : goal.returns
 returns c = join_done c.requires c.wide.ensures

@@ -5,14 +5,8 @@ use Rattle.aggregation.proofs.pair_row.Goals as goal
 pub returns-then-w-g : goal.returns-then-w-g
 returns-then-w-g c = row_assigned _ c.requires c.if-w-g.true
 
-pub strongest-s-requires : goal.strongest-s-requires
-strongest-s-requires c = c.requires.choice
-
 pub join-requires : goal.join-requires
 join-requires c = join_row c.requires c.if-w-g.false c.requires.few
-
-pub wide-requires : goal.wide-requires
-wide-requires c = tt
 
 pub join-requires-then-s-none : goal.join-requires-then-s-none
 join-requires-then-s-none c = join_free _ c.requires c.strongest-s.ensures c.join.ensures c.if-s-none.true c.wide.ensures

@@ -2,12 +2,6 @@
 use Rattle.aggregation.proofs.Laws.{walking_start, row_ok, walking_on, walking_end}
 use Rattle.aggregation.proofs.pairs.Goals as goal
 
-pub free_all-requires : goal.free_all-requires
-free_all-requires c = record {
-  rows_in_bounds = c.requires.map;
-  rows_bound = c.requires.few;
-}
-
 pub loop-index-init : goal.loop-index-init
 loop-index-init c = walking_start c.requires c.free_all.ensures
 

@@ -1,9 +1,5 @@
-use Prim.Native.Nat.{◌-◌}
 use Rattle.aggregation.proofs.Laws.{Choosing}
 use Rattle.aggregation.proofs.strongest.Given as goal
 
 abbrev pub invariant-loop-entry : goal.invariant-loop-entry
 invariant-loop-entry l = Choosing l.g l.w l.f l.row l.end l.entry l.s
-
-abbrev pub decreases-loop-entry : goal.decreases-loop-entry
-decreases-loop-entry l = l.end - l.entry

@@ -10,10 +10,10 @@ pub symmetric-requires : goal.symmetric-requires
 symmetric-requires c = symmetric_ok c.requires c.workspace_at-t.ensures refl refl c.load.ensures
 
 pub levels-requires : goal.levels-requires
-levels-requires c = levels_ok c.requires c.workspace_at-t.ensures refl refl c.load.ensures c.symmetric.ensures c.if-symmetric.true
-
-pub returns-then-symmetric : goal.returns-then-symmetric
-returns-then-symmetric c = begun_levels c.requires c.workspace_at-t.ensures refl refl c.load.ensures c.symmetric.ensures c.if-symmetric.true c.levels.ensures
+levels-requires c = levels_ok c.requires c.workspace_at-t.ensures refl refl c.load.ensures c.symmetric.ensures c.if-not-symmetric.false
 
 pub returns : goal.returns
-returns c = begun_asymmetric c.requires c.workspace_at-t.ensures refl refl c.load.ensures c.symmetric.ensures c.if-symmetric.false
+returns c = begun_levels c.requires c.workspace_at-t.ensures refl refl c.load.ensures c.symmetric.ensures c.if-not-symmetric.false c.levels.ensures
+
+pub returns-then-not-symmetric : goal.returns-then-not-symmetric
+returns-then-not-symmetric c = begun_asymmetric c.requires c.workspace_at-t.ensures refl refl c.load.ensures c.symmetric.ensures c.if-not-symmetric.true

@@ -2,8 +2,8 @@
 use Rattle.build.proofs.Whole.{done_made, done_refused}
 use Rattle.build.proofs.build.Goals as goal
 
-pub returns-in-Made : goal.returns-in-Made
-returns-in-Made c = done_made _ c.attempt.ensures c.in-Made.is
+pub returns-in-Ok : goal.returns-in-Ok
+returns-in-Ok c = done_made _ c.attempt.ensures c.in-Ok.is
 
-pub returns-in-Refused : goal.returns-in-Refused
-returns-in-Refused c = done_refused _ c.attempt.ensures c.in-Refused.is c.clear.ensures
+pub returns-in-Err : goal.returns-in-Err
+returns-in-Err c = done_refused _ c.attempt.ensures c.in-Err.is c.clear.ensures

@@ -1,4 +1,5 @@
 -- `build::levels` meets its contract: the levels from the frontier on, then the row sums behind them.
+use Rattle.refusal.proofs.Outcome.{passed_up}
 use Rattle.build.proofs.Whole.{grown_sums, grown_made, grown_refused}
 use Rattle.build.proofs.levels.Goals as goal
 
@@ -6,10 +7,12 @@ pub grow-requires : goal.grow-requires
 grow-requires c = rw c.frontier.ensures c.requires.frontier
 
 pub sums-requires : goal.sums-requires
-sums-requires c = grown_sums c.requires c.frontier.ensures c.grow.ensures c.in-Made.is
+sums-requires c = grown_sums c.requires c.frontier.ensures c.grow.ensures c.in_ok-grown.was
 
-pub returns-in-Made : goal.returns-in-Made
-returns-in-Made c = grown_made c.requires c.frontier.ensures c.grow.ensures c.in-Made.is c.sums.ensures
+pub returns : goal.returns
+returns c = grown_made c.requires c.frontier.ensures c.grow.ensures c.in_ok-grown.was c.sums.ensures
 
-pub returns-in-Refused : goal.returns-in-Refused
-returns-in-Refused c = grown_refused c.requires c.frontier.ensures c.grow.ensures c.in-Refused.is
+pub returns-in_err-grown : goal.returns-in_err-grown
+returns-in_err-grown c =
+    rw (passed_up _ c.from_residual.ensures.1)
+    (grown_refused c.requires c.frontier.ensures c.grow.ensures c.in_err-grown.was)

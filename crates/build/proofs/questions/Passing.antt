@@ -1,5 +1,7 @@
 -- What the questions tell where they passed.
 -- Assumes nothing.
+use Rattle.refusal.specs.declared.Refusal.{Refusal}
+use Rattle.std.specs.Prelude.{Result, Ok}
 use mathlib.Core.Path.{◌≡◌, sym, ◌∙◌}
 use mathlib.Core.Bool.{Bool, true, cond, ◌&&◌, ◌||◌}
 use mathlib.Core.List.{List}
@@ -11,7 +13,6 @@ use borrow.Author.Tests.{leb-true, ne_eqb}
 use Rattle.store.proofs.store.Each.{both_l, both_r}
 use Rattle.options.specs.declared.options.MultigridOptions.{MultigridOptions}
 use Rattle.refusal.specs.Refusal.{invalid_controls, not_cholesky, store_too_small}
-use Rattle.refusal.specs.declared.Verdict.{Verdict}
 use Rattle.options.specs.Options.{within, tolerable, cap_allowed, valid_of, is_cholesky, controls_asked}
 use Rattle.refusal.specs.Outcome.{passed, ask, verdict_of}
 use Rattle.csr.specs.Questions.{matrix_asked}
@@ -56,12 +57,12 @@ controls_fit o e =
     }
 
 weights_fit : (entries : ℕ) (given : Bool) (weights : List Float)
-    → verdict_of (cond given (weights_asked entries weights) passed) ≡ Verdict.Passed
+    → verdict_of (cond given (weights_asked entries weights) passed) ≡ Ok tt
     → given ≡ true → length weights ≡ entries
 weights_fit entries given weights e g = weights_length entries weights (rw g at e)
 
 -- Arrays and controls that passed.
-pub arrays_fit : (x : Input) → verdict_of (arrays_asked x) ≡ Verdict.Passed → ArraysFit x
+pub arrays_fit : (x : Input) → verdict_of (arrays_asked x) ≡ Ok tt → ArraysFit x
 unfolding arrays_asked
 arrays_fit x e =
     let a = then_passed (matrix_asked x.rows x.offsets x.columns x.values)
@@ -78,13 +79,13 @@ arrays_fit x e =
     }
 
 -- No charge of such a matrix wraps.
-pub charge_ok : {x : Input} {v : Verdict} → ArraysAsked x v → v ≡ Verdict.Passed → ChargeOk x.rows (length x.columns) x.options
+pub charge_ok : {x : Input} {v : Result Unit Refusal} → ArraysAsked x v → v ≡ Ok tt → ChargeOk x.rows (length x.columns) x.options
 charge_ok {x} a p =
     let f = arrays_fit x (sym a.answer ∙ p) in
     record { few = f.sizes.few; less = f.sizes.short; controls = f.controls }
 
 -- The stores of a build with rows that passed.
-pub fitting : {words floats records : ℕ} {x : Input} {v : Verdict} → Asked (lending words floats records) x v → v ≡ Verdict.Passed
+pub fitting : {words floats records : ℕ} {x : Input} {v : Result Unit Refusal} → Asked (lending words floats records) x v → v ≡ Ok tt
     → (x.rows ≡ 0 → ⊥) → Fitting words floats x
 unfolding asked_of room_asked
 fitting {words} {floats} {records} {x} a p some =

@@ -2,35 +2,26 @@
 ghost use Rattle.std.specs.Prelude.{length};
 ghost use Rattle.build.specs.Finest.{WeightsOk, WeightsLoaded, LoadOk, Loaded};
 
+use crate::Source;
 use coarsening::Workspace;
 
 // The weights, where they are given.
-fn load_weights(f: &mut [f64], given: bool, weights: &[f64], to: usize)
-    requires { WeightsOk (length f.old) given weights.now to }
-    ensures { WeightsLoaded f.old f.new given weights.now to }
+fn load_weights(f: &mut [f64], x: Source, to: usize)
+    requires { WeightsOk (length f.old) x.given x.weights.now to }
+    ensures { WeightsLoaded f.old f.new x.entry.given x.entry.weights.now to }
 {
-    if !given {
-        return;
+    if x.given {
+        store::load(f, x.weights, to);
     }
-    store::load(f, weights, to);
 }
 
 // The arrays, each where the next level's stands.
-pub fn load(
-    w: &mut [u32],
-    f: &mut [f64],
-    offsets: &[u32],
-    columns: &[u32],
-    values: &[f64],
-    given: bool,
-    weights: &[f64],
-    t: Workspace,
-)
-    requires { LoadOk (length w.old) (length f.old) offsets.now columns.now values.now given weights.now t }
-    ensures { Loaded w.old w.new f.old f.new offsets.now columns.now values.now given weights.now t }
+pub fn load(w: &mut [u32], f: &mut [f64], x: Source, t: Workspace)
+    requires { LoadOk (length w.old) (length f.old) x.offsets.now x.columns.now x.values.now x.given x.weights.now t }
+    ensures { Loaded w.old w.new f.old f.new x.entry.offsets.now x.entry.columns.now x.entry.values.now x.entry.given x.entry.weights.now t }
 {
-    store::load_words(w, offsets, t.offsets);
-    store::load_words(w, columns, t.columns);
-    store::load(f, values, t.values);
-    load_weights(f, given, weights, t.weights);
+    store::load(w, x.offsets, t.offsets);
+    store::load(w, x.columns, t.columns);
+    store::load(f, x.values, t.values);
+    load_weights(f, x, t.weights);
 }

@@ -1,5 +1,6 @@
 -- The last level and its three ways out: too many coupled rows, a bad pivot, and the level in the stores.
 -- Assumes nothing.
+use Rattle.std.specs.Prelude.{Result, Ok, Err}
 use mathlib.Core.Path.{◌≡◌, refl, sym, ap, ◌∙◌}
 use mathlib.Core.Bool.{Bool, true, cond}
 use mathlib.Core.List.{List, [], ◌∷◌}
@@ -16,7 +17,6 @@ use Rattle.store.proofs.store.Region.{get_d_part, kept_part, kept_get, kept_less
 use Rattle.options.specs.declared.options.MultigridOptions.{MultigridOptions}
 use Rattle.refusal.specs.declared.Refusal.{Refusal}
 use Rattle.refusal.specs.Refusal.{too_many_coupled}
-use Rattle.refusal.specs.declared.Verdict.{Verdict}
 use Rattle.refusal.specs.Outcome.{Outcome, accepted, refused}
 use Rattle.refusal.proofs.Outcome.{refuses}
 use Rattle.coefficients.specs.Update.{Coefficients}
@@ -41,7 +41,6 @@ use Rattle.coarsening.specs.declared.coarsen.Workspace.{Workspace}
 use Rattle.coarsening.specs.CoarsenContract.{mesh_at}
 use Rattle.build_level.specs.declared.laying.Frontier.{Frontier}
 use Rattle.build_level.specs.LayingContract.{level_in, Stands}
-use Rattle.build_level.specs.declared.coarsest.Growth.{Growth}
 use Rattle.build_level.specs.Steps.{ListOk, Listed, factor_of, FactorOk, FactorDone}
 use Rattle.build_level.specs.CoarsestContract.{Levels, LastOk, Ended}
 use Rattle.build_level.proofs.coarsest.Sizes.{Below, below, standing}
@@ -85,7 +84,7 @@ module _ (o : MultigridOptions) (level : ℕ) (m : Mesh) (c : Coefficients) wher
 
 module _ {w z : List ℕ} {F G : List Float} {t : Workspace} {level a b : ℕ} {out : Outcome (List Level)} (words : Kept a w z) (floats : Kept b F G) where
   -- A refusal.
-  pub levels_refused : {q : Refusal} → out ≡ refused q → Levels w z F G t level a b out (Growth.Refused q)
+  pub levels_refused : {q : Refusal} → out ≡ refused q → Levels w z F G t level a b out (Err q)
   levels_refused {q} e = record {
     made = λ ls h. let none : ◌≡◌ {A = ℕ} 0 1 = cc in absurd (omega arith);
     refusal = λ r h. let same : q ≡ r = cc in rw same refl;
@@ -99,7 +98,7 @@ module _ {w z : List ℕ} {F G : List Float} {t : Workspace} {level a b : ℕ} {
 
   -- One level.
   levels_one : {l : Level} {end : ℕ} → out ≡ accepted (l ∷ []) → level_at z G a b ≡ l → floats_end z a b ≡ end → words_end z a ≤ length z
-      → head_at z a ≡ head_of l.shape → end + t.rows ≤ t.values → Levels w z F G t level a b out (Growth.Made (level + 1) end)
+      → head_at z a ≡ head_of l.shape → end + t.rows ≤ t.values → Levels w z F G t level a b out (Ok (record { levels = level + 1; end = end }))
   unfolding levels_at image_end words_fit heads_at heads_of
   levels_one {l} {end} e is top room head low = record {
     made = λ ls h. rw (ls_is ls h, top) refl;
@@ -238,7 +237,7 @@ module _ {w : List ℕ} {size : ℕ} {o : MultigridOptions} {t : Workspace} {s :
 module _ {w : List ℕ} (F : List Float) {o : MultigridOptions} {t : Workspace} {s : Frontier} {p : Place} (ok : LastOk w (length F) o t s p)
     {coupled : ℕ} (count : coupled ≡ coupled_count_of (pattern_at w (faces_in p))) (given : Bool) where
   -- Too many coupled rows.
-  pub ended_many : o.coarsest_cells < coupled → Ended w w F F o given t s p (Growth.Refused too_many_coupled)
+  pub ended_many : o.coarsest_cells < coupled → Ended w w F F o given t s p (Err too_many_coupled)
   ended_many h = record {
     levels = levels_refused kept_self kept_self
         (last_many o s.level (mesh_at w F given (level_in t p)) (coefficients_at F p) (omega (arith, count)));
@@ -279,7 +278,7 @@ module _ {w : List ℕ} (F : List Float) {o : MultigridOptions} {t : Workspace} 
         l.count ∙ count ∙ sym (coupled_long (pattern_at w (faces_in p))) in
         cc
 
-    module _ {G : List Float} {v : Verdict} (d : FactorDone z F G p coupled s.level v) where
+    module _ {G : List Float} {v : Result Unit Refusal} (d : FactorDone z F G p coupled s.level v) where
       low : Kept s.a w z
       low = kept_less l.kept (omega arith)
 
@@ -287,7 +286,7 @@ module _ {w : List ℕ} (F : List Float) {o : MultigridOptions} {t : Workspace} 
       under = let b = bounds ok count few in kept_less d.kept (omega arith)
 
       -- A bad pivot.
-      pub ended_pivot : {q : Refusal} → v ≡ Verdict.Refused q → Ended w z F G o given t s p (Growth.Refused q)
+      pub ended_pivot : {q : Refusal} → v ≡ Err q → Ended w z F G o given t s p (Err q)
       ended_pivot {q} e = record {
         levels = levels_refused low under
             (last_refused o s.level (mesh_at w F given (level_in t p)) (coefficients_at F p) counted
@@ -306,7 +305,7 @@ module _ {w : List ℕ} (F : List Float) {o : MultigridOptions} {t : Workspace} 
           cc
 
       -- The level.
-      pub ended_made : {size : ℕ} → v ≡ Verdict.Passed → size ≡ tri coupled → Ended w z F G o given t s p (Growth.Made (s.level + 1) (p.factor + size))
+      pub ended_made : {size : ℕ} → v ≡ Ok tt → size ≡ tri coupled → Ended w z F G o given t s p (Ok (record { levels = s.level + 1; end = p.factor + size }))
       ended_made {size} e is =
           let b = bounds ok count few in
           let stands = ok.level.stands in

@@ -1,5 +1,7 @@
 -- The faces of a level and its diagonal entries: question 11.
 -- Assumes nothing.
+use Rattle.refusal.specs.declared.Refusal.{Refusal}
+use Rattle.std.specs.Prelude.{Result}
 use mathlib.Core.Path.{◌≡◌, sym, ap, ◌∙◌}
 use mathlib.Core.Bool.{Bool, true}
 use mathlib.Core.List.{List}
@@ -7,7 +9,6 @@ use Prim.Native.Nat.{ℕ}
 use native.Mathlib.Omega.{arith}
 use Rattle.store.specs.Region.{Kept}
 use Rattle.store.proofs.store.Region.{wrote_off, kept_wrote, kept_on, kept_less}
-use Rattle.refusal.specs.declared.Verdict.{Verdict}
 use Rattle.refusal.specs.Outcome.{verdict_of}
 use Rattle.faces.specs.declared.faces.Faces.{Faces}
 use Rattle.faces.specs.Faces.{faces_of, mirrored_of, lowers_of, diagonals_asked, diagonals_of}
@@ -81,7 +82,7 @@ module _ {w : List ℕ} {p : Place} {u : Faces} (ok : FacesOk w p) (is : u ≡ f
           let size = second.size in
           rw is (record { ordered = ordered_on ok.ordered second; below = omega arith; room = omega arith })
 
-      pub faces_laid : {z : List ℕ} {level : ℕ} {r : Verdict} → DiagonalsDone y z u level r → FacesLaid w z p level r
+      pub faces_laid : {z : List ℕ} {level : ℕ} {r : Result Unit Refusal} → DiagonalsDone y z u level r → FacesLaid w z p level r
       faces_laid {z} {level} {r} diagonals =
           let f : Filled w x (faces_in p) = rw is at filled in
           let m : MirrorsDone x y (faces_in p) b = rw is at mirrors in

@@ -1,5 +1,6 @@
 -- A level that is laid: what its steps require and what they leave together.
 -- Assumes nothing.
+use Rattle.std.specs.Prelude.{Result, Ok, Err}
 use mathlib.Core.Path.{◌≡◌, refl, sym, ap, ◌∙◌}
 use mathlib.Core.Bool.{Bool}
 use mathlib.Core.List.{List}
@@ -11,7 +12,6 @@ use Rattle.store.specs.Region.{idx, part, Kept}
 use Rattle.store.proofs.store.Region.{length_part, get_d_part, kept_on, kept_less, kept_self, kept_part, kept_get}
 use Rattle.options.specs.declared.options.MultigridOptions.{MultigridOptions}
 use Rattle.refusal.specs.declared.Refusal.{Refusal}
-use Rattle.refusal.specs.declared.Verdict.{Verdict}
 use Rattle.refusal.specs.Outcome.{Outcome, accepted, refused, verdict_of}
 use Rattle.refusal.proofs.Outcome.{passes, refuses}
 use Rattle.coefficients.specs.Update.{Coefficients}
@@ -29,7 +29,6 @@ use Rattle.layout.proofs.Places.{placed, placed_is}
 use Rattle.coarsening.specs.declared.coarsen.Workspace.{Workspace}
 use Rattle.coarsening.specs.CoarsenContract.{pattern_at}
 use Rattle.build_level.specs.declared.laying.Frontier.{Frontier}
-use Rattle.build_level.specs.declared.laying.Laying.{Laying}
 use Rattle.build_level.specs.LayingContract.{frontier_at, level_in, RoomOk, FrontierOk, laid_of, laying_of, StandsFor, Laid}
 use Rattle.build_level.specs.Inner.{new_pattern, place_in, WordsOk, WordsLaid, FacesLaid, ValuesOk, update_from, ValuesLaid}
 
@@ -107,7 +106,7 @@ place_room {w} {y} {size} {o} {t} {s} {n} ok long high l =
 
 -- ---- the level once its faces are laid
 
-module _ {w y z : List ℕ} {t : Workspace} {s : Frontier} {n level : ℕ} {v : Verdict} (ok : WordsOk w t s) (l : WordsLaid w y t s n)
+module _ {w y z : List ℕ} {t : Workspace} {s : Frontier} {n level : ℕ} {v : Result Unit Refusal} (ok : WordsOk w t s) (l : WordsLaid w y t s n)
     (d : FacesLaid y z (place_in s n) level v) where
   -- the pattern out of the temporaries
   abbrev q : Pattern
@@ -119,7 +118,7 @@ module _ {w y z : List ℕ} {t : Workspace} {s : Frontier} {n level : ℕ} {v : 
   kept : Kept s.a w z
   kept = kept_on l.laid.kept (kept_less d.kept (omega arith))
 
-  module _ (told : v ≡ Verdict.Passed) where
+  module _ (told : v ≡ Ok tt) where
     shapes : Shapes z s.a (place_in s n) q
     shapes =
         let p = place_in s n in
@@ -148,14 +147,14 @@ module _ {w y z : List ℕ} {t : Workspace} {s : Frontier} {n level : ℕ} {v : 
 
 -- ---- what the steps require, as the code has their places
 
-module _ {w y z : List ℕ} {size : ℕ} {o : MultigridOptions} {t : Workspace} {s : Frontier} {n : ℕ} {p : Place} {v : Verdict}
+module _ {w y z : List ℕ} {size : ℕ} {o : MultigridOptions} {t : Workspace} {s : Frontier} {n : ℕ} {p : Place} {v : Result Unit Refusal}
     (ok : FrontierOk w size o t s) (high : size ≤ 18446744073709551615) (l : WordsLaid w y t s n) (at : p ≡ place_in s n)
     (d : FacesLaid y z p s.level v) where
   faced : FacesLaid y z (place_in s n) s.level v
   faced = rw at at d
 
   -- The values may be laid.
-  pub values_ok_lem : v ≡ Verdict.Passed → ValuesOk z size p t.values
+  pub values_ok_lem : v ≡ Ok tt → ValuesOk z size p t.values
   values_ok_lem told =
       let room = ok.room in
       let work = room.work in
@@ -170,8 +169,8 @@ module _ {w y z : List ℕ} {size : ℕ} {o : MultigridOptions} {t : Workspace} 
       })
 
   -- Question 11 refuses.
-  pub laid_incomplete : {F : List Float} {given : Bool} {refusal : Refusal} → v ≡ Verdict.Refused refusal
-      → Laid w z F F given t s (Laying.Refused refusal)
+  pub laid_incomplete : {F : List Float} {given : Bool} {refusal : Refusal} → v ≡ Err refusal
+      → Laid w z F F given t s (Err refusal)
   laid_incomplete {F} {given} {refusal} told =
       let words = words_ok ok high in
       let asked = refuses (diagonals_asked s.level (new_pattern w t s)) (verdict words l faced) told in
@@ -183,7 +182,7 @@ module _ {w y z : List ℕ} {size : ℕ} {o : MultigridOptions} {t : Workspace} 
         floats = kept_self;
       }
 
-  module _ {F G : List Float} {r : Verdict} (given : Bool) (told : v ≡ Verdict.Passed) (e : ValuesLaid z F G p t.values s.level r) where
+  module _ {F G : List Float} {r : Result Unit Refusal} (given : Bool) (told : v ≡ Ok tt) (e : ValuesLaid z F G p t.values s.level r) where
     valued : ValuesLaid z F G (place_in s n) t.values s.level r
     valued = rw at at e
 
@@ -200,7 +199,7 @@ module _ {w y z : List ℕ} {size : ℕ} {o : MultigridOptions} {t : Workspace} 
         rw (asked, faces_at_lem sh ok.valid, sh.diagonals, sh.uppers)
 
     -- Question 12 or 13 refuses.
-    pub laid_refused : {refusal : Refusal} → r ≡ Verdict.Refused refusal → Laid w z F G given t s (Laying.Refused refusal)
+    pub laid_refused : {refusal : Refusal} → r ≡ Err refusal → Laid w z F G given t s (Err refusal)
     laid_refused {refusal} bad =
         let words = words_ok ok high in
         let outcome = refuses (laid_of s.level m) (valued.verdict ∙ ap verdict_of updated) bad in
@@ -233,16 +232,16 @@ module _ {w y z : List ℕ} {size : ℕ} {o : MultigridOptions} {t : Workspace} 
           coefficients = rw (h1, h2, h3);
         }
 
-    done : (k : Outcome Coefficients) → verdict_of k ≡ Verdict.Passed → laying_of m k ≡ Laying.Done (faces_of m.pattern)
+    done : (k : Outcome Coefficients) → verdict_of k ≡ Ok tt → laying_of m k ≡ Ok (faces_of m.pattern)
     done (accepted c) h = refl
     done (refused x) h = let none : ◌≡◌ {A = ℕ} 0 1 = cc in absurd (omega arith)
 
     -- All three pass.
-    pub laid_done : r ≡ Verdict.Passed → Laid w z F G given t s (Laying.Done n)
+    pub laid_done : r ≡ Ok tt → Laid w z F G given t s (Ok n)
     laid_done good =
         let words = words_ok ok high in
         record {
-          answer = ap Laying.Done l.found ∙ sym (done (laid_of s.level m) (sym (ap verdict_of updated) ∙ sym valued.verdict ∙ good));
+          answer = ap Ok l.found ∙ sym (done (laid_of s.level m) (sym (ap verdict_of updated) ∙ sym valued.verdict ∙ good));
           stands = λ c p' e' h rows most count.
               let is : p' ≡ place_in s n = placed_is h ∙ rw (rows, most, count, l.found) in
               rw is (stands_for c e');

@@ -1,5 +1,7 @@
 -- The values of a level and its coefficients: questions 12 and 13.
 -- Assumes nothing.
+use Rattle.refusal.specs.declared.Refusal.{Refusal}
+use Rattle.std.specs.Prelude.{Result}
 use mathlib.Core.Path.{◌≡◌, ◌∙◌}
 use mathlib.Core.List.{List}
 use Prim.Native.Nat.{ℕ}
@@ -8,7 +10,6 @@ use lib.ListN.{length}
 use lib.Ieee.{Float}
 use Rattle.store.specs.Region.{part, Wrote}
 use Rattle.store.proofs.store.Region.{wrote_at, kept_part}
-use Rattle.refusal.specs.declared.Verdict.{Verdict}
 use Rattle.matrix.specs.declared.matrix.SymmetricMatrix.{SymmetricMatrix}
 use Rattle.coefficients.specs.declared.values.entries.Entries.{Entries}
 use Rattle.coefficients.specs.Contract.{update_at, UpdateOk, Updated}
@@ -24,7 +25,7 @@ module _ {w : List ℕ} {F G : List Float} {p : Place} {from : ℕ} {k : Symmetr
   update_ok = rw (kernel, image, copied.size) ok.update
 
   -- What the update leaves.
-  pub values_laid : {H : List Float} {level : ℕ} {r : Verdict} → Updated w k (update_at level k e w G) G H r
+  pub values_laid : {H : List Float} {level : ℕ} {r : Result Unit Refusal} → Updated w k (update_at level k e w G) G H r
       → ValuesLaid w F H p from level r
   values_laid {H} {level} {r} updated =
       let u : Updated w (kernel_in p) (update_at level (kernel_in p) (entries_in p) w G) G H r = rw (kernel, image) at updated in

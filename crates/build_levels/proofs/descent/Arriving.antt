@@ -1,5 +1,6 @@
 -- The descent in the stores: what its calls require, its ways out, and what stands there where it arrives.
 -- Assumes nothing.
+use Rattle.std.specs.Prelude.{Result, Ok, Err}
 use mathlib.Core.Path.{◌≡◌, refl, sym, ap, subst, ◌∙◌}
 use mathlib.Core.Bool.{Bool, true, false, cond}
 use mathlib.Core.List.{List, []}
@@ -15,7 +16,6 @@ use Rattle.store.proofs.store.Vector.{get_d_tab}
 use Rattle.options.specs.declared.options.MultigridOptions.{MultigridOptions}
 use Rattle.refusal.specs.declared.Refusal.{Refusal}
 use Rattle.refusal.specs.Refusal.{bad_coarse_value}
-use Rattle.refusal.specs.declared.Verdict.{Verdict}
 use Rattle.refusal.specs.Outcome.{accepted, refused}
 use Rattle.refusal.proofs.Outcome.{ask_yes, ask_no, then_accepted, then_refused, accepted_one}
 use Rattle.vector.specs.Finite.{all_finite}
@@ -42,7 +42,6 @@ use Rattle.coarsening.specs.CoarsenContract.{pattern_at, mesh_at, next_in, coars
 use Rattle.coarsening.specs.declared.merging.Merging.{Merging}
 use Rattle.build_level.specs.declared.laying.Frontier.{Frontier}
 use Rattle.build_level.specs.LayingContract.{level_in}
-use Rattle.build_levels.specs.declared.descent.Descending.{Descending}
 use Rattle.build_levels.specs.DescentContract.{Descent, next_of, descending_of, DescendOk, descent_at, Arrived, Descended}
 use Rattle.build_levels.specs.Steps.{steps_of, steps_at, StepsDone}
 use Rattle.build_levels.proofs.descent.Ways.{settled_no, settled_yes, merging_no, Made, merging_yes, way_numbers, way_steps, way_afresh}
@@ -53,7 +52,7 @@ use Rattle.build_levels.proofs.descent.Levels.{words_below, floats_below, kernel
 -- A refused descent.
 descended_no : {w z : List ℕ} {F G : List Float} {o : MultigridOptions} {given : Bool} {t : Workspace} {s : Frontier} {p : Place} {count : ℕ}
     {q : Refusal} → descent_at o given w F t s p count ≡ refused q → Kept s.a w z → Kept s.b F G
-    → Descended w z F G o given t s p count (Descending.Refused q)
+    → Descended w z F G o given t s p count (Err q)
 descended_no e k l = record {
   answer = sym (ap descending_of e);
   arrived = λ d x. let none : ◌≡◌ {A = ℕ} 0 1 = cc in absurd (omega arith);
@@ -141,7 +140,7 @@ module _ {w w1 : List ℕ} {size : ℕ} {o : MultigridOptions} {t : Workspace} {
 
 -- ---- the DIC data
 
-module _ {w w1 : List ℕ} {F F1 : List Float} {o : MultigridOptions} {t : Workspace} {s : Frontier} {p : Place} {count : ℕ} {v : Verdict}
+module _ {w w1 : List ℕ} {F F1 : List Float} {o : MultigridOptions} {t : Workspace} {s : Frontier} {p : Place} {count : ℕ} {v : Result Unit Refusal}
     {needed : Bool} (ok : DescendOk w (length F) o t s p count) (h : Wrote (s.a + 1) 2 (filled 2 0) w w1) (by : needed ≡ needs_dic o.smoother)
     (stood : Settled p.dic p.rows (smoother_at needed s.level w1 F p) F F1 v) where
   -- the DIC data as the options ask for them
@@ -191,16 +190,16 @@ module _ {w w1 : List ℕ} {F F1 : List Float} {o : MultigridOptions} {t : Works
       ap (λ (k : Kernel). smoother_of o s.level k) (kernel_is (opened ok h) F links count
       ∙ ap (λ (q : Pattern). kernel_of (inner_shape q links count) c.diagonal c.inverse c.coefficients) (own_same ok h))
 
-  numbers_no : {q : Refusal} → v ≡ Verdict.Refused q
+  numbers_no : {q : Refusal} → v ≡ Err q
       → inner_numbers o s.level (inner_shape own links count) (coefficients_at F p) ≡ refused q
   numbers_no e = then_refused (smoother_of o s.level kernel) _ (sym dic_is ∙ d.is ∙ settled_no d.held e)
 
-  numbers_yes : v ≡ Verdict.Passed
+  numbers_yes : v ≡ Ok tt
       → inner_numbers o s.level (inner_shape own links count) (coefficients_at F p) ≡ accepted numbers
   numbers_yes e = then_accepted (smoother_of o s.level kernel) _ (sym dic_is ∙ d.is ∙ settled_yes d.held e)
 
   -- The DIC data are refused.
-  pub descend_numbers : (given : Bool) {q : Refusal} → v ≡ Verdict.Refused q → Descended w w1 F F1 o given t s p count (Descending.Refused q)
+  pub descend_numbers : (given : Bool) {q : Refusal} → v ≡ Err q → Descended w w1 F F1 o given t s p count (Err q)
   descend_numbers given e =
       let l = ok.level.stands.placed in
       descended_no (way_numbers o given s.level s.stage (fine given) (coefficients_at F p) links count (numbers_no e))
@@ -208,7 +207,7 @@ module _ {w w1 : List ℕ} {F F1 : List Float} {o : MultigridOptions} {t : Works
 
   -- ---- the steps
 
-  module _ {w2 : List ℕ} {F2 : List Float} {given : Bool} {r : Merging} (yes : v ≡ Verdict.Passed)
+  module _ {w2 : List ℕ} {F2 : List Float} {given : Bool} {r : Result Merging Refusal} (yes : v ≡ Ok tt)
       (g : StepsDone w1 w2 F1 F2 o given t s p count r) where
     steps_same : steps_at o given w1 F1 t s p count ≡ steps_at o given w F t s p count
     steps_same =
@@ -226,12 +225,18 @@ module _ {w w1 : List ℕ} {F F1 : List Float} {o : MultigridOptions} {t : Works
         kept_on (kept_wrote d.wrote (omega arith)) (kept_less g.floats (omega arith))
 
     -- The steps are refused.
-    pub descend_steps : {q : Refusal} → r ≡ Merging.Refused q → Descended w w2 F F2 o given t s p count (Descending.Refused q)
+    pub descend_steps : {q : Refusal} → r ≡ Err q → Descended w w2 F F2 o given t s p count (Err q)
     descend_steps e =
         descended_no (way_steps o given s.level s.stage (fine given) (coefficients_at F p) links count (numbers_yes yes)
         (sym steps_same ∙ merging_no (steps_at o given w1 F1 t s p count) g.answer e)) words_kept floats_kept
 
-    module _ {rows most stage : ℕ} (told : r ≡ Merging.Done rows most stage) where
+    module _ {ended : Merging} (told : r ≡ Ok ended) where
+      abbrev rows : ℕ
+      rows = ended.count
+
+      abbrev stage : ℕ
+      stage = ended.stage
+
       found : Made (steps_at o given w1 F1 t s p count) rows stage
       found = merging_yes (steps_at o given w1 F1 t s p count) g.answer told
 
@@ -332,7 +337,7 @@ module _ {w w1 : List ℕ} {F F1 : List Float} {o : MultigridOptions} {t : Works
             kept_on floats_kept (kept_less formed.floats (omega arith))
 
         -- A value of it is not finite.
-        pub descend_bad : n.finite ≡ false → Descended w w3 F F3 o given t s p count (Descending.Refused bad_coarse_value)
+        pub descend_bad : n.finite ≡ false → Descended w w3 F F3 o given t s p count (Err bad_coarse_value)
         descend_bad e =
             descended_no (way_afresh o given s.level s.stage (fine given) (coefficients_at F p) links count (numbers_yes yes) made
             ∙ then_refused (coarsened_asked given (fine given) x.map x.mesh.pattern.rows) _
@@ -452,13 +457,13 @@ module _ {w w1 : List ℕ} {F F1 : List Float} {o : MultigridOptions} {t : Works
         }
 
         -- The next level's matrix stands in the temporaries.
-        pub descend_done : n.finite ≡ true → Descended w w3 F F3 o given t s p count (Descending.Done rows n.entries stage)
+        pub descend_done : n.finite ≡ true → Descended w w3 F F3 o given t s p count (Ok (record { count = rows; entries = n.entries; stage = stage }))
         descend_done e =
             let told : descent_at o given w F t s p count ≡ accepted whole =
             way_afresh o given s.level s.stage (fine given) (coefficients_at F p) links count (numbers_yes yes) made
             ∙ then_accepted (coarsened_asked given (fine given) x.map x.mesh.pattern.rows) _
             (ask_yes (all_finite (entries next.pattern) next.values) bad_coarse_value (accepted next) (finite ∙ e)) in
-            let answer : Descending.Done rows n.entries stage ≡ descending_of (accepted whole) =
+            let answer : Ok (record { count = rows; entries = n.entries; stage = stage }) ≡ descending_of (accepted whole) =
             let h0 = found.counted in let h1 = size in let h2 = found.staged in cc in
             record {
               answer = answer ∙ sym (ap descending_of told);

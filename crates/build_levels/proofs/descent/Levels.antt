@@ -1,6 +1,7 @@
 -- A level that stands at its place with its aggregates: the room below the temporaries, what the calls require, and what the first
 -- coarse matrix and the merged steps leave.
 -- Assumes nothing.
+use Rattle.std.specs.Prelude.{Result, Err}
 use mathlib.Core.Path.{◌≡◌, sym, ap, subst, ◌∙◌}
 use mathlib.Core.Bool.{Bool, true, false}
 use mathlib.Core.List.{List}
@@ -12,6 +13,7 @@ use Rattle.store.specs.Region.{idx, part}
 use Rattle.store.proofs.store.Region.{get_d_part, kept_on, kept_less, kept_part}
 use Rattle.store.proofs.store.Vector.{get_d_tab}
 use Rattle.options.specs.declared.options.MultigridOptions.{MultigridOptions}
+use Rattle.refusal.specs.declared.Refusal.{Refusal}
 use Rattle.refusal.specs.Refusal.{bad_coarse_value}
 use Rattle.refusal.specs.Outcome.{Outcome, accepted, refused}
 use Rattle.refusal.proofs.Outcome.{ask_yes, ask_no, then_accepted, then_refused}
@@ -213,7 +215,7 @@ module _ {w z : List ℕ} {F G : List Float} {o : MultigridOptions} {given : Boo
   finite_is = ap (λ (n : ℕ). all_finite n first.values) (sym made.found) ∙ sym made.finite
 
   -- A value of the first coarse matrix is not finite.
-  pub steps_bad : r.finite ≡ false → StepsDone w z F G o given t s p count (Merging.Refused bad_coarse_value)
+  pub steps_bad : r.finite ≡ false → StepsDone w z F G o given t s p count (Err bad_coarse_value)
   steps_bad e =
       let h = ok.level.stands.placed in
       let work = ok.level.room.work in
@@ -230,7 +232,7 @@ module _ {w z : List ℕ} {F G : List Float} {o : MultigridOptions} {given : Boo
       }
 
   -- The merged steps from it.
-  pub steps_on : {y : List ℕ} {H : List Float} {a : Merging} → r.finite ≡ true
+  pub steps_on : {y : List ℕ} {H : List Float} {a : Result Merging Refusal} → r.finite ≡ true
       → MergeDone o given z y G H t p.rows p.links count r.entries (s.stage + 1) (o.merge_levels - 1) (s.level + 1) a
       → StepsDone w y F H o given t s p count a
   steps_on {y} {H} {a} e done =

@@ -1,18 +1,19 @@
 -- The ways through the descent, over the definitions alone.
 -- Assumes nothing.
-use mathlib.Core.Path.{◌≡◌, refl, sym, ◌∙◌}
-use mathlib.Core.Bool.{Bool}
+use Rattle.std.specs.Prelude.{Result, Ok, Err}
+use mathlib.Core.Path.{◌≡◌, refl, sym, ap, ◌∙◌}
+use mathlib.Core.Bool.{Bool, true, false, not}
 use mathlib.Core.List.{List}
 use Prim.Native.Nat.{ℕ, ◌+◌, ◌-◌}
 use native.Mathlib.Omega.{arith}
 use lib.Ieee.{Float}
 use Rattle.options.specs.declared.options.MultigridOptions.{MultigridOptions}
 use Rattle.refusal.specs.declared.Refusal.{Refusal}
-use Rattle.refusal.specs.declared.Verdict.{Verdict}
 use Rattle.refusal.specs.Outcome.{Outcome, accepted, refused, ◌>>=◌}
 use Rattle.refusal.proofs.Outcome.{then_accepted, then_refused, then_then}
 use Rattle.coefficients.specs.Update.{Coefficients}
 use Rattle.dic.specs.Dic.{settled}
+use Rattle.pattern.specs.Pattern.{entries}
 use Rattle.hierarchy.specs.Level.{Numbers}
 use Rattle.hierarchy.specs.Refresh.{inner_numbers}
 use Rattle.hierarchy.specs.Build.{Mesh, Merged, merged, inner_shape, coarsened_asked, merge_of}
@@ -23,18 +24,28 @@ use Rattle.build_levels.specs.Steps.{steps_of}
 
 -- ---- answers
 
+-- The test of the values passed,
+pub finite_is : (b : Bool) → not b ≡ false → b ≡ true
+finite_is true e = refl
+finite_is false e = sym e
+
+-- or it did not.
+pub no_finite : (b : Bool) → not b ≡ true → b ≡ false
+no_finite true e = sym e
+no_finite false e = refl
+
 -- A refused verdict refuses.
-pub settled_no : {v : Verdict} {q : Refusal} (l : List Float) → v ≡ Verdict.Refused q → settled v l ≡ refused q
+pub settled_no : {v : Result Unit Refusal} {q : Refusal} (l : List Float) → v ≡ Err q → settled v l ≡ refused q
 unfolding settled
 settled_no l e = rw e
 
 -- A verdict that passes accepts what was made.
-pub settled_yes : {v : Verdict} (l : List Float) → v ≡ Verdict.Passed → settled v l ≡ accepted l
+pub settled_yes : {v : Result Unit Refusal} (l : List Float) → v ≡ Ok tt → settled v l ≡ accepted l
 unfolding settled
 settled_yes l e = rw e
 
 -- A refusal of merged steps is theirs.
-pub merging_no : {r : Merging} {q : Refusal} (x : Outcome Merged) → r ≡ merging_of x → r ≡ Merging.Refused q → x ≡ refused q
+pub merging_no : {r : Result Merging Refusal} {q : Refusal} (x : Outcome Merged) → r ≡ merging_of x → r ≡ Err q → x ≡ refused q
 merging_no (accepted s) e told = absurd (let none : ◌≡◌ {A = ℕ} 0 1 = cc in omega arith)
 merging_no (refused p) e told = cc
 
@@ -45,9 +56,16 @@ pub record Made (x : Outcome Merged) (rows stage : ℕ) : Type 0 where
   pub counted : steps.mesh.pattern.rows ≡ rows
   pub staged : steps.stage ≡ stage
 
-pub merging_yes : {r : Merging} {rows most stage : ℕ} (x : Outcome Merged) → r ≡ merging_of x → r ≡ Merging.Done rows most stage
-    → Made x rows stage
-merging_yes (accepted s) e told = record { steps = s; is = refl; counted = cc; staged = cc }
+pub merging_yes : {r : Result Merging Refusal} {d : Merging} (x : Outcome Merged) → r ≡ merging_of x → r ≡ Ok d
+    → Made x d.count d.stage
+merging_yes {r} {d} (accepted s) e told =
+    let same : record { count = s.mesh.pattern.rows; entries = entries s.mesh.pattern; stage = s.stage } ≡ d = cc in
+    record {
+      steps = s;
+      is = refl;
+      counted = ap (λ (m : Merging). m.count) same;
+      staged = ap (λ (m : Merging). m.stage) same;
+    }
 merging_yes (refused q) e told = absurd (let none : ◌≡◌ {A = ℕ} 0 1 = cc in omega arith)
 
 -- ---- the chain

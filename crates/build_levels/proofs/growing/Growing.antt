@@ -1,5 +1,6 @@
 -- A level of the build and what lies ahead of it: a law for each way out, over the definitions alone.
 -- Assumes nothing.
+use Rattle.std.specs.Prelude.{Result, Ok, Err}
 use mathlib.Core.Path.{◌≡◌, refl, sym, ap, ◌∙◌, subst}
 use mathlib.Core.Bool.{Bool, true, false, cond, ◌&&◌}
 use mathlib.Core.List.{List, ◌∷◌}
@@ -38,14 +39,13 @@ use Rattle.layout.specs.Placed.{Shapes, coefficients_at}
 use Rattle.layout.proofs.Places.{placed}
 use Rattle.layout.proofs.Views.{level_kept, words_rise}
 use Rattle.coarsening.specs.declared.coarsen.Workspace.{Workspace}
+use Rattle.coarsening.specs.declared.merging.Merging.{Merging}
 use Rattle.coarsening.specs.CoarsenContract.{pattern_at, mesh_at, next_in}
 use Rattle.build_level.specs.declared.laying.Frontier.{Frontier}
-use Rattle.build_level.specs.declared.laying.Laying.{Laying}
 use Rattle.build_level.specs.LayingContract.{frontier_at, level_in, RoomOk, FrontierOk, laid_of, laying_of, Stands, StandsFor, Laid, ChooseOk, Chosen}
 use Rattle.build_level.specs.declared.coarsest.Growth.{Growth}
 use Rattle.build_level.specs.CoarsestContract.{Levels, LastOk, Ended}
 use Rattle.build_level.proofs.coarsest.Ways.{levels_refused}
-use Rattle.build_levels.specs.declared.descent.Descending.{Descending}
 use Rattle.build_levels.specs.DescentContract.{Descent, next_of, descent_of, descending_of, DescendOk, descent_at, Arrived, Descended}
 use Rattle.build_levels.proofs.descent.Regions.{Same, same_kept, pattern_same, shapes_same}
 use Rattle.build_levels.specs.declared.growing.Onward.{Onward}
@@ -114,31 +114,65 @@ inner_opens o given deeper stores level stage used m c g =
 
 -- ---- answers
 
-same_ended : {g h : Growth} → Onward.Ended g ≡ Onward.Ended h → g ≡ h
+-- The levels end,
+abbrev ends : Growth → Result Onward Refusal
+ends g = Ok (Onward.Ended g)
+
+-- or go on,
+abbrev goes_on : Frontier → Result Onward Refusal
+goes_on n = Ok (Onward.Next n)
+
+-- or one is refused.
+abbrev stops : Refusal → Result Onward Refusal
+stops q = Err q
+
+-- What a call answered is one of the two.
+pub then_is : {x : Result Onward Refusal} {y z : Onward} → x ≡ Ok y → y ≡ z → x ≡ Ok z
+then_is e h = cc
+
+same_ended : {g h : Growth} → ends g ≡ ends h → g ≡ h
 same_ended e = cc
 
-same_next : {n k : Frontier} → Onward.Next n ≡ Onward.Next k → n ≡ k
+same_next : {n k : Frontier} → goes_on n ≡ goes_on k → n ≡ k
 same_next e = cc
 
-ended_next : {g : Growth} {n : Frontier} → Onward.Ended g ≡ Onward.Next n → ⊥
+same_refusal : {q p : Refusal} → stops q ≡ stops p → q ≡ p
+same_refusal e = cc
+
+ended_next : {g : Growth} {n : Frontier} → ends g ≡ goes_on n → ⊥
 ended_next e = let z : ◌≡◌ {A = ℕ} 0 1 = cc in omega arith
 
-same_made : {i j k l : ℕ} → i ≡ j → k ≡ l → Growth.Made i k ≡ Growth.Made j l
-same_made e h = cc
+ended_stops : {g : Growth} {q : Refusal} → ends g ≡ stops q → ⊥
+ended_stops e = let z : ◌≡◌ {A = ℕ} 0 1 = cc in omega arith
+
+next_stops : {n : Frontier} {q : Refusal} → goes_on n ≡ stops q → ⊥
+next_stops e = let z : ◌≡◌ {A = ℕ} 0 1 = cc in omega arith
+
+-- The answer of so many levels whose floats end there.
+abbrev grown : ℕ → ℕ → Result Growth Refusal
+grown levels end = Ok (record { levels = levels; end = end })
+
+same_made : {i j k l : ℕ} → i ≡ j → k ≡ l → grown i k ≡ grown j l
+same_made e h = rw (e, h)
+
+-- How a level goes on by the charge of the next.
+abbrev onward_by : Result Frontier Refusal → Result Onward Refusal
+onward_by (Ok n) = goes_on n
+onward_by (Err q) = stops q
 
 -- An answer of the questions of a level that refuses is their refusal,
-laid_refused : {q : Refusal} (m : Mesh) (x : Outcome Coefficients) → Laying.Refused q ≡ laying_of m x → x ≡ refused q
+laid_refused : {q : Refusal} (m : Mesh) (x : Outcome Coefficients) → Err q ≡ laying_of m x → x ≡ refused q
 laid_refused m (accepted c) e = let z : ◌≡◌ {A = ℕ} 0 1 = cc in absurd (omega arith)
 laid_refused m (refused p) e = cc
 
 -- and one that does not has its coefficients and the faces.
-laid_done : {faces : ℕ} (m : Mesh) (x : Outcome Coefficients) → Laying.Done faces ≡ laying_of m x
+laid_done : {faces : ℕ} (m : Mesh) (x : Outcome Coefficients) → Ok faces ≡ laying_of m x
     → (c : Coefficients) × (x ≡ accepted c) × (faces ≡ faces_of m.pattern)
 laid_done m (accepted c) e = (c, refl, cc)
 laid_done m (refused p) e = let z : ◌≡◌ {A = ℕ} 0 1 = cc in absurd (omega arith)
 
 -- So it is with a descent that refuses,
-descent_refused : {q : Refusal} (x : Outcome Descent) → Descending.Refused q ≡ descending_of x → x ≡ refused q
+descent_refused : {q : Refusal} (x : Outcome Descent) → Err q ≡ descending_of x → x ≡ refused q
 descent_refused (accepted d) e = let z : ◌≡◌ {A = ℕ} 0 1 = cc in absurd (omega arith)
 descent_refused (refused p) e = cc
 
@@ -150,16 +184,23 @@ record Answered (x : Outcome Descent) (count entered stage : ℕ) : Type 0 where
   most : entered ≡ entries made.next.pattern
   stages : stage ≡ made.steps.stage
 
-descent_done : {count entered stage : ℕ} (x : Outcome Descent)
-    → Descending.Done count entered stage ≡ descending_of x → Answered x count entered stage
-descent_done (accepted d) e = record { made = d; is = refl; rows = cc; most = cc; stages = cc }
+descent_done : {m : Merging} (x : Outcome Descent) → Ok m ≡ descending_of x → Answered x m.count m.entries m.stage
+descent_done {m} (accepted d) e =
+    let same : m ≡ record { count = d.steps.mesh.pattern.rows; entries = entries d.next.pattern; stage = d.steps.stage } = cc in
+    record {
+      made = d;
+      is = refl;
+      rows = ap (λ (x : Merging). x.count) same;
+      most = ap (λ (x : Merging). x.entries) same;
+      stages = ap (λ (x : Merging). x.stage) same;
+    }
 descent_done (refused p) e = let z : ◌≡◌ {A = ℕ} 0 1 = cc in absurd (omega arith)
 
 -- ---- levels
 
 module _ {w z : List ℕ} {F G : List Float} {t : Workspace} {level a b : ℕ} {out : Outcome (List Level)} where
   -- Levels after writes above where they start.
-  levels_after : {w₁ : List ℕ} {F₁ : List Float} {r : Growth} {out₁ : Outcome (List Level)} → Levels w₁ z F₁ G t level a b out₁ r → out ≡ out₁
+  levels_after : {w₁ : List ℕ} {F₁ : List Float} {r : Result Growth Refusal} {out₁ : Outcome (List Level)} → Levels w₁ z F₁ G t level a b out₁ r → out ≡ out₁
       → Kept a w w₁ → Kept b F F₁ → Levels w z F G t level a b out r
   levels_after l e words floats = record {
     made = λ ls h. l.made ls (sym e ∙ h);
@@ -192,7 +233,7 @@ module _ (k : ℕ) (z : List ℕ) (a b : ℕ) {a' b' : ℕ} (words : words_end z
   heads_front = rw words
 
 module _ {w z y : List ℕ} {F G H : List Float} {o : MultigridOptions} {given : Bool} {t : Workspace} {s n : Frontier}
-    {out : Outcome (List Level)} {r : Growth} (h : Ahead w z F G o given t s out n) (g : Grown z y G H o given t n r) where
+    {out : Outcome (List Level)} {r : Result Growth Refusal} (h : Ahead w z F G o given t s out n) (g : Grown z y G H o given t n r) where
   abbrev deep : Levels z y G H t n.level n.a n.b (grow_at o given z G t n) r
   deep = g.levels
 
@@ -217,15 +258,15 @@ module _ {w z y : List ℕ} {F G H : List Float} {o : MultigridOptions} {given :
       let x = then_split (grow_at o given z G t n) (λ (rest : List Level). accepted (level_at z G s.a s.b ∷ rest)) (sym h.outcome ∙ e) in
       (x.0, x.1, accepted_one x.2)
 
-  made_on : (ls : List Level) → out ≡ accepted ls → r ≡ Growth.Made (s.level + length ls) (image_end (length ls) y s.a s.b)
+  made_on : (ls : List Level) → out ≡ accepted ls → r ≡ grown (s.level + length ls) (image_end (length ls) y s.a s.b)
   made_on ls e =
       let x = consed ls e in
       let k = level_still in
       let up = h.level in
-      subst (λ (ls : List Level). r ≡ Growth.Made (s.level + length ls) (image_end (length ls) y s.a s.b)) x.2
+      subst (λ (ls : List Level). r ≡ grown (s.level + length ls) (image_end (length ls) y s.a s.b)) x.2
       (deep.made x.0 x.1 ∙ same_made (omega arith) (sym (image_front (length x.0) y s.a s.b k.1 k.2)))
 
-  refused_on : (q : Refusal) → out ≡ refused q → r ≡ Growth.Refused q
+  refused_on : (q : Refusal) → out ≡ refused q → r ≡ Err q
   refused_on q e = deep.refusal q (then_not (grow_at o given z G t n) (sym h.outcome ∙ e))
     where
       then_not : (x : Outcome (List Level)) → before (level_at z G s.a s.b) x ≡ refused q → x ≡ refused q
@@ -294,7 +335,7 @@ pub record Left (w z : List ℕ) (F G : List Float) (o : MultigridOptions) (give
   pub frontier : FrontierOk z (length G) o t n
   pub words : length z ≡ length w
   pub floats : length G ≡ length F
-  pub whole : (y : List ℕ) (H : List Float) (r : Growth) → Grown z y G H o given t n r → Grown w y F H o given t s r
+  pub whole : (y : List ℕ) (H : List Float) (r : Result Growth Refusal) → Grown z y G H o given t n r → Grown w y F H o given t s r
 
 -- Before the first level all levels are left.
 pub left_start : {w : List ℕ} {F : List Float} {o : MultigridOptions} {given : Bool} {t : Workspace} {s : Frontier}
@@ -302,18 +343,22 @@ pub left_start : {w : List ℕ} {F : List Float} {o : MultigridOptions} {given :
 left_start ok = record { frontier = ok; words = refl; floats = refl; whole = λ y H r g. g }
 
 -- The next frontier has fewer levels to follow.
-pub next_fewer : {w z : List ℕ} {F G : List Float} {o : MultigridOptions} {given : Bool} {t : Workspace} {s n : Frontier} {x : Onward}
-    → Advanced w z F G o given t s (grow_at o given w F t s) x → x ≡ Onward.Next n → n.more < s.more
+pub next_fewer : {w z : List ℕ} {F G : List Float} {o : MultigridOptions} {given : Bool} {t : Workspace} {s n : Frontier} {x : Result Onward Refusal}
+    → Advanced w z F G o given t s (grow_at o given w F t s) x → x ≡ goes_on n → n.more < s.more
 next_fewer {n = n} a e = let h = (a.next n e).more in omega arith
 
-module _ {w z y : List ℕ} {F G H : List Float} {o : MultigridOptions} {given : Bool} {t : Workspace} {s n : Frontier} {x : Onward}
+module _ {w z y : List ℕ} {F G H : List Float} {o : MultigridOptions} {given : Bool} {t : Workspace} {s n : Frontier} {x : Result Onward Refusal}
     (left : Left w z F G o given t s n) (a : Advanced z y G H o given t n (grow_at o given z G t n) x) where
   -- The levels end with this one: with it those from s on are whole.
-  pub left_ended : {g : Growth} → x ≡ Onward.Ended g → Grown w y F H o given t s g
-  left_ended {g} e = left.whole y H g (record { levels = a.ended g e })
+  pub left_ended : {g : Growth} → x ≡ ends g → Grown w y F H o given t s (Ok g)
+  left_ended {g} e = left.whole y H (Ok g) (record { levels = a.ended g e })
+
+  -- The level is refused: so is the whole.
+  pub left_refused : {q : Refusal} → x ≡ stops q → Grown w y F H o given t s (Err q)
+  left_refused {q} e = left.whole y H (Err q) (record { levels = a.refusal q e })
 
   -- One level fewer is left.
-  pub left_next : {m : Frontier} → x ≡ Onward.Next m → Left w y F H o given t s m
+  pub left_next : {m : Frontier} → x ≡ goes_on m → Left w y F H o given t s m
   left_next {m} e =
       let h = a.next m e in
       record {
@@ -327,25 +372,36 @@ module _ {w z y : List ℕ} {F G H : List Float} {o : MultigridOptions} {given :
 
 module _ {w z : List ℕ} {F G : List Float} {o : MultigridOptions} {given : Bool} {t : Workspace} {s : Frontier} {out : Outcome (List Level)} where
   -- A level with which the levels end.
-  advanced_ended : {g : Growth} → Levels w z F G t s.level s.a s.b out g → Advanced w z F G o given t s out (Onward.Ended g)
+  advanced_ended : {g : Growth} → Levels w z F G t s.level s.a s.b out (Ok g) → Advanced w z F G o given t s out (ends g)
   advanced_ended {g} l = record {
-    ended = λ x e. subst (λ (y : Growth). Levels w z F G t s.level s.a s.b out y) (same_ended e) l;
+    ended = λ x e. subst (λ (y : Growth). Levels w z F G t s.level s.a s.b out (Ok y)) (same_ended e) l;
+    refusal = λ q e. absurd (ended_stops e);
     next = λ n e. absurd (ended_next e);
   }
 
+  -- A level that is refused.
+  advanced_refused : {q : Refusal} → Levels w z F G t s.level s.a s.b out (Err q) → Advanced w z F G o given t s out (stops q)
+  advanced_refused {q} l = record {
+    ended = λ g e. absurd (ended_stops (sym e));
+    refusal = λ p e. subst (λ (x : Refusal). Levels w z F G t s.level s.a s.b out (Err x)) (same_refusal e) l;
+    next = λ n e. absurd (next_stops (sym e));
+  }
+
   -- A level that leads on.
-  advanced_next : {n : Frontier} → Ahead w z F G o given t s out n → Advanced w z F G o given t s out (Onward.Next n)
+  advanced_next : {n : Frontier} → Ahead w z F G o given t s out n → Advanced w z F G o given t s out (goes_on n)
   advanced_next {n} h = record {
     ended = λ g e. absurd (ended_next (sym e));
+    refusal = λ q e. absurd (next_stops e);
     next = λ k e. subst (λ (m : Frontier). Ahead w z F G o given t s out m) (same_next e) h;
   }
 
   -- A level after writes above where it starts.
-  advanced_after : {w₁ : List ℕ} {F₁ : List Float} {out₁ : Outcome (List Level)} {r : Onward}
+  advanced_after : {w₁ : List ℕ} {F₁ : List Float} {out₁ : Outcome (List Level)} {r : Result Onward Refusal}
       → Advanced w₁ z F₁ G o given t s out₁ r → out ≡ out₁
       → Kept s.a w w₁ → Kept s.b F F₁ → Advanced w z F G o given t s out r
   advanced_after a e words floats = record {
     ended = λ g q. levels_after (a.ended g q) e words floats;
+    refusal = λ p q. levels_after (a.refusal p q) e words floats;
     next = λ n q. let h = a.next n q in record {
       frontier = h.frontier;
       more = h.more;
@@ -437,12 +493,23 @@ module _ {w z : List ℕ} {F : List Float} {o : MultigridOptions} {given : Bool}
   last_ok = record { controls = ok.controls; level = choose_still; count = let h = ok.levels in omega arith }
 
   -- The last level is the definition's.
-  pub led_last : {y : List ℕ} {G : List Float} {r : Growth} → count ≡ s.rows → Ended z y F G o given t s p r
-      → Advanced w y F G o given t s (paired_at o given w F t s p) (Onward.Ended r)
-  led_last e d =
+  led_levels : {y : List ℕ} {G : List Float} {r : Result Growth Refusal} → count ≡ s.rows → Ended z y F G o given t s p r
+      → Levels w y F G t s.level s.a s.b (paired_at o given w F t s p) r
+  led_levels e d =
       let last = picks_last (ends_at o s.more m.pattern) g.count ending inner ch.count (e ∙ sym ok.level.rows) in
-      advanced_ended (levels_after d.levels
-      (last ∙ ap (λ (x : Mesh). last_level o s.level x (coefficients_at F p)) (sym mesh_still)) words_still kept_self)
+      levels_after d.levels
+      (last ∙ ap (λ (x : Mesh). last_level o s.level x (coefficients_at F p)) (sym mesh_still)) words_still kept_self
+
+  module _ {y : List ℕ} {G : List Float} {r : Result Growth Refusal} (e : count ≡ s.rows) (d : Ended z y F G o given t s p r) where
+    -- It is made,
+    pub led_last : {g : Growth} → r ≡ Ok g → Advanced w y F G o given t s (paired_at o given w F t s p) (ends g)
+    led_last h =
+        advanced_ended (subst (λ (x : Result Growth Refusal). Levels w y F G t s.level s.a s.b (paired_at o given w F t s p) x) h (led_levels e d))
+
+    -- or refused.
+    pub led_last_no : {q : Refusal} → r ≡ Err q → Advanced w y F G o given t s (paired_at o given w F t s p) (stops q)
+    led_last_no h =
+        advanced_refused (subst (λ (x : Result Growth Refusal). Levels w y F G t s.level s.a s.b (paired_at o given w F t s p) x) h (led_levels e d))
 
   module _ (ne : count ≡ s.rows → ⊥) where
     -- The pairing joins some rows, and it is the one at the links.
@@ -487,18 +554,27 @@ module _ {w z : List ℕ} {F : List Float} {o : MultigridOptions} {given : Bool}
         ∙ inner_opens o given (deeper_of o given stores s.more s.level) stores s.level s.stage used m (coefficients_at F p) g
         ∙ ap (λ (x : Outcome Descent). ◌>>=◌ x (further_of (deeper_of o given stores s.more s.level) stores used m)) (sym same)
 
-    module _ {y : List ℕ} {G : List Float} {d : Descending} (down : Descended z y F G o given t s p count d) where
+    module _ {y : List ℕ} {G : List Float} {d : Result Merging Refusal} (down : Descended z y F G o given t s p count d) where
       words_down : Kept s.a w y
       words_down = kept_on words_still down.words
 
       -- A descent that refuses.
-      pub led_refused : {q : Refusal} → d ≡ Descending.Refused q
-          → Advanced w y F G o given t s (paired_at o given w F t s p) (Onward.Ended (Growth.Refused q))
+      pub led_refused : {q : Refusal} → d ≡ Err q
+          → Advanced w y F G o given t s (paired_at o given w F t s p) (stops q)
       led_refused e =
           let x = descent_refused (descent_at o given z F t s p count) (sym e ∙ down.answer) in
-          advanced_ended (levels_refused words_down down.floats (leads ∙ then_refused (descent_at o given z F t s p count) _ x))
+          advanced_refused (levels_refused words_down down.floats (leads ∙ then_refused (descent_at o given z F t s p count) _ x))
 
-      module _ {rows entered stage : ℕ} (e : d ≡ Descending.Done rows entered stage) where
+      module _ {to : Merging} (e : d ≡ Ok to) where
+        abbrev rows : ℕ
+        rows = to.count
+
+        abbrev entered : ℕ
+        entered = to.entries
+
+        abbrev stage : ℕ
+        stage = to.stage
+
         answered : Answered (descent_at o given z F t s p count) rows entered stage
         answered = descent_done (descent_at o given z F t s p count) (sym e ∙ down.answer)
 
@@ -681,17 +757,27 @@ module _ {w z : List ℕ} {F : List Float} {o : MultigridOptions} {given : Bool}
         }
 
         -- The next level is charged: where the stores do not hold it, a refusal, else it lies ahead.
-        pub led_charged : {r : Onward} → r ≡ charged_of (length y) (length G) n → Advanced w y F G o given t s (paired_at o given w F t s p) r
-        led_charged h = subst (Advanced w y F G o given t s (paired_at o given w F t s p)) (sym h) (go held refl)
+        led_by : {r : Result Frontier Refusal} → r ≡ charged_of (length y) (length G) n
+            → Advanced w y F G o given t s (paired_at o given w F t s p) (onward_by r)
+        led_by h = subst (λ (x : Result Frontier Refusal). Advanced w y F G o given t s (paired_at o given w F t s p) (onward_by x)) (sym h) (go held refl)
           where
-            go : (x : Bool) → held ≡ x → Advanced w y F G o given t s (paired_at o given w F t s p) (pick_onward x n)
+            go : (x : Bool) → held ≡ x → Advanced w y F G o given t s (paired_at o given w F t s p) (onward_by (pick_onward x n))
             go true fit = advanced_next (ahead fit)
-            go false lack = advanced_ended (levels_refused words_down down.floats
+            go false lack = advanced_refused (levels_refused words_down down.floats
                 (further ∙ ask_no held store_too_small (before (left_of m made) deepest) lack))
+
+        module _ {r : Result Frontier Refusal} (h : r ≡ charged_of (length y) (length G) n) where
+          -- It lies ahead,
+          pub led_charged : {k : Frontier} → r ≡ Ok k → Advanced w y F G o given t s (paired_at o given w F t s p) (goes_on k)
+          led_charged e = subst (λ (x : Result Frontier Refusal). Advanced w y F G o given t s (paired_at o given w F t s p) (onward_by x)) e (led_by h)
+
+          -- or the stores do not hold it.
+          pub led_short : {q : Refusal} → r ≡ Err q → Advanced w y F G o given t s (paired_at o given w F t s p) (stops q)
+          led_short e = subst (λ (x : Result Frontier Refusal). Advanced w y F G o given t s (paired_at o given w F t s p) (onward_by x)) e (led_by h)
 
 -- ---- a level that is laid
 
-module _ {w z : List ℕ} {F G : List Float} {o : MultigridOptions} {given : Bool} {t : Workspace} {s : Frontier} {r : Laying}
+module _ {w z : List ℕ} {F G : List Float} {o : MultigridOptions} {given : Bool} {t : Workspace} {s : Frontier} {r : Result ℕ Refusal}
     (ok : FrontierOk w (length F) o t s) (laid : Laid w z F G given t s r) where
   abbrev here : Mesh
   here = frontier_at w F given t s
@@ -701,13 +787,13 @@ module _ {w z : List ℕ} {F G : List Float} {o : MultigridOptions} {given : Boo
   opened = grow_opens o given (charge (length w) (length F)) s.more s.level s.stage (charge s.words s.floats) here
 
   -- Its questions refuse.
-  pub laid_no : {q : Refusal} → r ≡ Laying.Refused q
-      → Advanced w z F G o given t s (grow_at o given w F t s) (Onward.Ended (Growth.Refused q))
+  pub laid_no : {q : Refusal} → r ≡ Err q
+      → Advanced w z F G o given t s (grow_at o given w F t s) (stops q)
   laid_no e =
       let x = laid_refused here (laid_of s.level here) (sym e ∙ laid.answer) in
-      advanced_ended (levels_refused laid.words laid.floats (opened ∙ then_refused (laid_of s.level here) _ x))
+      advanced_refused (levels_refused laid.words laid.floats (opened ∙ then_refused (laid_of s.level here) _ x))
 
-  module _ {faces : ℕ} (e : r ≡ Laying.Done faces) where
+  module _ {faces : ℕ} (e : r ≡ Ok faces) where
     passed_as : (c : Coefficients) × (laid_of s.level here ≡ accepted c) × (faces ≡ faces_of here.pattern)
     passed_as = laid_done here (laid_of s.level here) (sym e ∙ laid.answer)
 
@@ -753,7 +839,7 @@ module _ {w z : List ℕ} {F G : List Float} {o : MultigridOptions} {given : Boo
       })
 
       -- What it leads to is the definition's.
-      pub laid_led : {y : List ℕ} {H : List Float} {x : Onward} → Advanced z y G H o given t s (paired_at o given z G t s p) x
+      pub laid_led : {y : List ℕ} {H : List Float} {x : Result Onward Refusal} → Advanced z y G H o given t s (paired_at o given z G t s p) x
           → Advanced w y F H o given t s (grow_at o given w F t s) x
       laid_led a =
           let c = passed_as.0 in
@@ -771,21 +857,21 @@ module _ {w z : List ℕ} {F G : List Float} {o : MultigridOptions} {given : Boo
 -- ---- question 9 of the next level
 
 -- Of two tests the second fails.
-pick_lack : (a b : Bool) (n : Frontier) → b ≡ false → Onward.Ended (Growth.Refused store_too_small) ≡ pick_onward (a && b) n
+pick_lack : (a b : Bool) (n : Frontier) → b ≡ false → Err store_too_small ≡ pick_onward (a && b) n
 pick_lack true b n e = rw e
 pick_lack false b n e = refl
 
 module _ (words floats : ℕ) (n : Frontier) where
   -- The words do not hold the charge.
-  pub words_short : words < n.words → Onward.Ended (Growth.Refused store_too_small) ≡ charged_of words floats n
+  pub words_short : words < n.words → Err store_too_small ≡ charged_of words floats n
   words_short h = let e : leb n.words words ≡ false = lt-leb n.words words h in rw e
 
   -- The floats do not.
-  pub floats_short : floats < n.floats → Onward.Ended (Growth.Refused store_too_small) ≡ charged_of words floats n
+  pub floats_short : floats < n.floats → Err store_too_small ≡ charged_of words floats n
   floats_short h = pick_lack (leb n.words words) (leb n.floats floats) n (lt-leb n.floats floats h)
 
   -- Both do.
-  pub both_hold : n.words ≤ words → n.floats ≤ floats → Onward.Next n ≡ charged_of words floats n
+  pub both_hold : n.words ≤ words → n.floats ≤ floats → Ok n ≡ charged_of words floats n
   both_hold h k =
       let e : leb n.words words ≡ true = le-leb n.words words h in
       let f : leb n.floats floats ≡ true = le-leb n.floats floats k in

@@ -1,9 +1,7 @@
 -- `cholesky::columns` meets its contract. The loop's invariant: the columns that are left give what all of them give.
 use native.Mathlib.Omega.{arith}
 use mathlib.Core.Path.{refl}
-use Prim.Native.Nat.{◌-◌}
-use lib.ListN.{length, length-set}
-use Rattle.store.specs.Loop.{for}
+use lib.ListN.{length-set}
 use Rattle.store.proofs.store.Loop.{left_start, left_on}
 use Rattle.cholesky.proofs.Rows.{col_start, col_on, ok_resize, less_ok, column_on, columns_done}
 use Rattle.cholesky.proofs.columns.Goals as goal
@@ -59,12 +57,6 @@ overflow_add-own c = omega (arith, c.loop-column-test.true, c.loop-column.invari
 
 pub overflow_add-own-in-loop-column : goal.overflow_add-own-in-loop-column
 overflow_add-own-in-loop-column c = omega (arith, c.loop-column-test.true, c.loop-column.invariant.1.below, c.requires.row_at.fits, c.requires.terminal_ok.factor, c.loop-column.invariant.0, c.well_formed.1.0)
-
-pub overflow_add-column : goal.overflow_add-column
-overflow_add-column c = omega (arith, c.loop-column-test.true, c.loop-column.invariant.1.below, c.requires.row_at.fits, c.requires.terminal_ok.factor, c.loop-column.invariant.0, c.well_formed.1.0)
-
-pub loop-column-smaller : goal.loop-column-smaller
-loop-column-smaller c = omega (arith, c.loop-column-test.true)
 
 pub shape_of-f : goal.shape_of-f
 shape_of-f c = c.loop-column.invariant.0

@@ -1,5 +1,4 @@
 use mathlib.Core.Path.{◌≡◌}
-use Prim.Native.Nat.{◌-◌}
 use lib.ListN.{length}
 use Rattle.store.specs.Loop.{for}
 use Rattle.store.proofs.store.Loop.{Left}
@@ -8,6 +7,3 @@ use Rattle.cholesky.proofs.columns.Given as goal
 
 abbrev pub invariant-loop-column : goal.invariant-loop-column
 invariant-loop-column l = (length l.f ≡ length l.initial.f) × ColAt l.row l.start l.column l.own × Left (column_turn l.t l.w l.row) l.column l.row l.f (for (column_turn l.t l.w l.row) 0 l.row l.initial.f)
-
-abbrev pub decreases-loop-column : goal.decreases-loop-column
-decreases-loop-column l = l.row - l.column

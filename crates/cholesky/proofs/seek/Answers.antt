@@ -1,5 +1,4 @@
 -- `cholesky::seek` meets its contract. The loop's invariant: what is left to search gives the whole answer.
-use Prim.Native.Nat.{◌-◌}
 use Rattle.cholesky.proofs.Entries.{seek_start, seek_found, seek_on, seek_none}
 use Rattle.cholesky.proofs.seek.Goals as goal
 

@@ -1,8 +1,7 @@
 -- `coarse::gather` meets its contract. The loop's invariant: what is left to do from here gives what the whole gives.
 use borrow.Author.Rules.{rules}
 use mathlib.Core.Path.{refl}
-use Prim.Native.Nat.{◌-◌}
-use lib.ListN.{length, length-set}
+use lib.ListN.{length-set}
 use Rattle.store.proofs.store.Loop.{left_start, left_on}
 use Rattle.coarse.proofs.Terminals.{gather_on, near_at, gather_done}
 use Rattle.coarse.proofs.gather.Goals as goal

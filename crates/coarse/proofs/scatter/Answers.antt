@@ -1,8 +1,7 @@
 -- `coarse::scatter` meets its contract. The loop's invariant: what is left to do from here gives what the whole gives.
 use borrow.Author.Rules.{rules}
 use mathlib.Core.Path.{refl}
-use Prim.Native.Nat.{◌-◌}
-use lib.ListN.{length, length-set}
+use lib.ListN.{length-set}
 use Rattle.store.proofs.store.Loop.{left_start, left_on}
 use Rattle.coarse.proofs.Terminals.{scatter_on, near_at, scatter_done}
 use Rattle.coarse.proofs.scatter.Goals as goal

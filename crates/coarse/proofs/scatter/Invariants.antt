@@ -1,5 +1,4 @@
 use mathlib.Core.Path.{◌≡◌}
-use Prim.Native.Nat.{◌-◌}
 use lib.ListN.{length}
 use Rattle.store.specs.Loop.{for}
 use Rattle.store.proofs.store.Loop.{Left}
@@ -8,6 +7,3 @@ use Rattle.coarse.proofs.scatter.Given as goal
 
 abbrev pub invariant-loop-k : goal.invariant-loop-k
 invariant-loop-k l = (length l.f ≡ length l.initial.f) × Left (scatter_turn l.w l.coupled l.u l.x) l.k l.count l.f (for (scatter_turn l.w l.coupled l.u l.x) 0 l.count l.initial.f)
-
-abbrev pub decreases-loop-k : goal.decreases-loop-k
-decreases-loop-k l = l.count - l.k

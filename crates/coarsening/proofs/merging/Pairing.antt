@@ -1,5 +1,6 @@
 -- A merged step up to its pairing: what each call requires, and the ways out.
 -- Assumes nothing.
+use Rattle.std.specs.Prelude.{Result, Ok, Err, Some, None}
 use mathlib.Core.Path.{◌≡◌, refl, sym, ap, ◌∙◌}
 use mathlib.Core.Bool.{Bool, true, false, cond}
 use mathlib.Core.List.{List}
@@ -11,7 +12,6 @@ use lib.Ieee.{Float}
 use Rattle.float.specs.Float.{div64, one64}
 use Rattle.options.specs.declared.options.MultigridOptions.{MultigridOptions}
 use Rattle.refusal.specs.declared.Refusal.{Refusal}
-use Rattle.refusal.specs.declared.Verdict.{Verdict}
 use Rattle.refusal.specs.Outcome.{accepted, refused}
 use Rattle.store.specs.Region.{idx, part, Kept}
 use Rattle.store.specs.Vector.{tab}
@@ -32,7 +32,6 @@ use Rattle.hierarchy.specs.Steps.{even}
 use Rattle.hierarchy.proofs.Proper.{valid_range}
 use Rattle.coarsening.specs.declared.coarsen.Workspace.{Workspace}
 use Rattle.coarsening.specs.CoarsenContract.{pattern_at, mesh_at, merged_in}
-use Rattle.coarsening.specs.declared.merging.Attempt.{Attempt}
 use Rattle.coarsening.specs.Steps.{faces_in, graph_in, RowsOk, RowsAsked, PairOk, paired_at, PairDone}
 
 module _ {w : List ℕ} {floats : ℕ} {t : Workspace} {count most : ℕ} (ok : PairOk w floats t count most) where
@@ -77,11 +76,11 @@ module _ {w : List ℕ} {floats : ℕ} {t : Workspace} {count most : ℕ} {s : F
   })
 
   -- What it leaves: no row lacks its diagonal entry.
-  pub ready : {z : List ℕ} {level : ℕ} {v : Verdict} → DiagonalsDone w z s level v → Ready w z floats t count most s
+  pub ready : {z : List ℕ} {level : ℕ} {v : Result Unit Refusal} → DiagonalsDone w z s level v → Ready w z floats t count most s
   ready {z} {level} {v} d =
       let k = ok.work in
       let done : DiagonalsDone w z (faces_in t count most) level v = rw e at d in
-      let pass : v ≡ Verdict.Passed = done.verdict ∙ diagonal_was level ok.proper.diagonal in
+      let pass : v ≡ Ok tt = done.verdict ∙ diagonal_was level ok.proper.diagonal in
       record { ok = ok; place = e; owns = done.diagonals pass; kept = kept_wrote done.only (omega arith) }
 
 module _ {w z : List ℕ} {floats : ℕ} {t : Workspace} {count most : ℕ} {s : Faces} (r : Ready w z floats t count most s) where
@@ -161,14 +160,14 @@ module _ {w z : List ℕ} {floats : ℕ} {t : Workspace} {count most : ℕ} {s :
     }
 
     -- The verdict on the rows is that on the kernel.
-    kernel : {v : Verdict} → RowsAsked z F count most t.diagonals t.merged_values level v
+    kernel : {v : Result Unit Refusal} → RowsAsked z F count most t.diagonals t.merged_values level v
         → kernel_asked level mesh ≡ after v (accepted made)
     unfolding kernel_update_of
     kernel a = rw r.owns at (a.asked (accepted made))
 
     -- A row was refused.
-    pub pair_refused : {v : Verdict} {q : Refusal} → RowsAsked z F count most t.diagonals t.merged_values level v
-        → v ≡ Verdict.Refused q → PairDone o given w z F t count most stage level (Attempt.Refused q)
+    pub pair_refused : {v : Result Unit Refusal} {q : Refusal} → RowsAsked z F count most t.diagonals t.merged_values level v
+        → v ≡ Err q → PairDone o given w z F t count most stage level (Err q)
     unfolding after
     pair_refused {v} {q} a e =
         let told : kernel_asked level mesh ≡ refused q = kernel a ∙ rw e in
@@ -179,8 +178,8 @@ module _ {w z : List ℕ} {floats : ℕ} {t : Workspace} {count most : ℕ} {s :
           words = map_kept;
         }
 
-    module _ {v : Verdict} {coupled : ℕ} (a : RowsAsked z F count most t.diagonals t.merged_values level v)
-        (yes : v ≡ Verdict.Passed) (n : CoupledCount z s coupled) where
+    module _ {v : Result Unit Refusal} {coupled : ℕ} (a : RowsAsked z F count most t.diagonals t.merged_values level v)
+        (yes : v ≡ Ok tt) (n : CoupledCount z s coupled) where
       told : kernel_asked level mesh ≡ accepted made
       unfolding after
       told = kernel a ∙ rw yes
@@ -189,7 +188,7 @@ module _ {w z : List ℕ} {floats : ℕ} {t : Workspace} {count most : ℕ} {s :
       counted = rw (r.place, offsets_are, columns_are) at n.count
 
       -- Few rows are coupled.
-      pub pair_few : coupled ≤ o.coarsest_cells → PairDone o given w z F t count most stage level Attempt.Few
+      pub pair_few : coupled ≤ o.coarsest_cells → PairDone o given w z F t count most stage level (Ok None)
       pair_few l =
           let few : few_coupled o own ≡ true = rw (← counted) (le-leb _ _ l) in
           record {
@@ -217,7 +216,7 @@ module _ {w z : List ℕ} {floats : ℕ} {t : Workspace} {count most : ℕ} {s :
         done : Paired (graph given) (paired_at o given w F t count most stage) z y joined
         done = rw pairing_same at (rw i at p)
 
-        pub pair_paired : o.coarsest_cells < coupled → PairDone o given w y F t count most stage level (Attempt.Paired joined)
+        pub pair_paired : o.coarsest_cells < coupled → PairDone o given w y F t count most stage level (Ok (Some joined))
         pair_paired l =
             let k = r.ok.work in
             let size = r.kept.size in

@@ -1,5 +1,6 @@
 -- Merged steps: what each call requires, and the ways out.
 -- Assumes nothing.
+use Rattle.std.specs.Prelude.{Result, Ok, Err, Option, Some, None}
 use mathlib.Core.Path.{◌≡◌, refl, sym, ap, ◌∙◌}
 use mathlib.Core.Bool.{Bool, true, false}
 use mathlib.Core.List.{List}
@@ -28,11 +29,14 @@ use Rattle.hierarchy.proofs.Twice.{compose_maps, compose_onto}
 use Rattle.coarsening.specs.declared.coarsen.Workspace.{Workspace}
 use Rattle.coarsening.specs.declared.coarsen.Formation.{Formation}
 use Rattle.coarsening.specs.CoarsenContract.{pattern_at, mesh_at, merged_in, coarse_at}
-use Rattle.coarsening.specs.declared.merging.Attempt.{Attempt}
 use Rattle.coarsening.specs.declared.merging.Merging.{Merging}
 use Rattle.coarsening.specs.MergingContract.{merging_of, MergeOk, merge_at, MergeDone}
 use Rattle.coarsening.specs.Steps.{PairOk, paired_at, PairDone, JoinOk, JoinDone}
 use Rattle.coarsening.proofs.merging.Pairing.{size, same_offsets, same_columns}
+
+-- The answer where the steps end with so many rows and entries after so many pairings.
+abbrev pub ended : ℕ → ℕ → ℕ → Result Merging Refusal
+ended rows most stage = Ok (record { count = rows; entries = most; stage = stage })
 
 -- A step more.
 merge_more : (o : MultigridOptions) (given : Bool) (steps level : ℕ) (s : Merged) → (steps ≡ 0 → ⊥)
@@ -59,7 +63,7 @@ module _ {w : List ℕ} (F : List Float) {t : Workspace} {rows map count most st
 
     -- The steps end with the matrix that stands there.
     merge_ends : {z : List ℕ} (last : ℕ) → all ≡ accepted (merged here links last) → Kept t.map w z
-        → MergeDone o given w z F F t rows map count most stage steps level (Merging.Done count most last)
+        → MergeDone o given w z F F t rows map count most stage steps level (ended count most last)
     merge_ends {z} last e k =
         let work = ok.work in
         let long : length (part t.merged_columns most w) ≡ most = size pair_requires in
@@ -76,7 +80,7 @@ module _ {w : List ℕ} (F : List Float) {t : Workspace} {rows map count most st
 
     -- The steps end with a refusal.
     merge_refuses : {z : List ℕ} {G : List Float} {q : Refusal} → all ≡ refused q → Kept map w z → Kept t.merged_values F G
-        → MergeDone o given w z F G t rows map count most stage steps level (Merging.Refused q)
+        → MergeDone o given w z F G t rows map count most stage steps level (Err q)
     merge_refuses e k l = record {
       answer = rw e;
       mesh = λ s i. let x : ◌≡◌ {A = ℕ} 0 1 = cc in absurd (omega arith);
@@ -86,11 +90,11 @@ module _ {w : List ℕ} (F : List Float) {t : Workspace} {rows map count most st
     }
 
     -- No step is left.
-    pub merge_none : steps ≡ 0 → MergeDone o given w w F F t rows map count most stage steps level (Merging.Done count most stage)
+    pub merge_none : steps ≡ 0 → MergeDone o given w w F F t rows map count most stage steps level (ended count most stage)
     unfolding merge_of
     merge_none e = merge_ends stage (rw e) kept_self
 
-    module _ {z : List ℕ} {found : Attempt} (more : steps ≡ 0 → ⊥) (p : PairDone o given w z F t count most stage level found) where
+    module _ {z : List ℕ} {found : Result (Option ℕ) Refusal} (more : steps ≡ 0 → ⊥) (p : PairDone o given w z F t count most stage level found) where
       abbrev further : Merged → Outcome Merged
       further = merge_of o given (steps - 1) level
 
@@ -104,15 +108,15 @@ module _ {w : List ℕ} (F : List Float) {t : Workspace} {rows map count most st
       links_same = let work = ok.work in kept_part p.words map rows (omega arith)
 
       -- Question 12 or 13 refused.
-      pub merge_refused : {q : Refusal} → found ≡ Attempt.Refused q
-          → MergeDone o given w z F F t rows map count most stage steps level (Merging.Refused q)
+      pub merge_refused : {q : Refusal} → found ≡ Err q
+          → MergeDone o given w z F F t rows map count most stage steps level (Err q)
       merge_refused e = merge_refuses (opened ∙ p.step further links ∙ rw e) map_kept kept_self
 
       -- Few rows are coupled.
-      pub merge_few : found ≡ Attempt.Few → MergeDone o given w z F F t rows map count most stage steps level (Merging.Done count most stage)
+      pub merge_few : found ≡ Ok None → MergeDone o given w z F F t rows map count most stage steps level (ended count most stage)
       merge_few e = merge_ends stage (opened ∙ p.step further links ∙ rw e) p.words
 
-      module _ {joined : ℕ} (e : found ≡ Attempt.Paired joined) where
+      module _ {joined : ℕ} (e : found ≡ Ok (Some joined)) where
         abbrev pairing : Pairing
         pairing = paired_at o given w F t count most stage
 
@@ -128,7 +132,7 @@ module _ {w : List ℕ} (F : List Float) {t : Workspace} {rows map count most st
 
         -- The pairing joined nothing.
         pub merge_alone : joined ≡ count
-            → MergeDone o given w z F F t rows map count most stage steps level (Merging.Done count most (stage + 1))
+            → MergeDone o given w z F F t rows map count most stage steps level (ended count most (stage + 1))
         merge_alone h =
             let alone : eqb pairing.count count ≡ true = rw (← counted) (eq-eqb joined count h) in
             merge_ends (stage + 1) (stepped ∙ rw alone) p.words
@@ -194,7 +198,7 @@ module _ {w : List ℕ} (F : List Float) {t : Workspace} {rows map count most st
 
           -- A value of the coarse matrix is not finite.
           pub merge_bad : r.finite ≡ false
-              → MergeDone o given w y F G t rows map count most stage steps level (Merging.Refused bad_coarse_value)
+              → MergeDone o given w y F G t rows map count most stage steps level (Err bad_coarse_value)
           merge_bad b = merge_refuses (stepped ∙ rw (← counted, less, sym finite ∙ b)) frame j.floats
 
           module _ (good : r.finite ≡ true) where
@@ -227,7 +231,7 @@ module _ {w : List ℕ} (F : List Float) {t : Workspace} {rows map count most st
                 }
 
             -- Their answer is the answer.
-            pub merge_on : {x : List ℕ} {H : List Float} {v : Merging}
+            pub merge_on : {x : List ℕ} {H : List Float} {v : Result Merging Refusal}
                 → MergeDone o given y x G H t rows map joined r.entries (stage + 1) (steps - 1) level v
                 → MergeDone o given w x F H t rows map count most stage steps level v
             merge_on d = record {

@@ -1,5 +1,6 @@
 -- The loops of `update` as the code has them, and the frame `Within`.
 -- Assumes nothing.
+use Rattle.std.specs.Prelude.{Result, Ok, Err}
 use mathlib.Core.Path.{◌≡◌, refl, sym, ap, ◌∙◌}
 use mathlib.Core.Bool.{Bool, true, false, ◌&&◌}
 use mathlib.Core.List.{List, [], ◌∷◌, ◌++◌}
@@ -12,7 +13,6 @@ use lib.Ieee.{Float, nan}
 use Rattle.float.specs.Float.{div64, one64, is_finite, is_positive}
 use Rattle.refusal.specs.declared.Refusal.{Refusal}
 use Rattle.refusal.specs.Refusal.{bad_diagonal, bad_reciprocal}
-use Rattle.refusal.specs.declared.Verdict.{Verdict}
 use Rattle.refusal.specs.Outcome.{Outcome, accepted, refused, passed, ask_from, ask_each}
 use Rattle.refusal.proofs.Outcome.{each_step, each_stop, each_done, each_all, each_alike}
 use Rattle.store.specs.Loop.{for}
@@ -179,13 +179,13 @@ module _ (level rows diagonal : ℕ) (F : List Float) where
   asking_start = record { left = λ rest. refl }
 
   -- All have passed.
-  pub asking_done : {row : ℕ} → Asking row → rows ≤ row → RowsAsked level rows diagonal F Verdict.Passed
+  pub asking_done : {row : ℕ} → Asking row → rows ≤ row → RowsAsked level rows diagonal F (Ok tt)
   unfolding after
   asking_done {row} a h = record { asked = λ rest. a.left rest ∙ each_done row rows asks rest h }
 
   module _ {row : ℕ} {p : Bool} (a : Asking row) (h : row < rows) (e : p ≡ is_positive (at F (diagonal + row))) where
     -- Question 12 refuses.
-    pub row_bad : p ≡ false → RowsAsked level rows diagonal F (Verdict.Refused (bad_diagonal level row))
+    pub row_bad : p ≡ false → RowsAsked level rows diagonal F (Err (bad_diagonal level row))
     unfolding after diagonal_asked
     row_bad t =
         let no : is_positive (at F (diagonal + row)) ≡ false = sym e ∙ t in
@@ -193,7 +193,7 @@ module _ (level rows diagonal : ℕ) (F : List Float) where
 
     module _ {q : Bool} (yes : p ≡ true) (e' : q ≡ is_finite (div64 one64 (at F (diagonal + row)))) where
       -- Question 13 refuses.
-      pub row_bad_reciprocal : q ≡ false → RowsAsked level rows diagonal F (Verdict.Refused (bad_reciprocal level row))
+      pub row_bad_reciprocal : q ≡ false → RowsAsked level rows diagonal F (Err (bad_reciprocal level row))
       unfolding after diagonal_asked
       row_bad_reciprocal t =
           let good : is_positive (at F (diagonal + row)) ≡ true = sym e ∙ yes in
@@ -210,7 +210,7 @@ module _ (level rows diagonal : ℕ) (F : List Float) where
 
 module _ {rows diagonal inverse : ℕ} {F G : List Float} {ok : Bool} (l : diagonal + rows ≤ inverse) (s : Inverted rows diagonal inverse F G ok) where
   -- Every row is good.
-  pub rows_good : (level : ℕ) → ok ≡ true → RowsTold level rows diagonal inverse F G Verdict.Passed
+  pub rows_good : (level : ℕ) → ok ≡ true → RowsTold level rows diagonal inverse F G (Ok tt)
   unfolding after
   rows_good level t = record {
     is = s.is;
@@ -225,7 +225,7 @@ module _ {rows diagonal inverse : ℕ} {F G : List Float} {ok : Bool} (l : diago
       rw s.is (simp get_d_splice_below)
 
   -- Else the questions, asked one by one, give the verdict.
-  pub rows_asked : {level : ℕ} {r : Verdict} → RowsAsked level rows diagonal G r → RowsTold level rows diagonal inverse F G r
+  pub rows_asked : {level : ℕ} {r : Result Unit Refusal} → RowsAsked level rows diagonal G r → RowsTold level rows diagonal inverse F G r
   rows_asked {level} a = record {
     is = s.is;
     asked = λ rest. each_alike (λ k. diagonal_asked level k (at F (diagonal + k))) rest (λ k. diagonal_asked level k (at G (diagonal + k))) rows
@@ -240,12 +240,12 @@ pub rows_entries : {w : List ℕ} {size : ℕ} {s : SymmetricMatrix} {e : Entrie
 rows_entries ok = record { words = ok.owns; near = ok.own; image = omega arith; target = omega arith }
 
 -- Neither changes the size.
-told_size : {level rows diagonal inverse b n : ℕ} {F D G v : List Float} {r : Verdict} → Wrote b n v F D → RowsTold level rows diagonal inverse D G r
+told_size : {level rows diagonal inverse b n : ℕ} {F D G v : List Float} {r : Result Unit Refusal} → Wrote b n v F D → RowsTold level rows diagonal inverse D G r
     → length G ≡ length F
 told_size d h = ap length h.is ∙ length_splice _ _ _ ∙ d.size
 
 -- What the loop over the faces requires, after both.
-pub faces_entries : {w : List ℕ} {F D G v : List Float} {s : SymmetricMatrix} {e : Entries} {level faces b n : ℕ} {r : Verdict} → UpdateOk w (length F) s e
+pub faces_entries : {w : List ℕ} {F D G v : List Float} {s : SymmetricMatrix} {e : Entries} {level faces b n : ℕ} {r : Result Unit Refusal} → UpdateOk w (length F) s e
     → faces ≡ idx w (s.offsets + s.rows) → Wrote b n v F D → RowsTold level s.rows s.diagonal s.inverse D G r
     → EntriesOk w (length G) faces e.entries e.faces e.values s.coefficients
 faces_entries {w} {F} {D} {G} {v} {s} ok i d h =
@@ -262,7 +262,7 @@ pub faces_given : {w : List ℕ} {size count faces : ℕ} {s : SymmetricMatrix} 
 faces_given ok h i = rw i (record { words = ok.sides; near = λ k q. let b = ok.side k q in omega arith; target = omega arith })
 
 -- The diagonals taken from U, and their reciprocals.
-module _ {level : ℕ} {w : List ℕ} (U : List Float) {F D G : List Float} {s : SymmetricMatrix} {e : Entries} {v : Verdict} (ok : UpdateOk w (length F) s e)
+module _ {level : ℕ} {w : List ℕ} (U : List Float) {F D G : List Float} {s : SymmetricMatrix} {e : Entries} {v : Result Unit Refusal} (ok : UpdateOk w (length F) s e)
     (d : Wrote s.diagonal s.rows (tab (entry_of (part e.diagonals s.rows w) U) s.rows) F D)
     (a : RowsTold level s.rows s.diagonal s.inverse D G v) where
   abbrev own : ℕ → Float
@@ -287,14 +287,14 @@ module _ {level : ℕ} {w : List ℕ} (U : List Float) {F D G : List Float} {s :
   wide = within_on (within_wrote d (omega arith) (omega arith)) (within_wrote second (omega arith) (omega arith))
 
   -- A row was refused.
-  pub refuses : {q : Refusal} → v ≡ Verdict.Refused q → Updated w s (update_with level s e w U) F G (Verdict.Refused q)
+  pub refuses : {q : Refusal} → v ≡ Err q → Updated w s (update_with level s e w U) F G (Err q)
   unfolding kernel_update_of after
   refuses {q} t =
       let no : update_with level s e w U ≡ refused q = asked _ ∙ rw t in
       record { verdict = rw no; holds = λ k y. let z : ◌≡◌ {A = ℕ} 0 1 = cc in absurd (omega arith); within = wide }
 
   -- Every row passed.
-  module _ (t : v ≡ Verdict.Passed) where
+  module _ (t : v ≡ Ok tt) where
     abbrev count : ℕ
     count = idx w (s.offsets + s.rows)
 
@@ -311,7 +311,7 @@ module _ {level : ℕ} {w : List ℕ} (U : List Float) {F D G : List Float} {s :
 
     -- Since then the rows were left alone, and the faces' values stand.
     settled : {H : List Float} → Within s.coefficients (s.inverse + s.rows) F H → part s.diagonal s.rows H ≡ part s.diagonal s.rows G
-        → part s.inverse s.rows H ≡ part s.inverse s.rows G → FacesTaken w U H s e → Updated w s (update_with level s e w U) F H Verdict.Passed
+        → part s.inverse s.rows H ≡ part s.inverse s.rows G → FacesTaken w U H s e → Updated w s (update_with level s e w U) F H (Ok tt)
     settled {H} within diags recips faces =
         let size₁ = d.size in
         let n : length (part e.faces count w) ≡ count = length_part _ _ w ok.sides in
@@ -324,7 +324,7 @@ module _ {level : ℕ} {w : List ℕ} (U : List Float) {F D G : List Float} {s :
 
     -- The faces' values were copied.
     pub accepts : {H : List Float} {faces : ℕ} → faces ≡ count → Wrote s.coefficients faces (tab (entry_of (part e.faces faces w) U) faces) G H
-        → Updated w s (update_with level s e w U) F H Verdict.Passed
+        → Updated w s (update_with level s e w U) F H (Ok tt)
     accepts {H} {faces} i c =
         let size₁ = d.size in
         let size₂ = second.size in
@@ -332,15 +332,15 @@ module _ {level : ℕ} {w : List ℕ} (U : List Float) {F D G : List Float} {s :
         (wrote_off c s.inverse s.rows (omega arith)) (rw i at (wrote_at c (omega arith)))
 
     -- They stood there before.
-    pub stands : FacesTaken w U F s e → Updated w s (update_with level s e w U) F G Verdict.Passed
+    pub stands : FacesTaken w U F s e → Updated w s (update_with level s e w U) F G (Ok tt)
     stands h = settled wide refl refl (wrote_off second s.coefficients count (omega arith) ∙ wrote_off d s.coefficients count (omega arith) ∙ h)
 
 -- The verdict on the rows is that of the whole, where the faces' values stood before.
-pub given_told : {level : ℕ} {w : List ℕ} (U : List Float) {F D G : List Float} {s : SymmetricMatrix} {e : Entries} (v : Verdict) → UpdateOk w (length F) s e
+pub given_told : {level : ℕ} {w : List ℕ} (U : List Float) {F D G : List Float} {s : SymmetricMatrix} {e : Entries} (v : Result Unit Refusal) → UpdateOk w (length F) s e
     → FacesTaken w U F s e → Wrote s.diagonal s.rows (tab (entry_of (part e.diagonals s.rows w) U) s.rows) F D
     → RowsTold level s.rows s.diagonal s.inverse D G v → Updated w s (update_with level s e w U) F G v
-given_told U Verdict.Passed ok h d a = stands U ok d a refl h
-given_told U (Verdict.Refused q) ok h d a = refuses U ok d a refl
+given_told U (Ok tt) ok h d a = stands U ok d a refl h
+given_told U (Err q) ok h d a = refuses U ok d a refl
 
 -- A copy of the faces' values makes them stand.
 pub faces_stand : {w : List ℕ} (U : List Float) {F G : List Float} {faces : ℕ} {s : SymmetricMatrix} {e : Entries} → UpdateOk w (length F) s e
@@ -352,22 +352,22 @@ pub stand_ok : {w : List ℕ} {size long : ℕ} {s : SymmetricMatrix} {e : Entri
 stand_ok ok same = rw same ok
 
 -- An update after it is one from where it began.
-pub stand_updated : {w : List ℕ} (U : List Float) {F D G : List Float} {faces : ℕ} {s : SymmetricMatrix} {e : Entries} {o : Outcome Coefficients} {r : Verdict}
+pub stand_updated : {w : List ℕ} (U : List Float) {F D G : List Float} {faces : ℕ} {s : SymmetricMatrix} {e : Entries} {o : Outcome Coefficients} {r : Result Unit Refusal}
     → UpdateOk w (length F) s e → faces ≡ idx w (s.offsets + s.rows) → Wrote s.coefficients faces (tab (entry_of (part e.faces faces w) U) faces) F D
     → Updated w s o D G r → Updated w s o F G r
 stand_updated U ok i c u =
     record { verdict = u.verdict; holds = u.holds; within = within_on (within_wrote c (omega arith) (omega arith)) u.within }
 
 -- The image stands below what is written, and so it is the same for the faces.
-module _ {level : ℕ} {w : List ℕ} {F D G : List Float} {s : SymmetricMatrix} {e : Entries} {v : Verdict} (ok : UpdateOk w (length F) s e)
+module _ {level : ℕ} {w : List ℕ} {F D G : List Float} {s : SymmetricMatrix} {e : Entries} {v : Result Unit Refusal} (ok : UpdateOk w (length F) s e)
     (d : Wrote s.diagonal s.rows (tab (entry_of (part e.diagonals s.rows w) (part e.values e.entries F)) s.rows) F D)
     (a : RowsTold level s.rows s.diagonal s.inverse D G v) where
-  pub update_no : {q : Refusal} → v ≡ Verdict.Refused q → Updated w s (update_at level s e w F) F G (Verdict.Refused q)
+  pub update_no : {q : Refusal} → v ≡ Err q → Updated w s (update_at level s e w F) F G (Err q)
   update_no t = refuses (part e.values e.entries F) ok d a t
 
-  pub update_yes : {H : List Float} {faces : ℕ} → v ≡ Verdict.Passed → faces ≡ idx w (s.offsets + s.rows)
+  pub update_yes : {H : List Float} {faces : ℕ} → v ≡ Ok tt → faces ≡ idx w (s.offsets + s.rows)
       → Wrote s.coefficients faces (tab (entry_of (part e.faces faces w) (part e.values e.entries G)) faces) G H
-      → Updated w s (update_at level s e w F) F H Verdict.Passed
+      → Updated w s (update_at level s e w F) F H (Ok tt)
   update_yes {H} {faces} t i c =
       let f : part e.values e.entries G ≡ part e.values e.entries F =
       kept_part (within_kept (wide (part e.values e.entries F) ok d a)) e.values e.entries ok.image in

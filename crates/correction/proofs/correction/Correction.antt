@@ -1,7 +1,7 @@
 -- The loops of `subtract` and `add_plain`: a turn, and what the loop leaves. Assumes nothing.
 use mathlib.Core.Path.{ap, ◌∙◌}
 use mathlib.Core.List.{List}
-use Prim.Native.Nat.{ℕ, ◌+◌, ◌-◌, ◌≤◌, ◌<◌}
+use Prim.Native.Nat.{ℕ, ◌+◌, ◌≤◌, ◌<◌}
 use native.Mathlib.Omega.{arith}
 use lib.ListN.{length, set}
 use lib.Ieee.{Float, nan}
@@ -24,10 +24,6 @@ plain_step correction x row F = set F (x + row) (add64 (at F (x + row)) (at F (c
 -- An element of a region that is clear of x is not one that earlier turns have written.
 pub clear_off : (a x n row : ℕ) → Clear a n x n → row < n → x ≤ a + row → x + row ≤ a + row
 clear_off a x n row c b p = omega arith
-
--- A row more is done: a lemma of its own, where `omega` would meet the layout's two `Clear`.
-pub rows_fall : {n row : ℕ} → row < n → n - (row + 1) < n - row
-rows_fall h = omega arith
 
 -- `subtract` writes the differences.
 pub subtract_done : {F G : List Float} {n rhs product out row : ℕ} → SubtractOk (length F) n rhs product out

@@ -1,5 +1,6 @@
 -- What a matrix has where its questions passed, and that such a matrix passes.
 -- Assumes nothing.
+use Rattle.std.specs.Prelude.{Ok}
 use mathlib.Core.Path.{◌≡◌, refl, sym, ◌∙◌}
 use mathlib.Core.Bool.{Bool, true, false}
 use mathlib.Core.List.{List}
@@ -11,7 +12,6 @@ use borrow.Author.Tests.{le-leb}
 use Rattle.store.specs.Region.{idx}
 use Rattle.refusal.specs.declared.Refusal.{Refusal}
 use Rattle.refusal.specs.Refusal.{too_large, bad_offsets, bad_columns}
-use Rattle.refusal.specs.declared.Verdict.{Verdict}
 use Rattle.refusal.specs.Outcome.{Outcome, passed, ask, verdict_of}
 use Rattle.pattern.specs.Pattern.{Pattern, row_of, Valid, Rising}
 use Rattle.pattern.proofs.pattern.Row.{offset_mono, row_is, row_in}
@@ -20,14 +20,14 @@ use Rattle.csr.specs.Contract.{pattern_of, Sizes}
 use Rattle.csr.proofs.csr.Walk.{size_told, offsets_fit, fit_offsets, fit_in, entry_told, told_entry, columns_at_lem, at_columns}
 
 -- Where a question and the rest passed, the question holds and the rest passed.
-pub asked_yes : {A : Type 0} (holds : Bool) (q : Refusal) (rest : Outcome A) → verdict_of (ask holds q rest) ≡ Verdict.Passed
-    → (holds ≡ true) × (verdict_of rest ≡ Verdict.Passed)
+pub asked_yes : {A : Type 0} (holds : Bool) (q : Refusal) (rest : Outcome A) → verdict_of (ask holds q rest) ≡ Ok tt
+    → (holds ≡ true) × (verdict_of rest ≡ Ok tt)
 asked_yes true q rest e = (refl, e)
 asked_yes false q rest e = let none : ◌≡◌ {A = ℕ} 0 1 = cc in absurd (omega arith)
 
 module _ (rows : ℕ) (offsets columns : List ℕ) (values : List Float) where
   -- A matrix that passed: the three questions hold.
-  matrix_holds : verdict_of (matrix_asked rows offsets columns values) ≡ Verdict.Passed
+  matrix_holds : verdict_of (matrix_asked rows offsets columns values) ≡ Ok tt
       → (size_ok rows columns ≡ true) × (offsets_ok rows offsets columns values ≡ true) × (columns_ok rows offsets columns ≡ true)
   matrix_holds v =
       let a = asked_yes (size_ok rows columns) too_large
@@ -38,7 +38,7 @@ module _ (rows : ℕ) (offsets columns : List ℕ) (values : List Float) where
       (a.0, b.0, c.0)
 
   -- A matrix that passed has a valid pattern.
-  pub matrix_valid : verdict_of (matrix_asked rows offsets columns values) ≡ Verdict.Passed → Valid (pattern_of rows offsets columns)
+  pub matrix_valid : verdict_of (matrix_asked rows offsets columns values) ≡ Ok tt → Valid (pattern_of rows offsets columns)
   matrix_valid v =
       let t = matrix_holds v in
       let f = offsets_fit rows offsets columns values t.1 in
@@ -53,7 +53,7 @@ module _ (rows : ℕ) (offsets columns : List ℕ) (values : List Float) where
       }
 
   -- Its columns rise strictly within each row.
-  pub matrix_rising : verdict_of (matrix_asked rows offsets columns values) ≡ Verdict.Passed → Rising (pattern_of rows offsets columns)
+  pub matrix_rising : verdict_of (matrix_asked rows offsets columns values) ≡ Ok tt → Rising (pattern_of rows offsets columns)
   matrix_rising v =
       let t = matrix_holds v in
       record {
@@ -67,7 +67,7 @@ module _ (rows : ℕ) (offsets columns : List ℕ) (values : List Float) where
       }
 
   -- It has few enough rows and entries, and a value for each entry.
-  pub matrix_sizes : verdict_of (matrix_asked rows offsets columns values) ≡ Verdict.Passed → Sizes rows columns values
+  pub matrix_sizes : verdict_of (matrix_asked rows offsets columns values) ≡ Ok tt → Sizes rows columns values
   matrix_sizes v =
       let t = matrix_holds v in
       let s = size_told rows columns t.0 in

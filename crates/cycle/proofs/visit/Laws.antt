@@ -1,5 +1,6 @@
 -- What the functions of one level do, said of the definitions.
 -- Assumes nothing.
+use Rattle.std.specs.Prelude.{Result, Ok, Err}
 use mathlib.Core.Path.{◌≡◌, refl, sym, ap, ◌∙◌, subst}
 use mathlib.Core.Bool.{Bool, true, false, cond}
 use mathlib.Core.List.{List}
@@ -16,7 +17,6 @@ use Rattle.store.proofs.store.Region.{wrote_at, kept_wrote, kept_on, kept_less, 
 use Rattle.options.specs.declared.options.MultigridSmoother.{MultigridSmoother}
 use Rattle.refusal.specs.declared.Refusal.{Refusal}
 use Rattle.refusal.specs.Refusal.{bad_smoother_output}
-use Rattle.refusal.specs.declared.Verdict.{Verdict}
 use Rattle.refusal.specs.Outcome.{Outcome, accepted, refused, ask}
 use Rattle.refusal.proofs.Outcome.{verdict_passed, verdict_refused, refuses, never, accepts_it}
 use Rattle.vector.specs.Finite.{all_finite}
@@ -26,7 +26,6 @@ use Rattle.gauss_seidel.specs.Contract.{SmoothOk}
 use Rattle.smoother.specs.declared.LevelScratch.{LevelScratch}
 use Rattle.smoother.specs.Smooth.{Smoothed, SmoothDone, swept_of, smooth_of}
 use Rattle.correction.specs.Transfer.{RestrictOk, ProlongOk, restrict_of}
-use Rattle.correction.specs.declared.scaling.Factor.{Factor}
 use Rattle.correction.specs.Scaling.{ProductsOk, correction_factor_of, factor_of}
 use Rattle.correction.specs.Correction.{SubtractOk, subtract_of, add_plain_of}
 use Rattle.correction.specs.Scaled.{ScaledOk, add_scaled_of}
@@ -85,7 +84,7 @@ smooth_ok ok = record {
 }
 
 -- x is smoothed.
-pub smooth_done : (w : List ℕ) (g : Inner) (kind : MultigridSmoother) (sweeps : ℕ) {F G : List Float} {r : Verdict}
+pub smooth_done : (w : List ℕ) (g : Inner) (kind : MultigridSmoother) (sweeps : ℕ) {F G : List Float} {r : Result Unit Refusal}
     → SmoothDone g.matrix.rows g.vectors.x g.vectors.work g.vectors.correction
     (smoothed_at w F g kind sweeps)
     (swept_of (matrix_at w F g) (part g.dic g.matrix.rows F) (rhs_at g.vectors g.matrix.rows F) kind sweeps (x_at g.vectors g.matrix.rows F)) F G r
@@ -225,17 +224,17 @@ module _ {w : List ℕ} {F G : List Float} {sweeps : ℕ} {g : Inner} (ok : Inne
           floats = kept_on d.floats (kept_on (kept_less kh (omega arith)) (kept_less ki (omega arith)));
         }
 
-module _ {kind : MultigridSmoother} {w : List ℕ} {F G : List Float} {sweeps : ℕ} {g : Inner} {v : Verdict} (ok : InnerOk w (length F) g)
+module _ {kind : MultigridSmoother} {w : List ℕ} {F G : List Float} {sweeps : ℕ} {g : Inner} {v : Result Unit Refusal} (ok : InnerOk w (length F) g)
     (m : Moved g.vectors.x g.matrix.rows (smoothed_at w F g kind sweeps) F G v) where
   -- Question 25 refuses.
-  pub down_no : {q : Refusal} → v ≡ Verdict.Refused q → Downed kind w F G g sweeps (Verdict.Refused q)
+  pub down_no : {q : Refusal} → v ≡ Err q → Downed kind w F G g sweeps (Err q)
   down_no {q} told =
       let out = smoothed_at w F g kind sweeps in
       let no : out ≡ refused q = refuses out m.answer told in
       record { moved = subst (Moved g.vectors.x g.matrix.rows out F G) told m; left = λ u e. never no e }
 
   -- The way down.
-  pub down_yes : v ≡ Verdict.Passed → {H : List Float} → Restricted w G H g sweeps → Downed kind w F H g sweeps Verdict.Passed
+  pub down_yes : v ≡ Ok tt → {H : List Float} → Restricted w G H g sweeps → Downed kind w F H g sweeps (Ok tt)
   down_yes told {H} h =
       let n = g.matrix.rows in
       let v = g.vectors in
@@ -268,12 +267,12 @@ image_ok ok = (
 )
 
 -- A refused factor was refused,
-factor_no : {r : Factor} {q : Refusal} (out : Outcome Float) → r ≡ factor_of out → r ≡ Factor.Refused q → out ≡ refused q
+factor_no : {r : Result Float Refusal} {q : Refusal} (out : Outcome Float) → r ≡ factor_of out → r ≡ Err q → out ≡ refused q
 factor_no (accepted a) e told = let none : ◌≡◌ {A = ℕ} 0 1 = cc in absurd (omega arith)
 factor_no (refused p) e told = cc
 
 -- and a factor was accepted.
-factor_yes : {r : Factor} {x : Float} (out : Outcome Float) → r ≡ factor_of out → r ≡ Factor.Factor x → out ≡ accepted x
+factor_yes : {r : Result Float Refusal} {x : Float} (out : Outcome Float) → r ≡ factor_of out → r ≡ Ok x → out ≡ accepted x
 factor_yes (accepted a) e told = cc
 factor_yes (refused q) e told = let none : ◌≡◌ {A = ℕ} 0 1 = cc in absurd (omega arith)
 
@@ -340,14 +339,14 @@ module _ {w : List ℕ} {F G : List Float} {from : ℕ} (sweeps : ℕ) {g : Inne
   factor_is : Outcome Float
   factor_is = correction_factor_of n (correction_at v n F) (residual_at v n sweeps F) (apply_of (matrix_at w F g) (correction_at v n F))
 
-  module _ {r : Factor} (h : r ≡ factor_of (correction_factor_of n (part v.correction n G) (part from n G) (part v.product n G))) where
+  module _ {r : Result Float Refusal} (h : r ≡ factor_of (correction_factor_of n (part v.correction n G) (part from n G) (part v.product n G))) where
     -- the factor is told by what stood before
     told_by : r ≡ factor_of factor_is
     unfolding factor_is
     told_by = h ∙ rw (product_is, correction_is, residual_is)
 
     -- Questions 26 and 27 refuse.
-    pub scaled_no : {q : Refusal} → r ≡ Factor.Refused q → Moved v.x n (scaled_at w F g sweeps) F G (Verdict.Refused q)
+    pub scaled_no : {q : Refusal} → r ≡ Err q → Moved v.x n (scaled_at w F g sweeps) F G (Err q)
     unfolding factor_is kernel_at
     scaled_no {q} t =
         let no = factor_no factor_is told_by t in
@@ -356,9 +355,9 @@ module _ {w : List ℕ} {F G : List Float} {from : ℕ} (sweeps : ℕ) {g : Inne
         record { answer = sym (verdict_refused out all); is = λ u y. never all y; floats = kept_less kept (omega (arith, ok.works, ok.corrections, ok.products)) }
 
     -- The correction is scaled and added.
-    pub scaled_yes : {x : Float} {H : List Float} → r ≡ Factor.Factor x
+    pub scaled_yes : {x : Float} {H : List Float} → r ≡ Ok x
         → Wrote v.x n (add_scaled_of n x (part v.correction n G) (part from n G) (part v.product n G) (part g.matrix.inverse n G) (part v.x n G)) G H
-        → Moved v.x n (scaled_at w F g sweeps) F H Verdict.Passed
+        → Moved v.x n (scaled_at w F g sweeps) F H (Ok tt)
     unfolding factor_is kernel_at
     scaled_yes {x} {H} t i =
         let yes = factor_yes factor_is told_by t in
@@ -408,7 +407,7 @@ module _ {w : List ℕ} {F G : List Float} {g : Inner} (ok : InnerOk w (length F
       rw (kernel, e, r, x)
 
   -- The next level's x comes up as the correction and is scaled, where that is asked for,
-  pub correct_scaled : {scale : Bool} (sweeps : ℕ) {H : List Float} {r : Verdict} → scale ≡ true
+  pub correct_scaled : {scale : Bool} (sweeps : ℕ) {H : List Float} {r : Result Unit Refusal} → scale ≡ true
       → Moved g.vectors.x g.matrix.rows (scaled_at w G g sweeps) G H r
       → Moved g.vectors.x g.matrix.rows (corrected_at w F g scale sweeps) F H r
   unfolding corrected
@@ -430,7 +429,7 @@ plain_ok ok = record {
 -- and added as it is.
 pub correct_plain : {w : List ℕ} {F G : List Float} {g : Inner} {scale : Bool} (sweeps : ℕ) → InnerOk w (length F) g → scale ≡ false
     → Wrote g.vectors.x g.matrix.rows (add_plain_of g.matrix.rows (brought_at w F g) (part g.vectors.x g.matrix.rows F)) F G
-    → Moved g.vectors.x g.matrix.rows (corrected_at w F g scale sweeps) F G Verdict.Passed
+    → Moved g.vectors.x g.matrix.rows (corrected_at w F g scale sweeps) F G (Ok tt)
 unfolding corrected kernel_at
 correct_plain {w} {F} {G} {g} sweeps ok e h =
     rw e (record {
@@ -442,9 +441,9 @@ correct_plain {w} {F} {G} {g} sweeps ok e h =
 -- ---- the way up
 
 module _ {w : List ℕ} {F : List Float} {g : Inner} (ok : InnerOk w (length F) g) (kind : MultigridSmoother) (scale : Bool) (pre : ℕ) {H : List Float}
-    {v : Verdict} (m : Moved g.vectors.x g.matrix.rows (corrected_at w F g scale pre) F H v) (post : ℕ) where
+    {v : Result Unit Refusal} (m : Moved g.vectors.x g.matrix.rows (corrected_at w F g scale pre) F H v) (post : ℕ) where
   -- Questions 26 and 27 refuse.
-  pub up_no : {q : Refusal} → v ≡ Verdict.Refused q → Moved g.vectors.x g.matrix.rows (raised_at w F g kind scale pre post) F H (Verdict.Refused q)
+  pub up_no : {q : Refusal} → v ≡ Err q → Moved g.vectors.x g.matrix.rows (raised_at w F g kind scale pre post) F H (Err q)
   up_no {q} told =
       let out = raised_at w F g kind scale pre post in
       let no = refuses (corrected_at w F g scale pre) m.answer told in
@@ -452,7 +451,7 @@ module _ {w : List ℕ} {F : List Float} {g : Inner} (ok : InnerOk w (length F) 
       record { answer = sym (verdict_refused out all); is = λ u y. never all y; floats = m.floats }
 
   -- The sweeps after it.
-  pub up_yes : v ≡ Verdict.Passed → {I : List Float} {r : Verdict} → Moved g.vectors.x g.matrix.rows (smoothed_at w H g kind post) H I r
+  pub up_yes : v ≡ Ok tt → {I : List Float} {r : Result Unit Refusal} → Moved g.vectors.x g.matrix.rows (smoothed_at w H g kind post) H I r
       → Moved g.vectors.x g.matrix.rows (raised_at w F g kind scale pre post) F I r
   up_yes told {I} {r} i =
       let n = g.matrix.rows in

@@ -5,6 +5,3 @@ use Rattle.decimal.proofs.write.Given as goal
 
 abbrev pub invariant-loop-power : goal.invariant-loop-power
 invariant-loop-power l = write_from (23 - l.power) l.v l.power ≡ write_of l.v
-
-abbrev pub decreases-loop-power : goal.decreases-loop-power
-decreases-loop-power l = 23 - l.power

@@ -1,5 +1,6 @@
 -- The DIC diagonal: the loops over the store compute the definitions over lists, and their ways out.
 -- Assumes nothing.
+use Rattle.std.specs.Prelude.{Result, Ok, Err}
 use mathlib.Core.Path.{◌≡◌, refl, sym, ap, ◌∙◌}
 use mathlib.Core.Bool.{Bool, true, false, ◌&&◌}
 use mathlib.Core.List.{List}
@@ -19,7 +20,6 @@ use Rattle.store.proofs.store.Vector.{length_tab, get_d_tab, tab_same}
 use Rattle.store.proofs.store.Each.{each_at, each_same, Tested, tested_start, tested_on, tested_done}
 use Rattle.refusal.specs.declared.Refusal.{Refusal}
 use Rattle.refusal.specs.Refusal.{bad_dic_pivot, bad_dic_reciprocal}
-use Rattle.refusal.specs.declared.Verdict.{Verdict}
 use Rattle.refusal.specs.Outcome.{Outcome, accepted, refused, passed, ask, ask_each, ask_from}
 use Rattle.refusal.proofs.Outcome.{each_step, each_stop, each_done, each_all, each_alike}
 use Rattle.matrix.specs.declared.matrix.SymmetricMatrix.{SymmetricMatrix}
@@ -106,7 +106,7 @@ module _ {w : List ℕ} (F : List Float) {s : SymmetricMatrix} {d : ℕ} (ok : D
 
     -- Question 16 refuses.
     pub pivots_no : {pivot : Float} {r : Bool} → pivot ≡ at G (d + row) → r ≡ is_pivot pivot → r ≡ false
-        → Settled d s.rows (pivots_of level here) F G (Verdict.Refused (bad_dic_pivot level row))
+        → Settled d s.rows (pivots_of level here) F G (Err (bad_dic_pivot level row))
     unfolding pivot_row settled
     pivots_no is e t =
         let bad : is_pivot (at p.vector row) ≡ false = rw (is, read) at (sym e ∙ t) in
@@ -115,7 +115,7 @@ module _ {w : List ℕ} (F : List Float) {s : SymmetricMatrix} {d : ℕ} (ok : D
 
 -- Every pivot is good.
 pub pivots_done : {level : ℕ} {w : List ℕ} {s : SymmetricMatrix} {d row : ℕ} {F G : List Float} → Pivoting level w s d row F G → s.rows ≤ row
-    → Settled d s.rows (pivots_of level (kernel_at s w F)) F G Verdict.Passed
+    → Settled d s.rows (pivots_of level (kernel_at s w F)) F G (Ok tt)
 unfolding settled
 pivots_done p h = record { held = p.vector; wrote = p.wrote; is = sym (left_end p.left h) }
 
@@ -183,7 +183,7 @@ module _ (level n d : ℕ) (F : List Float) where
   asking_start = record { left = λ v. refl }
 
   -- All have passed.
-  pub asking_done : {row : ℕ} → Asking row → n ≤ row → ReciprocalsAsked level n d F Verdict.Passed
+  pub asking_done : {row : ℕ} → Asking row → n ≤ row → ReciprocalsAsked level n d F (Ok tt)
   unfolding settled
   asking_done {row} a h = record { asked = λ v. a.left v ∙ each_done row n asks (accepted v) h }
 
@@ -195,7 +195,7 @@ module _ (level n d : ℕ) (F : List Float) where
         record { left = λ v. a.left v ∙ each_step row n asks (accepted v) h (rw good) }
 
     -- Question 17 refuses.
-    pub asking_no : r ≡ false → ReciprocalsAsked level n d F (Verdict.Refused (bad_dic_reciprocal level row))
+    pub asking_no : r ≡ false → ReciprocalsAsked level n d F (Err (bad_dic_reciprocal level row))
     unfolding settled
     asking_no t =
         let bad : is_finite (at F (d + row)) ≡ false = sym e ∙ t in
@@ -210,7 +210,7 @@ module _ {n d : ℕ} {F G : List Float} {ok : Bool} (fits : d + n ≤ length F) 
       rw c.wrote.is (simp (get_d_splice_in, get_d_tab))
 
   -- Every reciprocal is finite.
-  pub reciprocals_good : (level : ℕ) → ok ≡ true → Settled d n (reciprocals_of level n (part d n F)) F G Verdict.Passed
+  pub reciprocals_good : (level : ℕ) → ok ≡ true → Settled d n (reciprocals_of level n (part d n F)) F G (Ok tt)
   unfolding reciprocals_of settled
   reciprocals_good level t = record {
     held = inverted_of n (part d n F);
@@ -220,7 +220,7 @@ module _ {n d : ℕ} {F G : List Float} {ok : Bool} (fits : d + n ≤ length F) 
   }
 
   -- Else the questions, asked one by one, give the verdict.
-  pub reciprocals_asked : {level : ℕ} {r : Verdict} → ReciprocalsAsked level n d G r → Settled d n (reciprocals_of level n (part d n F)) F G r
+  pub reciprocals_asked : {level : ℕ} {r : Result Unit Refusal} → ReciprocalsAsked level n d G r → Settled d n (reciprocals_of level n (part d n F)) F G r
   unfolding reciprocals_of
   reciprocals_asked {level} {r} a = record {
     held = inverted_of n (part d n F);
@@ -233,7 +233,7 @@ module _ {n d : ℕ} {F G : List Float} {ok : Bool} (fits : d + n ≤ length F) 
 -- ---- the ways out
 
 -- The reciprocals have room.
-pub dic_room : {w : List ℕ} {F G H u : List Float} {s : SymmetricMatrix} {d b n : ℕ} {o : Outcome (List Float)} {v : Verdict} → DicOk w (length F) s d → Wrote b n u F G
+pub dic_room : {w : List ℕ} {F G H u : List Float} {s : SymmetricMatrix} {d b n : ℕ} {o : Outcome (List Float)} {v : Result Unit Refusal} → DicOk w (length F) s d → Wrote b n u F G
     → Settled d s.rows o G H v → d + s.rows ≤ length H
 dic_room ok c p = rw (p.wrote.size, c.size) ok.fits
 
@@ -248,17 +248,17 @@ module _ {w : List ℕ} {F G : List Float} {s : SymmetricMatrix} {d : ℕ} (ok :
       let k = ok.kernel in
       wrote_at c ok.fits ∙ sym (wrote_off c s.diagonal s.rows (omega arith))
 
-  module _ (level : ℕ) {H : List Float} {v : Verdict} (p : Settled d s.rows (pivots_of level (kernel_at s w G)) G H v) where
+  module _ (level : ℕ) {H : List Float} {v : Result Unit Refusal} (p : Settled d s.rows (pivots_of level (kernel_at s w G)) G H v) where
     told : pivots_of level (kernel_at s w F) ≡ settled v p.held
     told = rw (kernel_kept ok.kernel (kept_wrote c (omega arith))) at p.is
 
     -- A pivot was refused.
-    pub dic_refused : {q : Refusal} → v ≡ Verdict.Refused q → Settled d s.rows (dic_of level (kernel_at s w F)) F H (Verdict.Refused q)
+    pub dic_refused : {q : Refusal} → v ≡ Err q → Settled d s.rows (dic_of level (kernel_at s w F)) F H (Err q)
     unfolding dic_of settled reciprocals_of
     dic_refused {q} t = record { held = p.held; wrote = wrote_again c p.wrote; is = rw (told, t) }
 
     -- The pivots passed, and the reciprocals answer.
-    pub dic_done : {I : List Float} {r : Verdict} → v ≡ Verdict.Passed → Settled d s.rows (reciprocals_of level s.rows (part d s.rows H)) H I r
+    pub dic_done : {I : List Float} {r : Result Unit Refusal} → v ≡ Ok tt → Settled d s.rows (reciprocals_of level s.rows (part d s.rows H)) H I r
         → Settled d s.rows (dic_of level (kernel_at s w F)) F I r
     unfolding dic_of settled kernel_at reciprocals_of
     dic_done {I} {r} t q =

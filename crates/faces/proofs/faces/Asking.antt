@@ -2,11 +2,11 @@
 -- Assumes nothing.
 use mathlib.Core.Path.{◌≡◌, refl, sym, ap, ◌∙◌}
 use mathlib.Core.List.{List}
+use Rattle.std.specs.Prelude.{Ok, Err, Some, None}
 use Prim.Native.Nat.{ℕ, ◌+◌, ◌≤◌, ◌<◌}
 use native.Mathlib.Omega.{arith}
 use lib.ListN.{length, set}
 use Rattle.refusal.specs.Refusal.{missing_diagonal}
-use Rattle.refusal.specs.declared.Verdict.{Verdict}
 use Rattle.refusal.specs.Outcome.{Outcome, passed, ask, ask_from}
 use Rattle.refusal.proofs.Outcome.{ask_yes, ask_no, each_step, each_stop, each_done, verdict_passed, verdict_refused}
 use Rattle.store.specs.Region.{part, splice, Kept}
@@ -46,20 +46,16 @@ module _ {level : ℕ} {F G : List ℕ} {s : Faces} {row : ℕ} (a : Asking leve
   asking_kept : Kept s.starts F G
   asking_kept = kept_wrote (wrote {b = s.diagonals} a.is (length_tab (own (pattern_at F s)) row)) a.ok.below
 
-  -- The store has its size.
-  pub asking_size : length G ≡ length F
-  asking_size = asking_kept.size
-
   -- What `entry_at` requires of the next row.
   pub asking_entry : row < s.rows → EntryOk G s row
   asking_entry h = record { ordered = ordered_on a.ok.ordered asking_kept; near = h }
 
   -- A row with its diagonal entry.
-  pub asking_yes : {e : ℕ} → row < s.rows → Entry G s row row e → e < s.entries → Asking level F (set G (s.diagonals + row) e) s
+  pub asking_yes : {e : ℕ} → row < s.rows → Entry G s row row (Some e) → Asking level F (set G (s.diagonals + row) e) s
       (row + 1)
-  asking_yes {e} h at l =
+  asking_yes {e} h at =
       let p = pattern_at F s in
-      let there = entry_there_lem (entry_back a.ok.ordered.standing asking_kept at) l in
+      let there = entry_there_lem a.ok.ordered (entry_back a.ok.ordered.standing asking_kept at) in
       record {
         ok = a.ok;
         reach = omega arith;
@@ -69,11 +65,11 @@ module _ {level : ℕ} {F G : List ℕ} {s : Faces} {row : ℕ} (a : Asking leve
       }
 
   -- A row without it ends the questions.
-  pub asking_no : {e : ℕ} → row < s.rows → Entry G s row row e → s.entries ≤ e → DiagonalsDone F G s level
-      (Verdict.Refused (missing_diagonal level row))
-  asking_no {e} h at l =
+  pub asking_no : row < s.rows → Entry G s row row None → DiagonalsDone F G s level
+      (Err (missing_diagonal level row))
+  asking_no h at =
       let p = pattern_at F s in
-      let none = entry_missing a.ok.ordered (entry_back a.ok.ordered.standing asking_kept at) l in
+      let none = entry_missing (entry_back a.ok.ordered.standing asking_kept at) in
       let reach = a.reach in
       record {
         verdict = sym (verdict_refused (diagonals_asked level p) (a.asked ∙ each_stop row s.rows (asks level p) passed h
@@ -83,7 +79,7 @@ module _ {level : ℕ} {F G : List ℕ} {s : Faces} {row : ℕ} (a : Asking leve
       }
 
   -- After the last row all have it.
-  pub asking_done : s.rows ≤ row → DiagonalsDone F G s level Verdict.Passed
+  pub asking_done : s.rows ≤ row → DiagonalsDone F G s level (Ok tt)
   unfolding diagonals_of
   asking_done h =
       let p = pattern_at F s in

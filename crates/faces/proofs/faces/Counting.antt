@@ -7,7 +7,7 @@ use Prim.Native.Nat.{ℕ, ◌+◌, ◌≤◌, ◌<◌}
 use native.Mathlib.Numerals.{add-one}
 use native.Mathlib.Omega.{arith}
 use lib.Dec.{ltb}
-use lib.ListN.{length, set}
+use lib.ListN.{set}
 use borrow.Author.Tests.{lt-ltb, le-ltb}
 use Rattle.store.specs.Region.{idx, splice, Kept}
 use Rattle.store.specs.Vector.{tab}
@@ -146,10 +146,6 @@ offsetting_start {F} {s} ok = record {
 module _ {F G : List ℕ} {s : Faces} {row found : ℕ} (o : Offsetting F G s row found) where
   offsetting_kept : Kept s.starts F G
   offsetting_kept = kept_wrote (wrote {b = s.starts} o.is (length_tab (before (pattern_at F s)) row)) (omega arith)
-
-  -- The store has its size.
-  pub offsetting_size : length G ≡ length F
-  offsetting_size = offsetting_kept.size
 
   -- What `count_row` requires of the next row.
   pub offsetting_count : row < s.rows → CountOk G s row found

@@ -1,13 +1,21 @@
--- The binary search of `find`, and the entries that it finds.
+-- Where the columns of a row part, and the entries that are found there.
 -- Assumes nothing.
 use mathlib.Core.Path.{◌≡◌, refl, sym, ap, ◌∙◌}
 use mathlib.Core.Bool.{true, false, cond}
 use mathlib.Core.List.{List}
+use Rattle.std.specs.Prelude.{Option, Some, None}
+use Rattle.std.proofs.lemmas.Option.{same_Some, none-some}
 use mathlib.Core.Logic.{⊎_elim}
-use Prim.Native.Nat.{ℕ, ◌+◌, ◌≤◌, ◌<◌}
+use Prim.Native.Nat.{ℕ, ◌+◌, ◌-◌, ◌≤◌, ◌<◌}
 use native.Mathlib.Omega.{arith}
-use Rattle.store.specs.Region.{idx, Kept}
-use Rattle.store.proofs.store.Region.{le_or_lt}
+use lib.Dec.{ltb}
+use borrow.Author.Tests.{ltb-true, ltb-false}
+use lib.ListN.{length, get_or, take, drop}
+use Rattle.std.specs.List.Sorted.{IsPartitionedBy, IsPartitionPoint}
+use Rattle.std.proofs.lemmas.List.Sorted.{IsPartitionedBy-ltb}
+use Rattle.std.proofs.lemmas.Grind.{get_or_default_zero}
+use Rattle.store.specs.Region.{idx, part, Kept}
+use Rattle.store.proofs.store.Region.{le_or_lt, length_part, get_d_part}
 use Rattle.pattern.specs.Pattern.{Pattern, entries, column_of, row_of}
 use Rattle.pattern.proofs.pattern.Number.{bool?}
 use Rattle.pattern.proofs.pattern.Row.{row_is}
@@ -20,65 +28,58 @@ use Rattle.faces.proofs.faces.Standing.{size_at_lem, offset_at, next_at, next_le
 
 -- ---- find
 
--- The invariant: what is before a is below `column`, and what is from b on is not.
-pub record Searching (w : List ℕ) (columns lo hi column a b : ℕ) : Type 0 where
-  pub low : lo ≤ a
-  pub order : a ≤ b
-  pub high : b ≤ hi
-  pub below : (e : ℕ) → lo ≤ e → e < a → idx w (columns + e) < column
-  pub past : (e : ℕ) → b ≤ e → e < hi → column ≤ idx w (columns + e)
+module _ {w : List ℕ} {columns lo hi : ℕ} (ok : FindOk w columns lo hi) where
+  -- the columns from lo to hi
+  abbrev run : List ℕ
+  run = take (columns + hi - (columns + lo)) (drop (columns + lo) w)
 
--- At the start nothing has been looked at.
-pub searching_start : {w : List ℕ} {columns lo hi column : ℕ} → FindOk w columns lo hi → Searching w columns lo hi column lo hi
-searching_start ok = record {
-  low = omega arith;
-  order = ok.order;
-  high = omega arith;
-  below = λ e l h. absurd (omega arith);
-  past = λ e l h. absurd (omega arith);
-}
+  run_length : length run ≡ hi - lo
+  unfolding part
+  run_length =
+      let order = ok.order in
+      let room = ok.room in
+      length_part (columns + lo) (columns + hi - (columns + lo)) w (omega arith) ∙ omega arith
 
-module _ {w : List ℕ} {columns lo hi column a b m x : ℕ} (ok : FindOk w columns lo hi) (s : Searching w columns lo hi column a b)
-    (l : a ≤ m) (h : m < b) (is : x ≡ idx w (columns + m)) where
-  -- A column below goes with all before it.
-  pub search_up : x < column → Searching w columns lo hi column (m + 1) b
-  search_up less =
-      let low = s.low in
-      let high = s.high in
+  run_at : (k d : ℕ) → k < hi - lo → get_or run k d ≡ idx w (columns + (lo + k))
+  unfolding part
+  run_at k d h =
+      let order = ok.order in
+      let room = ok.room in
+      let z : columns + lo + k ≡ columns + (lo + k) = omega arith in
+      get_d_part (columns + lo) (columns + hi - (columns + lo)) w k d (omega arith)
+      ∙ get_or_default_zero w (columns + lo + k) d (omega arith) ∙ ap (idx w) z
+
+  -- They rise, so those below a column come first.
+  pub run_split : (column : ℕ) → IsPartitionedBy (λ x. ltb x column) run
+  run_split column = IsPartitionedBy-ltb (λ x. x) run column rises
+    where
+      rises : (i j d : ℕ) → i ≤ j → j < length run → get_or run i d ≤ get_or run j d
+      rises i j d l h =
+          let n = run_length in
+          rw (run_at i d (omega arith), run_at j d (omega arith))
+          (⊎_elim
+          (λ (q : j ≤ i). let same : i ≡ j = omega arith in rw same (omega arith))
+          (λ (q : i < j). let r = ok.rising (lo + i) (lo + j) (omega arith) (omega arith) (omega arith) in omega arith)
+          (le_or_lt j i))
+
+  -- Where they part is the place.
+  pub run_found : {column r : ℕ} → r ≤ length run → IsPartitionPoint (λ x. ltb x column ≡ true) (λ x. ltb x column ≡ false) run r
+      → Found w columns lo hi column (lo + r)
+  run_found {column} {r} few parts =
+      let n = run_length in
+      let order = ok.order in
       record {
         low = omega arith;
-        order = omega arith;
-        high = high;
-        below = λ e u v. ⊎_elim
-            (λ (q : m ≤ e). let same : e ≡ m = omega arith in rw (same, ← is) less)
-            (λ (q : e < m). let r = ok.rising e m u q (omega arith) in omega arith)
-            (le_or_lt m e);
-        past = s.past;
-      }
-
-  -- One that is not below goes with all behind it.
-  pub search_down : column ≤ x → Searching w columns lo hi column a m
-  search_down more =
-      let low = s.low in
-      let high = s.high in
-      record {
-        low = low;
-        order = l;
         high = omega arith;
-        below = s.below;
-        past = λ e u v. ⊎_elim
-            (λ (q : e ≤ m). let same : e ≡ m = omega arith in rw (same, ← is) more)
-            (λ (q : m < e). let r = ok.rising m e (omega arith) q v in omega arith)
-            (le_or_lt e m);
+        below = λ e l h.
+            let z : lo + (e - lo) ≡ e = omega arith in
+            let is : get_or run (e - lo) 0 ≡ idx w (columns + e) = run_at (e - lo) 0 (omega arith) ∙ ap (λ (k : ℕ). idx w (columns + k)) z in
+            rw is at (ltb-true _ _ (parts.0 (e - lo) 0 (omega arith) (omega arith)));
+        past = λ e l h.
+            let z : lo + (e - lo) ≡ e = omega arith in
+            let is : get_or run (e - lo) 0 ≡ idx w (columns + e) = run_at (e - lo) 0 (omega arith) ∙ ap (λ (k : ℕ). idx w (columns + k)) z in
+            rw is at (ltb-false _ _ (parts.1 (e - lo) 0 (omega arith) (omega arith)));
       }
-
--- At the end a is the place.
-pub searching_done : {w : List ℕ} {columns lo hi column a b : ℕ} → Searching w columns lo hi column a b → b ≤ a → Found w columns lo hi
-    column a
-searching_done {w} {columns} {lo} {hi} {column} {a} {b} s h =
-    let order = s.order in
-    let high = s.high in
-    record { low = s.low; high = omega arith; below = s.below; past = λ e l u. s.past e (omega arith) u }
 
 -- ---- entry_at
 
@@ -127,7 +128,7 @@ module _ {w : List ℕ} {s : Faces} {i lo hi : ℕ} (ok : EntryOk w s i) (first 
         rw (← column_at ok.ordered.standing d (omega arith)) (found.past d l (omega arith))
 
     -- The column stands there.
-    pub entry_yes : {x : ℕ} → e < hi → x ≡ idx w (s.columns + e) → x ≡ j → Entry w s i j e
+    pub entry_yes : {x : ℕ} → e < hi → x ≡ idx w (s.columns + e) → x ≡ j → Entry w s i j (Some e)
     entry_yes {x} h is same =
         let stands = ok.ordered.standing in
         let a = start_is in
@@ -139,11 +140,11 @@ module _ {w : List ℕ} {s : Faces} {i lo hi : ℕ} (ok : EntryOk w s i) (first 
         let has : has_entry (pattern_at w s) i j ≡ true = has_at (pattern_at w s) i j e (omega arith)
         (row_is stands.valid i e ok.near (omega arith) (omega arith)) column in
         record {
-          is = rw has (sym (stands_is stands.valid ok.ordered.rising i j e (omega arith) (omega arith) before_it from_it));
+          is = rw has (ap Some (sym (stands_is stands.valid ok.ordered.rising i j e (omega arith) (omega arith) before_it from_it)));
         }
 
     -- It stands nowhere.
-    pub entry_no : (e < hi → idx w (s.columns + e) ≡ j → ⊥) → Entry w s i j s.entries
+    pub entry_no : (e < hi → idx w (s.columns + e) ≡ j → ⊥) → Entry w s i j None
     entry_no other =
         let stands = ok.ordered.standing in
         let a = start_is in
@@ -156,28 +157,27 @@ module _ {w : List ℕ} {s : Faces} {i lo hi : ℕ} (ok : EntryOk w s i) (first 
         record { is = rw has refl }
 
 -- The same in a store that agrees below `starts`.
-pub entry_back : {w z : List ℕ} {s : Faces} {i j e : ℕ} → Standing w s → Kept s.starts w z → Entry z s i j e → Entry w s i j e
+pub entry_back : {w z : List ℕ} {s : Faces} {i j : ℕ} {e : Option ℕ} → Standing w s → Kept s.starts w z → Entry z s i j e → Entry w s i j e
 entry_back {w} {z} {s} {i} {j} stands kept at = record {
-  is = at.is ∙ ap (λ (p : Pattern). cond (has_entry p i j) (stands_at p i j) s.entries) (pattern_kept stands kept);
+  is = at.is ∙ ap (λ (p : Pattern). cond (has_entry p i j) (Some (stands_at p i j)) None) (pattern_kept stands kept);
 }
 
--- An answer below the number of entries is the entry.
-pub entry_there_lem : {w : List ℕ} {s : Faces} {i j e : ℕ} → Entry w s i j e → e < s.entries
-    → (has_entry (pattern_at w s) i j ≡ true) × (e ≡ stands_at (pattern_at w s) i j)
-entry_there_lem {w} {s} {i} {j} {e} at h = ⊎_elim
-    (λ (t : has_entry (pattern_at w s) i j ≡ true). (t, rw t at at.is))
-    (λ (f : has_entry (pattern_at w s) i j ≡ false). let is : e ≡ s.entries = rw f at at.is in absurd (omega arith))
-    (bool? (has_entry (pattern_at w s) i j))
-
--- Another one says that there is none.
-pub entry_missing : {w : List ℕ} {s : Faces} {i j e : ℕ} → Ordered w s → Entry w s i j e → s.entries ≤ e → has_entry (pattern_at w s) i j
-    ≡ false
-entry_missing {w} {s} {i} {j} {e} o at h = ⊎_elim
+-- What is found is the entry.
+pub entry_there_lem : {w : List ℕ} {s : Faces} {i j e : ℕ} → Ordered w s → Entry w s i j (Some e)
+    → (has_entry (pattern_at w s) i j ≡ true) × (e ≡ stands_at (pattern_at w s) i j) × (e < s.entries)
+entry_there_lem {w} {s} {i} {j} {e} o at = ⊎_elim
     (λ (t : has_entry (pattern_at w s) i j ≡ true).
-    let is : e ≡ stands_at (pattern_at w s) i j = rw t at at.is in
+    let is : e ≡ stands_at (pattern_at w s) i j = same_Some e (stands_at (pattern_at w s) i j) (rw t at at.is) in
     let near = (stands_there o.standing.valid o.rising i j t).0 in
     let size = size_at_lem o.standing in
-    absurd (omega arith))
+    (t, is, omega arith))
+    (λ (f : has_entry (pattern_at w s) i j ≡ false). absurd (none-some e (sym (rw f at at.is))))
+    (bool? (has_entry (pattern_at w s) i j))
+
+-- Where nothing is found there is none.
+pub entry_missing : {w : List ℕ} {s : Faces} {i j : ℕ} → Entry w s i j None → has_entry (pattern_at w s) i j ≡ false
+entry_missing {w} {s} {i} {j} at = ⊎_elim
+    (λ (t : has_entry (pattern_at w s) i j ≡ true). absurd (none-some (stands_at (pattern_at w s) i j) (rw t at at.is)))
     (λ (f : has_entry (pattern_at w s) i j ≡ false). f)
     (bool? (has_entry (pattern_at w s) i j))
 
@@ -192,7 +192,7 @@ module _ {w : List ℕ} {s : Faces} {row column e : ℕ} (ok : MirrorOk w s row 
   }
 
   -- A diagonal entry is its own mirror.
-  pub mirror_own : column ≡ row → Entry w s column row e
+  pub mirror_own : column ≡ row → Entry w s column row (Some e)
   mirror_own same =
       let p = pattern_at w s in
       let inside : e < entries (pattern_at w s) = rw (size_at_lem ok.ordered.standing) ok.near in
@@ -201,4 +201,4 @@ module _ {w : List ℕ} {s : Faces} {row column e : ℕ} (ok : MirrorOk w s row 
       let has : has_entry (pattern_at w s) column row ≡ true = has_at (pattern_at w s) column row e inside r c in
       let stands : stands_at (pattern_at w s) column row ≡ e = rw (r, c) at
       (stands_entry ok.ordered.standing.valid ok.ordered.rising e inside) in
-      record { is = rw has (sym stands) }
+      record { is = rw has (ap Some (sym stands)) }

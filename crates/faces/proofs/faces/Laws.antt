@@ -1,5 +1,6 @@
 -- What a caller needs of the faces, the diagonal entries and the coupled rows of a pattern.
 -- Assumes nothing.
+use Rattle.std.specs.Prelude.{Ok}
 use mathlib.Core.Path.{◌≡◌, refl, sym, ap, ◌∙◌}
 use mathlib.Core.Bool.{Bool, true, false}
 use mathlib.Core.Logic.{⊎_elim}
@@ -7,7 +8,6 @@ use Prim.Native.Nat.{ℕ, zero, suc, ◌+◌, ◌-◌, ◌≤◌, ◌<◌}
 use native.Mathlib.Omega.{arith}
 use lib.Dec.{ltb}
 use borrow.Author.Tests.{ltb-true, lt-ltb, le-ltb}
-use Rattle.refusal.specs.declared.Verdict.{Verdict}
 use Rattle.refusal.specs.Outcome.{passed, ask_rows, verdict_of}
 use Rattle.refusal.proofs.Outcome.{verdict_passed, passes}
 use Rattle.store.specs.Region.{idx}
@@ -60,7 +60,7 @@ module _ (level : ℕ) (p : Pattern) where
       (bool? (has_entry p row row))
 
 -- Where question 11 passes, each row has its diagonal entry.
-pub diagonal_is : {p : Pattern} (level : ℕ) → Valid p → verdict_of (diagonals_asked level p) ≡ Verdict.Passed → Diagonal p
+pub diagonal_is : {p : Pattern} (level : ℕ) → Valid p → verdict_of (diagonals_asked level p) ≡ Ok tt → Diagonal p
 unfolding diagonals_asked
 diagonal_is {p} level valid t = record {
   diagonal = λ i h. has_which p i i (asked_is level p (p.rows - 0) 0 (passes (diagonals_asked level p) refl t) i (omega arith)
@@ -68,7 +68,7 @@ diagonal_is {p} level valid t = record {
 }
 
 -- Where each row has its diagonal entry, it passes.
-pub diagonal_was : {p : Pattern} (level : ℕ) → Diagonal p → verdict_of (diagonals_asked level p) ≡ Verdict.Passed
+pub diagonal_was : {p : Pattern} (level : ℕ) → Diagonal p → verdict_of (diagonals_asked level p) ≡ Ok tt
 unfolding diagonals_asked
 diagonal_was {p} level diagonal = verdict_passed (diagonals_asked level p) (asked_was level p (p.rows - 0) 0
     (λ i h. let d = diagonal.diagonal i (omega arith) in has_at p i i d.0 d.1 d.2 d.3))

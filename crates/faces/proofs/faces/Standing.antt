@@ -33,10 +33,6 @@ module _ {w : List ℕ} {s : Faces} (stands : Standing w s) where
   pub column_near : (e : ℕ) → e < s.entries → idx w (s.columns + e) < s.rows
   column_near e h = rw (column_at e h) (stands.valid.inside e (rw size_at_lem h))
 
-  -- An offset is at most the number of entries.
-  pub offset_less : (i : ℕ) → i ≤ s.rows → idx w (s.offsets + i) ≤ s.entries
-  offset_less i h = rw (offset_at i h, ← size_at_lem) (offset_few stands.valid i h)
-
   -- The next one too.
   pub next_less : (i : ℕ) → i < s.rows → idx w (s.offsets + i + 1) ≤ s.entries
   next_less i h = rw (next_at i h, ← size_at_lem) (offset_few stands.valid (i + 1) (omega arith))

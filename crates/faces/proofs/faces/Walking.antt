@@ -3,6 +3,7 @@
 use mathlib.Core.Path.{◌≡◌, refl, sym, ap, ◌∙◌}
 use mathlib.Core.Bool.{Bool, true, false, cond}
 use mathlib.Core.List.{List}
+use Rattle.std.specs.Prelude.{Some, None}
 use mathlib.Core.Logic.{⊎_elim}
 use Prim.Native.Nat.{ℕ, ◌+◌, ◌≤◌, ◌<◌}
 use native.Mathlib.Omega.{arith}
@@ -132,15 +133,16 @@ module _ {F G : List ℕ} {s : Faces} {row face e : ℕ} (m : Mirroring F G s ro
         let o = ordered_on m.ok.ordered m.walking.kept in
         record { ordered = o; near = h; is = sought.row; stands = is ∙ column_at o.standing e h }
 
-    module _ {mirror : ℕ} (at : Entry G s column r mirror) where
+    module _ {mirror : ℕ} (at : Entry G s column r (Some mirror)) where
       -- The answer of `mirror_at`, of the pattern at the start.
-      at_first : Entry F s (column_of (pattern_at F s) e) (row_of (pattern_at F s) e) mirror
+      at_first : Entry F s (column_of (pattern_at F s) e) (row_of (pattern_at F s) e) (Some mirror)
       at_first = rw (row_of_lem m.walking h sought is, column_of_lem m.walking h sought is) at
           (entry_back m.ok.ordered.standing m.walking.kept at)
 
       -- A face has room for its mirror.
-      pub mirroring_room : mirror < s.entries → PushOk (length G) s.lowers face mirror (ltb r column)
-      mirroring_room l =
+      pub mirroring_room : PushOk (length G) s.lowers face mirror (ltb r column)
+      mirroring_room =
+          let l = (entry_there_lem m.ok.ordered at_first).2 in
           let stands = m.ok.ordered.standing in
           let less = stands.less in
           let few = many_few (above (pattern_at F s)) e in
@@ -154,10 +156,10 @@ module _ {F G : List ℕ} {s : Faces} {row face e : ℕ} (m : Mirroring F G s ro
           }
 
       -- An entry with its mirror.
-      pub mirroring_on : {H : List ℕ} {more : ℕ} → mirror < s.entries → Pushed G H s.lowers face mirror (ltb r column) more
+      pub mirroring_on : {H : List ℕ} {more : ℕ} → Pushed G H s.lowers face mirror (ltb r column) more
           → Mirroring F H s r more (e + 1)
-      mirroring_on {H} {more} l u =
-          let there = entry_there_lem at_first l in
+      mirroring_on {H} {more} u =
+          let there = entry_there_lem m.ok.ordered at_first in
           let picking = picking_on m.picking u there.1 (test_of m.walking h sought is) in
           record {
             ok = m.ok;
@@ -166,17 +168,19 @@ module _ {F G : List ℕ} {s : Faces} {row face e : ℕ} (m : Mirroring F G s ro
             picking = picking;
           }
 
-      -- An entry without its mirror.
-      pub mirroring_no : s.entries ≤ mirror → MirrorsDone F G s false
-      unfolding mirrored_of
-      mirroring_no l =
-          let none = entry_missing m.ok.ordered at_first l in
-          record {
-            answer = rw (size_at_lem m.ok.ordered.standing)
-                (passed_no (has_mirror (pattern_at F s)) s.entries e false h (sym none) refl);
-            lowers = λ t. let z : ◌≡◌ {A = ℕ} 0 1 = cc in absurd (omega arith);
-            only = mirrors_only;
-          }
+    -- An entry without its mirror.
+    pub mirroring_no : Entry G s column r None → MirrorsDone F G s false
+    unfolding mirrored_of
+    mirroring_no at =
+        let first : Entry F s (column_of (pattern_at F s) e) (row_of (pattern_at F s) e) None =
+        rw (row_of_lem m.walking h sought is, column_of_lem m.walking h sought is) at
+        (entry_back m.ok.ordered.standing m.walking.kept at) in
+        record {
+          answer = rw (size_at_lem m.ok.ordered.standing)
+              (passed_no (has_mirror (pattern_at F s)) s.entries e false h (sym (entry_missing first)) refl);
+          lowers = λ t. let z : ◌≡◌ {A = ℕ} 0 1 = cc in absurd (omega arith);
+          only = mirrors_only;
+        }
 
   -- After the last entry each has its mirror.
   pub mirroring_done : s.entries ≤ e → MirrorsDone F G s true

@@ -170,12 +170,11 @@ normal (suc j) t p h l = record {
       (mul_assoc q (2 ^ j) (2 ^ 1074) ∙ ap (λ (x : ℕ). q * x) (sym (pow-add 2 j 1074) ∙ ap (λ (x : ℕ). 2 ^ x) e));
 }
 
--- The digits t of a subnormal x, shifted up by the leading zeros of the word, less the eleven above any f64's digits.
-pub record Shift (x : Float) (t : ℕ) : Type 0 where
-  pub word : count_leading_zeros 64 t < 65
-  pub over : 11 ≤ count_leading_zeros 64 t
-  pub few : count_leading_zeros 64 t - 11 ≤ 52
-  pub split : Split x (t * 2 ^ (count_leading_zeros 64 t - 11) % 2 ^ 64) (1024 - (count_leading_zeros 64 t - 11))
+-- The digits t of a subnormal x, shifted up by z, the leading zeros of the word, less the eleven above any f64's digits.
+pub record Shift (x : Float) (t z : ℕ) : Type 0 where
+  pub over : 11 ≤ z
+  pub few : z - 11 ≤ 52
+  pub split : Split x (t * 2 ^ (z - 11) % 2 ^ 64) (1024 - (z - 11))
 
 -- t of j + 1 digits, shifted up to 53.
 shift : (t z j : ℕ) → z + suc j ≡ 64 → j < 52 → 2 ^ j ≤ t → t < 2 ^ suc j
@@ -204,14 +203,13 @@ shift t z j s J lo hi =
     }
 
 -- That is what the leading zeros give.
-subnormal : (t : ℕ) → 0 < t → t < 2 ^ 52 → Shift (of_fields binary64 false 0 t) t
+subnormal : (t : ℕ) → 0 < t → t < 2 ^ 52 → Shift (of_fields binary64 false 0 t) t (count_leading_zeros 64 t)
 subnormal t p h =
     let word : 52 ≤ 64 = omega arith in
     let z = leading_top 64 t p (lt_of_lt_of_le h (pow_mono word)) in
     let s = z.1 in
     let J = pow_lt_back z.0 52 (lt_of_le_of_lt z.2 h) in
     record {
-      word = omega arith;
       over = omega arith;
       few = omega arith;
       split = shift t (count_leading_zeros 64 t) z.0 s J z.2 z.3;
@@ -244,8 +242,8 @@ module _ (x : Float) (F : T (fits binary64 x)) (A : T (above x)) where
   at_top e = sym (is 2047 e) ∙ inf_is (b % 2 ^ 52) (over_zero 2047 e)
 
   -- the field 0 a subnormal's,
-  pub at_sub : b / 2 ^ 52 ≡ 0 → Shift x (b % 2 ^ 52)
-  at_sub e = subst (λ (w : Float). Shift w (b % 2 ^ 52)) (is 0 e) (subnormal (b % 2 ^ 52) some (mod-lt b (pow_pos 52)))
+  pub at_sub : b / 2 ^ 52 ≡ 0 → Shift x (b % 2 ^ 52) (count_leading_zeros 64 (b % 2 ^ 52))
+  at_sub e = subst (λ (w : Float). Shift w (b % 2 ^ 52) (count_leading_zeros 64 (b % 2 ^ 52))) (is 0 e) (subnormal (b % 2 ^ 52) some (mod-lt b (pow_pos 52)))
     where
       some : 0 < b % 2 ^ 52
       some = odd_above (b % 2 ^ 52) (subst (λ (w : Float). T (above w)) (sub_is (b % 2 ^ 52)) (over_zero 0 e))

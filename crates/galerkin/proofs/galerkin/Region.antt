@@ -1,14 +1,16 @@
--- Loops that rewrite one region of a store: `Going`, their invariant, and its start, turn and end.
+-- Loops that rewrite one region of a store: `Going`, their invariant, and its start, turn and end; and what is written behind the
+-- front of a store.
 -- Assumes nothing.
-use mathlib.Core.Path.{◌≡◌, sym, ap, ◌∙◌}
-use mathlib.Core.List.{List}
-use Prim.Native.Nat.{ℕ, ◌+◌, ◌≤◌, ◌<◌}
+use mathlib.Core.Path.{◌≡◌, refl, sym, ap, ◌∙◌}
+use mathlib.Core.List.{List, [], ◌∷◌, ◌++◌}
+use Prim.Native.Nat.{ℕ, ◌+◌, ◌-◌, ◌≤◌, ◌<◌}
 use native.Mathlib.Omega.{arith}
-use lib.ListN.{length, set, length-set}
+use lib.ListN.{length, set, length-set, take, drop}
+use Rattle.std.proofs.lemmas.List.{take-append-le, drop-append-le, length-append, length-drop}
 use Rattle.store.specs.Loop.{for}
-use Rattle.store.specs.Region.{part, Wrote}
+use Rattle.store.specs.Region.{part, splice, Wrote}
 use Rattle.store.proofs.store.Loop.{Left, left_start, left_on, left_end}
-use Rattle.store.proofs.store.Region.{length_part, set_splice, splice_part, wrote, wrote_at, wrote_again}
+use Rattle.store.proofs.store.Region.{length_part, set_splice, splice_part, splice_back, part_front, wrote, wrote_at, wrote_again}
 
 -- Of F the turns before k of n have made G: only the region at out has changed, and what is left of the turns gives r there.
 pub record Going {A : Type 0} (step : ℕ → List A → List A) (out total k n : ℕ) (r F G : List A) : Type 0 where
@@ -40,3 +42,15 @@ module _ {A : Type 0} where
       let long : length (part out total G) ≡ total = length_part out total G fits in
       let l : i < length (part out total G) = omega arith in
       wrote (ap (λ (H : List A). set H (out + i) x) (sym (splice_part out total G)) ∙ set_splice out (part out total G) G i x l) (length-set (part out total G) i x ∙ long)
+
+  -- What is written at the start of what stands behind a front, and follows from a part of the front.
+  pub wrote_behind : (v : List A → List A) (front : List A) {back F G : List A} {out total : ℕ} (b n : ℕ) → F ≡ front ++ back → length front ≡ out
+      → b + n ≤ out → Wrote 0 total (v (take (b + n - b) (drop b front))) back G → Wrote out total (v (part b n F)) F (front ++ G)
+  wrote_behind v front {back} {F} {G} {out} {total} b n is at h t =
+      let k : b + n - b ≡ n = omega arith in
+      let p : part b n F ≡ take n (drop b front) = ap (part b n) is ∙ part_front b n front back (omega arith) in
+      let s : length G ≡ length back = t.size in
+      let l : length (front ++ G) ≡ length (front ++ back) = length-append front G ∙ ap (λ (k : ℕ). length front + k) s ∙ sym (length-append front back) in
+      let u : Wrote 0 total (v (take n (drop b front))) back G = rw k at t in
+      rw (p, is, ← at)
+      record { is = ap (λ (r : List A). front ++ r) u.is ∙ sym (splice_back front (v (take n (drop b front))) back); long = u.long; size = l }

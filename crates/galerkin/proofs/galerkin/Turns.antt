@@ -12,53 +12,14 @@ use Rattle.float.specs.Float.{add64, zero64}
 use Rattle.store.specs.Loop.{for}
 use Rattle.store.specs.Region.{at, idx, part, Wrote}
 use Rattle.store.specs.Vector.{filled}
-use Rattle.store.proofs.store.Region.{get_d_part, splice_part, wrote, wrote_at, wrote_off, wrote_again}
+use Rattle.store.proofs.store.Region.{get_d_part, splice_part, wrote, wrote_at, wrote_again}
 use borrow.Author.Tests.{eq-eqb, ne_eqb}
 use Rattle.galerkin.specs.Values.{sums_of, average_face, symmetrize_of, zero_entry, zero_diagonal_of}
 use Rattle.galerkin.specs.Turns.{add_entry, mean_of, zero_entries, zero_row}
-use Rattle.galerkin.specs.Contract.{SumsOk, GivenOk, FacesOk, EntriesOk, RowsOk}
+use Rattle.galerkin.specs.Contract.{GivenOk, FacesOk, EntriesOk, RowsOk}
 use Rattle.galerkin.proofs.galerkin.Region.{Going, going_on, wrote_set}
 
 -- ---- sums by position
-
--- The invariant of `add_entries`: the entries before e have been added.
-abbrev pub Adding : List ℕ → ℕ → ℕ → ℕ → ℕ → ℕ → ℕ → List Float → List Float → Type 0
-Adding w m positions values total out e F G =
-    Going (add_entry (part positions m w) (part values m F)) out total e m (for (add_entry (part positions m w) (part values m F)) 0 m (part out total F)) F G
-
--- A position is below total.
-pub sums_near : {w : List ℕ} {size m positions values total out e : ℕ} → SumsOk w size m positions values total out → e < m → idx w (positions + e) < total
-sums_near {w} {size} {m} {positions} {values} {total} {out} {e} ok h = rw (get_d_part positions m w e 0 h) at (ok.near e h)
-
--- One entry more.
-pub sums_on : {w : List ℕ} {F G : List Float} {m positions values total out e i : ℕ} → SumsOk w (length F) m positions values total out
-    → Adding w m positions values total out e F G → e < m → i ≡ idx w (positions + e)
-    → Adding w m positions values total out (e + 1) F (set G (out + i) (add64 (at G (out + i)) (at G (values + e))))
-unfolding add_entry
-sums_on {w} {F} {G} {m} {positions} {values} {total} {out} {e} {i} ok g h is =
-    let size : length G ≡ length F = g.written.size in
-    let near : idx w (positions + e) < total = sums_near ok h in
-    let l : i < total = omega arith in
-    let p : idx (part positions m w) e ≡ i = get_d_part positions m w e 0 h ∙ sym is in
-    let own : at (part out total G) i ≡ at G (out + i) = get_d_part out total G i nan l in
-    let v : at (part values m F) e ≡ at G (values + e) = ap (λ (H : List Float). at H e) (sym (wrote_off g.written values m (omega arith))) ∙ get_d_part values m G e nan h in
-    going_on ok.room g h (rw (p, own, v) (wrote_set out total i (add64 (at G (out + i)) (at G (values + e))) G (omega arith) l))
-
--- `sum_entries`: entries added to zeros.
-pub sums_done : {w : List ℕ} {F G H : List Float} {m positions values total out : ℕ} → SumsOk w (length F) m positions values total out
-    → Wrote out total (filled total zero64) F G
-    → Wrote out total (for (add_entry (part positions m w) (part values m G)) 0 m (part out total G)) G H
-    → Wrote out total (sums_of total m (part positions m w) (part values m F)) F H
-unfolding sums_of add_entry
-sums_done {w} {F} {G} {H} {m} {positions} {values} {total} {out} ok z t =
-    rw (wrote_at z ok.room, wrote_off z values m (omega arith)) at (wrote_again z t)
-
--- What the entries need, after the zeros.
-pub sums_after : {w : List ℕ} {F G v : List Float} {m positions values total out b n : ℕ} → SumsOk w (length F) m positions values total out
-    → Wrote b n v F G → SumsOk w (length G) m positions values total out
-sums_after ok t = rw t.size ok
-
--- ---- the same of values that are given
 
 -- The invariant of `add_given`: the entries before e have been added.
 abbrev pub Giving : List ℕ → List Float → ℕ → ℕ → ℕ → ℕ → ℕ → List Float → List Float → Type 0
@@ -88,11 +49,6 @@ pub given_done : {w : List ℕ} (given : List Float) {F G H : List Float} {m pos
     → Wrote out total (sums_of total m (part positions m w) given) F H
 unfolding sums_of add_entry
 given_done given ok z t = rw (wrote_at z ok.room) at (wrote_again z t)
-
--- What the entries need, after the zeros.
-pub given_after : {w : List ℕ} {F G v : List Float} {count m positions total out b n : ℕ} → GivenOk w (length F) count m positions total out
-    → Wrote b n v F G → GivenOk w (length G) count m positions total out
-given_after ok t = rw t.size ok
 
 -- ---- half plus half
 
@@ -187,11 +143,6 @@ row_on {w} {F} {G} {H} {count} {offsets} {columns} {total} {out} {row} {lo} {hi}
     let p : idx (part offsets (count + 1) w) row ≡ lo = get_d_part offsets (count + 1) w row 0 l ∙ sym is in
     let q : idx (part offsets (count + 1) w) (row + 1) ≡ hi = get_d_part offsets (count + 1) w (row + 1) 0 l' ∙ ap (idx w) e ∙ sym js in
     going_on ok.room g h (rw (p, q) t)
-
--- What the rows need, after the sums.
-pub rows_after : {w : List ℕ} {F G v : List Float} {count offsets columns total out b n : ℕ} → RowsOk w (length F) count offsets columns total out
-    → Wrote b n v F G → RowsOk w (length G) count offsets columns total out
-rows_after ok t = rw t.size ok
 
 -- `restrict_weights`: the sums, then the diagonal.
 pub weights_done : {F G H v : List Float} (count : ℕ) (offsets columns : List ℕ) {total out : ℕ} → out + total ≤ length F

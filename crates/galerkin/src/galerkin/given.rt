@@ -23,11 +23,9 @@ fn add_given(
         (for (add_entry (part positions m w.now) given.now) 0 m (part out total f.old))
         f.old f.new }
 {
-    let mut e = 0;
-    while e < m {
+    for e in 0..m {
         let i = index_at(w, positions, e, total);
-        f[out + i] = f[out + i] + given[e];
-        e += 1;
+        f[out + i] += given[e];
     }
 }
 

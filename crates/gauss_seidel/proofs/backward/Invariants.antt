@@ -1,5 +1,4 @@
 use mathlib.Core.Path.{◌≡◌}
-use Prim.Native.Nat.{◌-◌}
 use lib.ListN.{length}
 use Rattle.store.specs.Loop.{for}
 use Rattle.store.proofs.store.Loop.{Left}
@@ -8,6 +7,3 @@ use Rattle.gauss_seidel.proofs.backward.Given as goal
 
 abbrev pub invariant-loop-i : goal.invariant-loop-i
 invariant-loop-i l = (length l.f ≡ length l.initial.f) × Left (backward_turn l.w l.s l.x l.work) l.i l.s.rows l.f (for (backward_turn l.w l.s l.x l.work) 0 l.s.rows l.initial.f)
-
-abbrev pub decreases-loop-i : goal.decreases-loop-i
-decreases-loop-i l = l.s.rows - l.i

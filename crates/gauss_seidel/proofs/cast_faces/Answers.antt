@@ -1,5 +1,4 @@
 -- `gauss_seidel::cast_faces` meets its contract.
-use Prim.Native.Nat.{◌-◌}
 use Rattle.matrix.proofs.matrix.Turns.{neighbor_in}
 use Rattle.gauss_seidel.proofs.Turns.{scattering_start, scattering_on, scattering_end}
 use native.Mathlib.Omega.{arith}
@@ -19,10 +18,7 @@ put-held-requires c =
 
 pub loop-face-preserved : goal.loop-face-preserved
 loop-face-preserved c =
-    let at-index-at = c in
-    let at-loop-test = at-index-at in
-    let at-loop = at-loop-test in
-    scattering_on at-loop.loop-face.invariant at-loop-test.loop-face-test.true at-index-at.index_at-neighbor.ensures.value c.put-held.ensures
+    scattering_on c.loop-face.invariant c.loop-face-test.true c.index_at-neighbor.ensures.value c.put-held.ensures
 
 pub returns : goal.returns
 returns c = scattering_end c.loop-face.invariant c.loop-face-test.false

@@ -12,9 +12,7 @@ fresh-value-requires c =
 
 pub cast_faces-cast-requires : goal.cast_faces-cast-requires
 cast_faces-cast-requires c =
-    let at-wide2 = c in
-    let start = at-wide2 in
-    record { vectors_ok = second_ok start.requires.vectors_ok refl; hi_bound = row_faces_lem start.requires.vectors_ok.kernel start.requires.row_lt_rows at-wide2.wide-hi.ensures; held = held_read _ _ _ _ c.float_at-held.ensures }
+    record { vectors_ok = second_ok c.requires.vectors_ok refl; hi_bound = row_faces_lem c.requires.vectors_ok.kernel c.requires.row_lt_rows c.wide-hi.ensures; held = held_read _ _ _ _ c.float_at-held.ensures }
 
 pub put-stays-requires : goal.put-stays-requires
 put-stays-requires c =
@@ -25,9 +23,4 @@ held_at-requires c = c.put-stays.ensures.held
 
 pub returns : goal.returns
 returns c =
-    let at-put = c in
-    let at-cast-faces = at-put in
-    let at-wide2 = at-cast-faces in
-    let at_wide = at-wide2 in
-    let at-fresh = at_wide in
-    forwarded at_wide.wide-lo.ensures at-wide2.wide-hi.ensures at-fresh.fresh-value.ensures at-cast-faces.cast_faces-cast.ensures at-put.put-stays.ensures c.held_at.ensures
+    forwarded c.wide-lo.ensures c.wide-hi.ensures c.fresh-value.ensures c.cast_faces-cast.ensures c.put-stays.ensures c.held_at.ensures

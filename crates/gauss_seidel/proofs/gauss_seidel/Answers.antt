@@ -7,10 +7,7 @@ forward-requires c = search (sweep_copied)
 
 pub backward-requires : goal.backward-requires
 backward-requires c =
-    let at_forward = c in
-    let at_copy = at_forward in
-    let start = at_copy in
-    sweep_forward start.requires at_copy.copy.ensures at_forward.forward.ensures
+    sweep_forward c.requires c.copy.ensures c.forward.ensures
 
 pub returns-then-symmetric : goal.returns-then-symmetric
 returns-then-symmetric c = search (swept_back)

@@ -1,6 +1,5 @@
 -- `gauss_seidel::take_faces` meets its contract. A neighbour is a row, so that the loop is not left before its end.
 use mathlib.Core.Path.{refl}
-use Prim.Native.Nat.{◌-◌}
 use Rattle.matrix.proofs.matrix.Turns.{neighbor_in}
 use Rattle.gauss_seidel.proofs.Turns.{gathering_start, gathering_on, gathering_end}
 use native.Mathlib.Omega.{arith}
@@ -19,10 +18,7 @@ returns-then-neighbor-s c = absurd (omega arith)
 
 pub loop-face-preserved : goal.loop-face-preserved
 loop-face-preserved c =
-    let at-index-at = c in
-    let at-loop-test = at-index-at in
-    let at-loop = at-loop-test in
-    gathering_on at-loop.loop-face.invariant at-loop-test.loop-face-test.true at-index-at.index_at-neighbor.ensures.value refl
+    gathering_on c.loop-face.invariant c.loop-face-test.true c.index_at-neighbor.ensures.value refl
 
 pub returns : goal.returns
 returns c = gathering_end c.loop-face.invariant c.loop-face-test.false

@@ -1,5 +1,7 @@
 -- Question 19: the handle, the sizes, and what each way out of the check gives.
 -- Assumes nothing.
+use Rattle.index_check.specs.declared.sound.Stop.{Stop}
+use Rattle.std.specs.Prelude.{Result, Ok, Err}
 use mathlib.Core.Path.{◌≡◌, refl, sym, ap, ◌∙◌}
 use mathlib.Core.Bool.{Bool, true, false, ◌&&◌}
 use mathlib.Core.List.{List}
@@ -8,7 +10,6 @@ use native.Mathlib.Omega.{arith}
 use lib.Dec.{eqb, leb}
 use borrow.Author.Tests.{le-leb, lt-leb}
 use Rattle.refusal.specs.declared.Refusal.{Refusal}
-use Rattle.refusal.specs.declared.Verdict.{Verdict}
 use Rattle.refusal.specs.Refusal.{invalid_controls, not_cholesky}
 use Rattle.refusal.specs.Outcome.{passed, refused, ask, verdict_of}
 use Rattle.refusal.proofs.Outcome.{passes, refuses}
@@ -17,8 +18,7 @@ use Rattle.options.specs.declared.options.MultigridOptions.{MultigridOptions}
 use Rattle.options.specs.Options.{valid_of, is_cholesky, controls_asked}
 use Rattle.layout.specs.declared.Place.{Place}
 use Rattle.layout.specs.Layout.{rows_at, entries_at, locate}
-use Rattle.index_check.specs.declared.sound.Walk.{Walk}
-use Rattle.index_check.specs.Sound.{heads_walked, levels_walked, walk_of, is_sound, levels_sound, controls_sound, empty_sound, handle_sound, cycle_start, scratch_end, filled_sound, sound_of}
+use Rattle.index_check.specs.Sound.{heads_walked, levels_walked, walk_of, is_sound, levels_sound, controls_sound, empty_sound, handle_sound, cycle_start, scratch_end, filled_sound, sound_of, stopped_at}
 use Rattle.index_check.specs.SoundContract.{LevelsOk, MemoryOk, ScratchOk}
 use Rattle.index_check.proofs.sound.Sizes.{cycle_bound}
 use Rattle.index_check.proofs.sound.Accepts.{walk_accepts}
@@ -45,13 +45,13 @@ controls_no o {q} e = both_no (valid_of o) (is_cholesky o.coarse_solver) e
     both_no true false e = refl
     both_no false b e = refl
 
-module _ (o : MultigridOptions) {v : Verdict} (ev : v ≡ verdict_of (controls_asked o)) where
+module _ (o : MultigridOptions) {v : Result Unit Refusal} (ev : v ≡ verdict_of (controls_asked o)) where
   -- They are refused,
-  pub controls_fail : {q : Refusal} → v ≡ Verdict.Refused q → false ≡ (valid_of o && is_cholesky o.coarse_solver)
+  pub controls_fail : {q : Refusal} → v ≡ Err q → false ≡ (valid_of o && is_cholesky o.coarse_solver)
   controls_fail told = sym (controls_no o (refuses (controls_asked o) ev told))
 
   -- or pass.
-  pub controls_hold : v ≡ Verdict.Passed → true ≡ (valid_of o && is_cholesky o.coarse_solver)
+  pub controls_hold : v ≡ Ok tt → true ≡ (valid_of o && is_cholesky o.coarse_solver)
   controls_hold told = let t = controls_pass o (passes (controls_asked o) ev told) in rw (t.0, t.1)
 
 -- Where they do, the numbers of the handle decide: of one of no rows,
@@ -67,18 +67,18 @@ handle_is h e = rw e
 
 -- ---- the walk
 
-module _ (w : List ℕ) (levels : ℕ) {v : Walk} (ev : v ≡ heads_walked levels w 0 0) where
+module _ (w : List ℕ) (levels : ℕ) {v : Result Unit Stop} (ev : v ≡ heads_walked levels w 0 0) where
   -- A head stopped it,
-  pub walk_stopped : {level row : ℕ} → v ≡ Walk.Stopped level row → v ≡ walk_of levels w 0 0
+  pub walk_stopped : {s : Stop} → v ≡ Err s → v ≡ walk_of levels w 0 0
   unfolding walk_of
   walk_stopped told = let e = sym ev ∙ told in told ∙ rw e
 
   -- or the rows come next,
-  pub walk_rows_ok : v ≡ Walk.Sound → HeadsOk w levels
+  pub walk_rows_ok : v ≡ Ok tt → HeadsOk w levels
   walk_rows_ok told = record { heads = sym ev ∙ told }
 
   -- and decide.
-  pub walk_through : v ≡ Walk.Sound → {r : Walk} → r ≡ levels_walked levels w 0 0 → r ≡ walk_of levels w 0 0
+  pub walk_through : v ≡ Ok tt → {r : Result Unit Stop} → r ≡ levels_walked levels w 0 0 → r ≡ walk_of levels w 0 0
   unfolding walk_of
   walk_through told er = let e = sym ev ∙ told in rw e er
 
@@ -121,20 +121,20 @@ module _ (h : Handle) (w : List ℕ) (size records : ℕ) {t : Bool} (et : t ≡
     unfolding filled_sound
     check_records n = let yes = sym et ∙ y in rw (yes, lt-leb h.levels records n)
 
-    module _ (r : h.levels ≤ records) {v : Walk} (ev : v ≡ walk_of h.levels w 0 0) where
+    module _ (r : h.levels ≤ records) {v : Result Unit Stop} (ev : v ≡ walk_of h.levels w 0 0) where
       -- The walk stopped.
-      pub check_stopped : (level row : ℕ) → v ≡ Walk.Stopped level row → false ≡ filled_sound h w size records
+      pub check_stopped : (s : Stop) → v ≡ Err s → false ≡ filled_sound h w size records
       unfolding filled_sound
-      check_stopped level row n =
+      check_stopped s n =
           let yes = sym et ∙ y in
           let no : levels_sound h.levels w 0 ≡ false = sym (walk_accepts h.levels w 0 0) ∙ ap is_sound (sym ev ∙ n) in
           rw (yes, le-leb h.levels records r, no)
 
       -- It went through, and the sizes are asked.
-      pub check_sizes : v ≡ Walk.Sound → SizesOk h w
+      pub check_sizes : v ≡ Ok tt → SizesOk h w
       check_sizes g = record { handle = sym et ∙ y; sound = sym ev ∙ g }
 
-      pub check_told : v ≡ Walk.Sound → {s : Bool} → s ≡ sizes_asked h w size → s ≡ filled_sound h w size records
+      pub check_told : v ≡ Ok tt → {s : Bool} → s ≡ sizes_asked h w size → s ≡ filled_sound h w size records
       unfolding filled_sound
       check_told g e =
           let yes = sym et ∙ y in

@@ -1,5 +1,6 @@
 -- The walk over heads, and the walk over levels and rows, a step at a time; and what holds at the heads of their loops.
 -- Assumes nothing.
+use Rattle.std.specs.Prelude.{Ok}
 use mathlib.Core.Path.{◌≡◌, refl, sym, ap, ◌∙◌}
 use mathlib.Core.Bool.{Bool, true, false, ◌&&◌}
 use mathlib.Core.List.{List}
@@ -13,9 +14,8 @@ use Rattle.store.proofs.store.Each.{both_l, both_r, each_at, Passed}
 use Rattle.hierarchy.specs.Level.{Shape}
 use Rattle.layout.specs.declared.Place.{Place}
 use Rattle.layout.specs.Layout.{rows_at, locate, words_end}
-use Rattle.index_check.specs.declared.sound.Walk.{Walk}
 use Rattle.index_check.specs.declared.tables.Targets.{Targets}
-use Rattle.index_check.specs.Sound.{head_sound, shape_in, arrays_sound, row_sound, go_on, and_then, head_fits, heads_walked, rows_walked, level_walked, targets_of, sums_of, levels_walked, level_sound}
+use Rattle.index_check.specs.Sound.{head_sound, shape_in, arrays_sound, row_sound, go_on, and_then, head_fits, heads_walked, rows_walked, level_walked, targets_of, sums_of, levels_walked, level_sound, stopped_at}
 use Rattle.index_check.specs.LevelContract.{TargetsOk, targets_at, shape_to, LevelOk, RowOk, rows_placed}
 use Rattle.index_check.specs.CheckContract.{HeadsOk}
 use Rattle.index_check.proofs.sound.Laws.{Head, head_told}
@@ -26,13 +26,13 @@ use Rattle.index_check.proofs.tables.Laws.{targets_rows, targets_entries, shape_
 
 module _ (w : List ℕ) (levels level a : ℕ) where
   -- No head is left.
-  heads_none : levels ≤ level → heads_walked (levels - level) w level a ≡ Walk.Sound
+  heads_none : levels ≤ level → heads_walked (levels - level) w level a ≡ Ok tt
   unfolding heads_walked
   heads_none h = let e : levels - level ≡ 0 = omega arith in rw e
 
   -- A head is.
   heads_open : level < levels → heads_walked (levels - level) w level a
-      ≡ go_on (head_fits (levels - level - 1) w a) (Walk.Stopped level 0) (heads_walked (levels - (level + 1)) w (level + 1) (words_end w a))
+      ≡ go_on (head_fits (levels - level - 1) w a) (stopped_at level 0) (heads_walked (levels - (level + 1)) w (level + 1) (words_end w a))
   unfolding heads_walked
   heads_open h =
       let e : levels - level ≡ suc (levels - (level + 1)) = omega arith in
@@ -50,12 +50,12 @@ heads_start w levels = record { within = omega arith; same = rw (sub-zero levels
 
 module _ {w : List ℕ} {levels level a : ℕ} (o : Heads w levels level a) where
   -- None is left.
-  pub heads_finish : levels ≤ level → Walk.Sound ≡ heads_walked levels w 0 0
+  pub heads_finish : levels ≤ level → (Ok tt) ≡ heads_walked levels w 0 0
   heads_finish h = sym (o.same ∙ heads_none w levels level a h)
 
   module _ (h : level < levels) {t : Bool} (e : t ≡ head_fits (levels - level - 1) w a) where
     -- A head fails.
-    pub heads_stop : t ≡ false → Walk.Stopped level 0 ≡ heads_walked levels w 0 0
+    pub heads_stop : t ≡ false → stopped_at level 0 ≡ heads_walked levels w 0 0
     heads_stop n = let no = sym e ∙ n in sym (o.same ∙ heads_open w levels level a h ∙ rw no)
 
     -- It does not: its words end in the store,
@@ -70,13 +70,13 @@ module _ {w : List ℕ} {levels level a : ℕ} (o : Heads w levels level a) wher
 
 module _ (targets sums : ℕ) (s : Shape) (level rows row : ℕ) where
   -- No row is left.
-  rows_none : rows ≤ row → rows_walked targets sums s level (rows - row) row ≡ Walk.Sound
+  rows_none : rows ≤ row → rows_walked targets sums s level (rows - row) row ≡ Ok tt
   unfolding rows_walked
   rows_none h = let e : rows - row ≡ 0 = omega arith in rw e
 
   -- A row is.
   rows_open : row < rows → rows_walked targets sums s level (rows - row) row
-      ≡ go_on (row_sound targets sums s row) (Walk.Stopped level row) (rows_walked targets sums s level (rows - (row + 1)) (row + 1))
+      ≡ go_on (row_sound targets sums s row) (stopped_at level row) (rows_walked targets sums s level (rows - (row + 1)) (row + 1))
   unfolding rows_walked
   rows_open h = let e : rows - row ≡ suc (rows - (row + 1)) = omega arith in rw e
 
@@ -100,12 +100,12 @@ rows_from targets sums s level row p =
 
 -- The first row that fails is the place,
 row_hit : (targets sums : ℕ) (s : Shape) (level row : ℕ) → Passed (row_sound targets sums s) s.pattern.rows row → row < s.pattern.rows
-    → row_sound targets sums s row ≡ false → level_walked targets sums s level ≡ Walk.Stopped level row
+    → row_sound targets sums s row ≡ false → level_walked targets sums s level ≡ stopped_at level row
 row_hit targets sums s level row p h n = rw (rows_from targets sums s level row p, rows_open targets sums s level s.pattern.rows row h, n)
 
 -- and where all pass and the level fails, row 0 is.
 row_none : (targets sums : ℕ) (s : Shape) (level row : ℕ) → Passed (row_sound targets sums s) s.pattern.rows row → s.pattern.rows ≤ row
-    → level_sound targets sums s ≡ false → level_walked targets sums s level ≡ Walk.Stopped level 0
+    → level_sound targets sums s ≡ false → level_walked targets sums s level ≡ stopped_at level 0
 row_none targets sums s level row p h n =
     let within = p.within in
     let z : row ≡ s.pattern.rows = omega arith in
@@ -122,7 +122,7 @@ row_none targets sums s level row p h n =
 
 module _ (w : List ℕ) (levels level a : ℕ) where
   -- No level is left.
-  levels_none : levels ≤ level → levels_walked (levels - level) w level a ≡ Walk.Sound
+  levels_none : levels ≤ level → levels_walked (levels - level) w level a ≡ Ok tt
   unfolding levels_walked
   levels_none h = let e : levels - level ≡ 0 = omega arith in rw e
 
@@ -139,7 +139,7 @@ module _ (w : List ℕ) (levels level a : ℕ) where
 -- What is left of the levels, whose heads passed, gives the answer of all.
 pub record Outer (w : List ℕ) (levels level a : ℕ) : Type 0 where
   pub within : level ≤ levels
-  pub heads : heads_walked (levels - level) w level a ≡ Walk.Sound
+  pub heads : heads_walked (levels - level) w level a ≡ Ok tt
   pub same : levels_walked levels w 0 0 ≡ levels_walked (levels - level) w level a
 
 -- All are left.
@@ -148,7 +148,7 @@ start w levels ok = record { within = omega arith; heads = rw (sub-zero levels) 
 
 module _ {w : List ℕ} {levels level a : ℕ} (o : Outer w levels level a) where
   -- The walk went through.
-  pub finish : levels ≤ level → Walk.Sound ≡ levels_walked levels w 0 0
+  pub finish : levels ≤ level → (Ok tt) ≡ levels_walked levels w 0 0
   finish h = sym (o.same ∙ levels_none w levels level a h)
 
   module _ (h : level < levels) where
@@ -157,7 +157,7 @@ module _ {w : List ℕ} {levels level a : ℕ} (o : Outer w levels level a) wher
     more = levels - level - 1
 
     -- Its head passed, and so did those that come.
-    heads_of_lem : (head_fits more w a ≡ true) × (heads_walked (levels - (level + 1)) w (level + 1) (words_end w a) ≡ Walk.Sound)
+    heads_of_lem : (head_fits more w a ≡ true) × (heads_walked (levels - (level + 1)) w (level + 1) (words_end w a) ≡ Ok tt)
     heads_of_lem = go_on_lem (head_fits more w a) level 0 (heads_walked (levels - (level + 1)) w (level + 1) (words_end w a))
         (sym (heads_open w levels level a h) ∙ o.heads)
 
@@ -217,7 +217,7 @@ module _ {w : List ℕ} {levels level a : ℕ} (o : Outer w levels level a) wher
       same_rows = ap (λ (p : Place). p.rows) q
 
       -- A level that ends the walk gives its answer.
-      stopped : (row : ℕ) → level_walked targets sums (shape_in w a) level ≡ Walk.Stopped level row → Walk.Stopped level row ≡ levels_walked levels w 0 0
+      stopped : (row : ℕ) → level_walked targets sums (shape_in w a) level ≡ stopped_at level row → stopped_at level row ≡ levels_walked levels w 0 0
       stopped row e = sym (o.same ∙ levels_open w levels level a h ∙ rw e)
 
       -- The rows that have passed, as the definition asks them.
@@ -226,14 +226,14 @@ module _ {w : List ℕ} {levels level a : ℕ} (o : Outer w levels level a) wher
 
       -- A row fails.
       pub hit : {row : ℕ} {b : Bool} → Passed (row_sound t.rows t.entries (shape_to w p t)) p.rows row → row < p.rows
-          → b ≡ row_sound t.rows t.entries (shape_to w p t) row → b ≡ false → Walk.Stopped level row ≡ levels_walked levels w 0 0
+          → b ≡ row_sound t.rows t.entries (shape_to w p t) row → b ≡ false → stopped_at level row ≡ levels_walked levels w 0 0
       hit {row} r i e n = stopped row (row_hit targets sums (shape_in w a) level row (passed_is r) (rw same_rows at i)
           (ap (λ (f : ℕ → Bool). f row) (sym same_row) ∙ sym e ∙ n))
 
       module _ {b : Bool} (e : b ≡ level_sound t.rows t.entries (shape_to w p t)) where
         -- The level fails, and each row passes.
         pub astray : {row : ℕ} → b ≡ false → Passed (row_sound t.rows t.entries (shape_to w p t)) p.rows row → p.rows ≤ row
-            → Walk.Stopped level 0 ≡ levels_walked levels w 0 0
+            → stopped_at level 0 ≡ levels_walked levels w 0 0
         astray {row} n r i =
             stopped 0 (row_none targets sums (shape_in w a) level row (passed_is r) (rw same_rows at i) (sym same_level ∙ sym e ∙ n))
 
@@ -243,7 +243,7 @@ module _ {w : List ℕ} {levels level a : ℕ} (o : Outer w levels level a) wher
             let yes : level_sound targets sums (shape_in w a) ≡ true = sym same_level ∙ sym e ∙ y in
             let arrays = both_l (arrays_sound targets sums (shape_in w a)) (rows_placed (shape_in w a)) yes in
             let placed = both_r (arrays_sound targets sums (shape_in w a)) (rows_placed (shape_in w a)) yes in
-            let through : level_walked targets sums (shape_in w a) level ≡ Walk.Sound =
+            let through : level_walked targets sums (shape_in w a) level ≡ Ok tt =
             level_walked_lem w a targets sums level level_head arrays (λ k l. each_at _ (rows_at w a) placed k l) in
             record {
               within = omega arith;

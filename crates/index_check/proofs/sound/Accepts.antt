@@ -1,6 +1,8 @@
 -- What the walk accepts, told without places: of each level its head, its tables and where its rows stand. The tests of the single rows
 -- find the place and refuse nothing more.
 -- Assumes nothing.
+use Rattle.index_check.specs.declared.sound.Stop.{Stop}
+use Rattle.std.specs.Prelude.{Result, Ok, Err}
 use mathlib.Core.Path.{◌≡◌, refl, sym, ap, ◌∙◌}
 use mathlib.Core.Bool.{Bool, true, false, ◌&&◌}
 use mathlib.Core.List.{List}
@@ -8,8 +10,7 @@ use Prim.Native.Nat.{ℕ, zero, suc, ◌+◌, ◌<◌}
 use native.Mathlib.Omega.{arith}
 use Rattle.store.proofs.store.Each.{both_l, both_r, each_at}
 use Rattle.layout.specs.Layout.{rows_at, words_end}
-use Rattle.index_check.specs.declared.sound.Walk.{Walk}
-use Rattle.index_check.specs.Sound.{shape_in, arrays_sound, row_placed, go_on, head_fits, rows_walked, targets_of, sums_of, walk_of, is_sound, level_sound, levels_sound}
+use Rattle.index_check.specs.Sound.{shape_in, arrays_sound, row_placed, go_on, head_fits, rows_walked, targets_of, sums_of, walk_of, is_sound, level_sound, levels_sound, stopped_at}
 use Rattle.index_check.specs.LevelContract.{rows_placed}
 use Rattle.index_check.proofs.sound.Walks.{each_all, row_placed_lem, go_on_lem, and_then_lem, row_at, fits_head, level_walked_lem, Opened, opened, walk_closed, walk_none}
 
@@ -20,9 +21,9 @@ same_test false true f g = g refl
 same_test false false f g = refl
 
 -- A walk that went through is sound.
-is_through : (v : Walk) → is_sound v ≡ true → v ≡ Walk.Sound
-is_through Walk.Sound e = refl
-is_through (Walk.Stopped level row) e = let none : ◌≡◌ {A = ℕ} 0 1 = cc in absurd (omega arith)
+is_through : (v : Result Unit Stop) → is_sound v ≡ true → v ≡ Ok tt
+is_through (Ok tt) e = refl
+is_through (Err s) e = let none : ◌≡◌ {A = ℕ} 0 1 = cc in absurd (omega arith)
 
 -- The tables of a level that was walked, and where its rows stand.
 level_told : (more : ℕ) (w : List ℕ) (level a : ℕ) → Opened more w level a → level_sound (targets_of more w a) (sums_of more w a) (shape_in w a) ≡ true
@@ -30,8 +31,8 @@ level_told more w level a o =
     let s = shape_in w a in
     let targets = targets_of more w a in
     let sums = sums_of more w a in
-    let t = and_then_lem (rows_walked targets sums s level (rows_at w a) 0) (go_on (arrays_sound targets sums s) (Walk.Stopped level 0) Walk.Sound) o.here in
-    let arrays = (go_on_lem (arrays_sound targets sums s) level 0 Walk.Sound t.1).0 in
+    let t = and_then_lem (rows_walked targets sums s level (rows_at w a) 0) (go_on (arrays_sound targets sums s) (stopped_at level 0) (Ok tt)) o.here in
+    let arrays = (go_on_lem (arrays_sound targets sums s) level 0 (Ok tt) t.1).0 in
     let at : (k : ℕ) → k < rows_at w a → row_placed s k ≡ true =
     λ k h. let z : 0 + k ≡ k = omega arith in row_placed_lem targets sums s k (rw z at (row_at targets sums s level (rows_at w a) 0 t.0 k h)) in
     let placed : rows_placed s ≡ true = each_all (row_placed s) (rows_at w a) at in
@@ -85,5 +86,5 @@ walk_accepts (suc more) w level a =
     }))) ∙ sym (levels_open more w a)
 
 -- Where the levels pass it goes through.
-pub walk_passes : (levels : ℕ) (w : List ℕ) (level a : ℕ) → levels_sound levels w a ≡ true → walk_of levels w level a ≡ Walk.Sound
+pub walk_passes : (levels : ℕ) (w : List ℕ) (level a : ℕ) → levels_sound levels w a ≡ true → walk_of levels w level a ≡ Ok tt
 walk_passes levels w level a e = is_through (walk_of levels w level a) (walk_accepts levels w level a ∙ e)

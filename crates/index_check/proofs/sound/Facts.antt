@@ -1,5 +1,6 @@
 -- What the index check tells of a level that it passed: bounds on its sizes and on each of its words, and the levels after it.
 -- Assumes nothing.
+use Rattle.std.specs.Prelude.{Ok}
 use mathlib.Core.Path.{◌≡◌, ap, ◌∙◌}
 use mathlib.Core.Bool.{Bool, true, false, cond}
 use mathlib.Core.List.{List}
@@ -15,8 +16,7 @@ use Rattle.store.proofs.store.Region.{get_d_part, length_part}
 use Rattle.pattern.specs.Pattern.{entries}
 use Rattle.layout.specs.declared.Place.{Place}
 use Rattle.layout.specs.Layout.{rows_at, last_at, coupled_at, entries_at, faces_at, locate, words_end}
-use Rattle.index_check.specs.declared.sound.Walk.{Walk}
-use Rattle.index_check.specs.Sound.{all_below, shape_in, arrays_sound, row_placed, go_on, rows_walked, walk_of}
+use Rattle.index_check.specs.Sound.{all_below, shape_in, arrays_sound, row_placed, go_on, rows_walked, walk_of, stopped_at}
 pub use Rattle.index_check.specs.Sound.{targets_of, sums_of}
 use Rattle.index_check.proofs.sound.Laws.{Head, head_told}
 use Rattle.index_check.proofs.sound.Walks.{all3, all6, reach, row_placed_lem, go_on_lem, and_then_lem, row_at, fits_head, fits_last, as_many, opened}
@@ -122,7 +122,7 @@ module _ (w : List ℕ) (a : ℕ) (head : Head w a) where
       (omega arith, omega arith, omega arith)
 
   module _ (level targets sums : ℕ) (arrays : arrays_sound targets sums (shape_in w a) ≡ true)
-      (walked : rows_walked targets sums (shape_in w a) level rows 0 ≡ Walk.Sound) where
+      (walked : rows_walked targets sums (shape_in w a) level rows 0 ≡ Ok tt) where
     -- of each row.
     row_is : (k : ℕ) → k < rows
         → (idx w (p.offsets + k) ≤ idx w (p.offsets + k + 1)) × (idx w (p.starts + k) ≤ idx w (p.starts + k + 1)) × (idx w (p.diagonals + k) < entries_at w a)
@@ -179,16 +179,16 @@ module _ (w : List ℕ) (a : ℕ) (head : Head w a) where
 pub record Passed (more : ℕ) (w : List ℕ) (level a : ℕ) : Type 0 where
   pub last : last_at w a ≡ ends_of more
   pub here : Here w a (targets_of more w a) (sums_of more w a)
-  pub rest : walk_of more w (level + 1) (words_end w a) ≡ Walk.Sound
+  pub rest : walk_of more w (level + 1) (words_end w a) ≡ Ok tt
 
 -- A walk that went through tells the first level and the rest.
-pub passed : (more : ℕ) {w : List ℕ} {level a : ℕ} → walk_of (suc more) w level a ≡ Walk.Sound → Passed more w level a
+pub passed : (more : ℕ) {w : List ℕ} {level a : ℕ} → walk_of (suc more) w level a ≡ Ok tt → Passed more w level a
 passed more {w} {level} {a} e =
     let o = opened more w level a e in
     let targets = targets_of more w a in
     let sums = sums_of more w a in
     let t = and_then_lem (rows_walked targets sums (shape_in w a) level (rows_at w a) 0)
-    (go_on (arrays_sound targets sums (shape_in w a)) (Walk.Stopped level 0) Walk.Sound) o.here in
-    let arrays = (go_on_lem (arrays_sound targets sums (shape_in w a)) level 0 Walk.Sound t.1).0 in
+    (go_on (arrays_sound targets sums (shape_in w a)) (stopped_at level 0) (Ok tt)) o.here in
+    let arrays = (go_on_lem (arrays_sound targets sums (shape_in w a)) level 0 (Ok tt) t.1).0 in
     let head = head_told w a (fits_head w a more o.head) in
     record { last = fits_last w a more o.head; here = here w a head level targets sums arrays t.0; rest = o.rest }

@@ -1,5 +1,6 @@
 -- The sizes of levels that the walk went through: where their floats and their scratch end, and that no sum wraps.
 -- Assumes nothing.
+use Rattle.std.specs.Prelude.{Ok}
 use mathlib.Core.Path.{◌≡◌, refl, sym, ◌∙◌}
 use mathlib.Core.Bool.{true}
 use mathlib.Core.List.{List}
@@ -11,7 +12,6 @@ use Rattle.layout.specs.declared.Place.{Place}
 use Rattle.layout.specs.Layout.{rows_at, coupled_at, locate, words_end, floats_end, image_end, image_of}
 use Rattle.layout.specs.PlaceContract.{PlaceOk}
 use Rattle.layout.proofs.Views.{floats_to, finest_rows_lem, finest_most}
-use Rattle.index_check.specs.declared.sound.Walk.{Walk}
 use Rattle.index_check.specs.Sound.{head_sound, walk_of, scratch_start, scratch_end, cycle_start}
 use Rattle.index_check.specs.SoundContract.{LevelsOk, FloatsOk, ScratchOk}
 use Rattle.index_check.proofs.sound.Laws.{Head, head_told}
@@ -22,9 +22,9 @@ use Rattle.index_check.proofs.sound.Walks.{fits_head, opened}
 -- The first of some levels that the walk went through has a sound head, and it went through the others.
 pub record Ahead (w : List ℕ) (more level a : ℕ) : Type 0 where
   pub head : head_sound w a ≡ true
-  pub rest : walk_of more w (level + 1) (words_end w a) ≡ Walk.Sound
+  pub rest : walk_of more w (level + 1) (words_end w a) ≡ Ok tt
 
-pub ahead : (w : List ℕ) (more level a : ℕ) → walk_of (suc more) w level a ≡ Walk.Sound → Ahead w more level a
+pub ahead : (w : List ℕ) (more level a : ℕ) → walk_of (suc more) w level a ≡ Ok tt → Ahead w more level a
 ahead w more level a e = let o = opened more w level a e in record { head = fits_head w a more o.head; rest = o.rest }
 
 -- ---- bounds
@@ -53,7 +53,7 @@ floats_most w a b h =
     omega arith
 
 -- Those of so many levels.
-image_most : (k : ℕ) (w : List ℕ) (level a b : ℕ) → walk_of k w level a ≡ Walk.Sound → image_end k w a b ≤ b + k * 8589934592
+image_most : (k : ℕ) (w : List ℕ) (level a b : ℕ) → walk_of k w level a ≡ Ok tt → image_end k w a b ≤ b + k * 8589934592
 unfolding image_end
 image_most zero w level a b e = omega arith
 image_most (suc k) w level a b e =
@@ -61,7 +61,7 @@ image_most (suc k) w level a b e =
     omega (arith, floats_most w a b (head_told w a n.head), image_most k w (level + 1) (words_end w a) (floats_end w a b) n.rest)
 
 -- The scratch of so many levels,
-scratch_most : (k : ℕ) (w : List ℕ) (level a s : ℕ) → walk_of k w level a ≡ Walk.Sound → scratch_end k w a s ≤ s + k * 327680
+scratch_most : (k : ℕ) (w : List ℕ) (level a s : ℕ) → walk_of k w level a ≡ Ok tt → scratch_end k w a s ≤ s + k * 327680
 unfolding scratch_end
 scratch_most zero w level a s e = omega arith
 scratch_most (suc k) w level a s e =
@@ -116,7 +116,7 @@ module _ (w : List ℕ) (a b : ℕ) {p : Place} {coupled t : ℕ} (q : p ≡ loc
 -- Before level `level`, whose words start at a: the walk went through those that are left.
 pub record Going (w : List ℕ) (levels level a : ℕ) : Type 0 where
   pub within : level ≤ levels
-  pub left : walk_of (levels - level) w level a ≡ Walk.Sound
+  pub left : walk_of (levels - level) w level a ≡ Ok tt
 
 -- At the start all are left.
 pub going : {w : List ℕ} {levels : ℕ} → LevelsOk w levels → Going w levels 0 0

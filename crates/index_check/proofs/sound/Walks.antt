@@ -1,5 +1,7 @@
 -- Walks that went through: what their tests tell, and what gives such a walk.
 -- Assumes nothing.
+use Rattle.index_check.specs.declared.sound.Stop.{Stop}
+use Rattle.std.specs.Prelude.{Result, Ok, Err}
 use mathlib.Core.Path.{◌≡◌, refl, sym, ap, ◌∙◌}
 use mathlib.Core.Bool.{Bool, true, false, not, ◌&&◌}
 use mathlib.Core.List.{List}
@@ -17,8 +19,7 @@ use Rattle.hierarchy.specs.Level.{Shape}
 use Rattle.pattern.specs.Pattern.{entries}
 use Rattle.layout.specs.Layout.{rows_at, last_at, entries_at, faces_at, locate, words_end}
 use Rattle.layout.proofs.Places.{ends_above}
-use Rattle.index_check.specs.declared.sound.Walk.{Walk}
-use Rattle.index_check.specs.Sound.{all_below, head_sound, shape_in, arrays_sound, row_placed, entries_sound, faces_sound, link_sound, row_sound, go_on, and_then, head_fits, heads_walked, rows_walked, level_walked, targets_of, sums_of, levels_walked, walk_of}
+use Rattle.index_check.specs.Sound.{all_below, head_sound, shape_in, arrays_sound, row_placed, entries_sound, faces_sound, link_sound, row_sound, go_on, and_then, head_fits, heads_walked, rows_walked, level_walked, targets_of, sums_of, levels_walked, walk_of, stopped_at}
 use Rattle.index_check.proofs.sound.Laws.{Head, head_told}
 
 -- ---- tests that hold together
@@ -126,17 +127,17 @@ module _ (targets sums : ℕ) (s : Shape) where
 -- ---- walks
 
 -- A test that did not end the walk holds, and the rest went through.
-pub go_on_lem : (t : Bool) (level row : ℕ) (rest : Walk) → go_on t (Walk.Stopped level row) rest ≡ Walk.Sound → (t ≡ true) × (rest ≡ Walk.Sound)
+pub go_on_lem : (t : Bool) (level row : ℕ) (rest : Result Unit Stop) → go_on t (stopped_at level row) rest ≡ Ok tt → (t ≡ true) × (rest ≡ Ok tt)
 go_on_lem true level row rest e = (refl, e)
 go_on_lem false level row rest e = let none : ◌≡◌ {A = ℕ} 0 1 = cc in absurd (omega arith)
 
 -- Of two walks each went through.
-pub and_then_lem : (v rest : Walk) → and_then v rest ≡ Walk.Sound → (v ≡ Walk.Sound) × (rest ≡ Walk.Sound)
-and_then_lem Walk.Sound rest e = (refl, e)
-and_then_lem (Walk.Stopped level row) rest e = let none : ◌≡◌ {A = ℕ} 0 1 = cc in absurd (omega arith)
+pub and_then_lem : (v rest : Result Unit Stop) → and_then v rest ≡ Ok tt → (v ≡ Ok tt) × (rest ≡ Ok tt)
+and_then_lem (Ok tt) rest e = (refl, e)
+and_then_lem (Err s) rest e = let none : ◌≡◌ {A = ℕ} 0 1 = cc in absurd (omega arith)
 
 -- Each row of those walked is sound.
-pub row_at : (targets sums : ℕ) (s : Shape) (level more row : ℕ) → rows_walked targets sums s level more row ≡ Walk.Sound → (k : ℕ) → k < more
+pub row_at : (targets sums : ℕ) (s : Shape) (level more row : ℕ) → rows_walked targets sums s level more row ≡ Ok tt → (k : ℕ) → k < more
     → row_sound targets sums s (row + k) ≡ true
 unfolding rows_walked
 row_at targets sums s level zero row e k h = absurd (not-suc-le-zero h)
@@ -149,7 +150,7 @@ row_at targets sums s level (suc more) row e (suc k) h =
 
 -- So many rows that are sound are walked.
 pub rows_walked_lem : (targets sums : ℕ) (s : Shape) (level more row : ℕ) → ((i : ℕ) → row ≤ i → i < row + more → row_sound targets sums s i ≡ true)
-    → rows_walked targets sums s level more row ≡ Walk.Sound
+    → rows_walked targets sums s level more row ≡ Ok tt
 unfolding rows_walked
 rows_walked_lem targets sums s level zero row all = refl
 rows_walked_lem targets sums s level (suc more) row all =
@@ -200,10 +201,10 @@ module _ (w : List ℕ) (a : ℕ) (head : Head w a) where
 
 -- A level is walked where its tables are below their bounds and its rows stand in order.
 pub level_walked_lem : (w : List ℕ) (a targets sums level : ℕ) → head_sound w a ≡ true → arrays_sound targets sums (shape_in w a) ≡ true
-    → ((k : ℕ) → k < rows_at w a → row_placed (shape_in w a) k ≡ true) → level_walked targets sums (shape_in w a) level ≡ Walk.Sound
+    → ((k : ℕ) → k < rows_at w a → row_placed (shape_in w a) k ≡ true) → level_walked targets sums (shape_in w a) level ≡ Ok tt
 level_walked_lem w a targets sums level head arrays placed =
     let h = head_told w a head in
-    let rows : rows_walked targets sums (shape_in w a) level (rows_at w a) 0 ≡ Walk.Sound =
+    let rows : rows_walked targets sums (shape_in w a) level (rows_at w a) 0 ≡ Ok tt =
     rows_walked_lem targets sums (shape_in w a) level (rows_at w a) 0
     (λ i _ l. rows_sound targets sums (shape_in w a) (entries_end w a h) (faces_end w a h) arrays placed i (omega arith)) in
     rw (rows, arrays)
@@ -211,29 +212,29 @@ level_walked_lem w a targets sums level head arrays placed =
 -- A walk through a level and those after it: its head fits, its rows were walked, and so were those.
 pub record Opened (more : ℕ) (w : List ℕ) (level a : ℕ) : Type 0 where
   pub head : head_fits more w a ≡ true
-  pub here : level_walked (targets_of more w a) (sums_of more w a) (shape_in w a) level ≡ Walk.Sound
-  pub rest : walk_of more w (level + 1) (words_end w a) ≡ Walk.Sound
+  pub here : level_walked (targets_of more w a) (sums_of more w a) (shape_in w a) level ≡ Ok tt
+  pub rest : walk_of more w (level + 1) (words_end w a) ≡ Ok tt
 
 -- So the walk tells,
-pub opened : (more : ℕ) (w : List ℕ) (level a : ℕ) → walk_of (suc more) w level a ≡ Walk.Sound → Opened more w level a
+pub opened : (more : ℕ) (w : List ℕ) (level a : ℕ) → walk_of (suc more) w level a ≡ Ok tt → Opened more w level a
 unfolding walk_of heads_walked levels_walked
 opened more w level a e =
     let heads = heads_walked more w (level + 1) (words_end w a) in
     let levels = levels_walked more w (level + 1) (words_end w a) in
     let here = level_walked (targets_of more w a) (sums_of more w a) (shape_in w a) level in
-    let t = and_then_lem (go_on (head_fits more w a) (Walk.Stopped level 0) heads) (and_then here levels) e in
+    let t = and_then_lem (go_on (head_fits more w a) (stopped_at level 0) heads) (and_then here levels) e in
     let h = go_on_lem (head_fits more w a) level 0 heads t.0 in
     let r = and_then_lem here levels t.1 in
     record { head = h.0; here = r.0; rest = rw h.1 r.1 }
 
 -- and so it is told.
-pub walk_closed : (more : ℕ) (w : List ℕ) (level a : ℕ) → Opened more w level a → walk_of (suc more) w level a ≡ Walk.Sound
+pub walk_closed : (more : ℕ) (w : List ℕ) (level a : ℕ) → Opened more w level a → walk_of (suc more) w level a ≡ Ok tt
 unfolding walk_of heads_walked levels_walked
 walk_closed more w level a o =
     let t = and_then_lem (heads_walked more w (level + 1) (words_end w a)) (levels_walked more w (level + 1) (words_end w a)) o.rest in
     rw (o.head, t.0, o.here, t.1)
 
 -- No level is walked.
-pub walk_none : (w : List ℕ) (level a : ℕ) → walk_of 0 w level a ≡ Walk.Sound
+pub walk_none : (w : List ℕ) (level a : ℕ) → walk_of 0 w level a ≡ Ok tt
 unfolding walk_of heads_walked levels_walked
 walk_none w level a = refl

@@ -22,11 +22,9 @@ fn image_end(w: &[u32], levels: u64) -> usize
 {
     let mut a = 0;
     let mut b = 0;
-    let mut level = 0;
-    while level < levels {
+    for _level in 0..levels {
         b = floats_end(w, a, b);
         a = layout::words_end(w, a);
-        level += 1;
     }
     b
 }
@@ -62,11 +60,9 @@ pub fn scratch_end(w: &[u32], levels: u64, s: usize) -> usize
 {
     let mut end = s;
     let mut a = 0;
-    let mut level = 0;
-    while level < levels {
+    for _level in 0..levels {
         end += 5 * word_at(w, a);
         a = layout::words_end(w, a);
-        level += 1;
     }
     end
 }

@@ -1,5 +1,6 @@
 -- One iteration: what follows its cycle, and the whole.
 -- Assumes nothing.
+use Rattle.std.specs.Prelude.{Result, Ok, Err, Option, Some, None}
 use mathlib.Core.Path.{◌≡◌, refl, sym, ap, ◌∙◌}
 use mathlib.Core.List.{List}
 use Prim.Native.Nat.{ℕ, ◌+◌, ◌≤◌}
@@ -14,14 +15,11 @@ use Rattle.store.proofs.store.Region.{wrote_at, kept_wrote, kept_on, kept_less, 
 use Rattle.options.specs.declared.options.Handle.{Handle}
 use Rattle.refusal.specs.declared.Refusal.{Refusal}
 use Rattle.refusal.specs.Refusal.{bad_residual}
-use Rattle.refusal.specs.declared.Verdict.{Verdict}
 use Rattle.refusal.specs.Outcome.{Outcome, accepted, refused, ◌>>=◌}
 use Rattle.refusal.proofs.Outcome.{then_accepted, then_refused, refuses, accepts_it}
-use Rattle.vector.specs.declared.vector.Product.{Product}
 use Rattle.matrix.specs.Kernel.{Kernel, kernel_at, apply_of}
 use Rattle.matrix.proofs.matrix.Kernel.{kernel_kept, kernel_above}
 use Rattle.correction.specs.Correction.{subtract_of}
-use Rattle.acceleration.specs.declared.acceleration.Corrected.{Corrected}
 use Rattle.acceleration.specs.Directions.{Pair, finite}
 use Rattle.acceleration.specs.Gcr.{Corrections}
 use Rattle.acceleration.specs.DirectionsContract.{memory_at}
@@ -31,23 +29,23 @@ use Rattle.layout.specs.Layout.{rows_at, view_of}
 use Rattle.cycle.specs.Cycle.{Cycled, cycle_of}
 use Rattle.cycle.specs.Contract.{cycle_at, CycleOk, CycleDone}
 use Rattle.iterations.specs.declared.stepping.Regions.{Regions}
-use Rattle.iterations.specs.declared.stepping.Step.{Step}
+use Rattle.iterations.specs.declared.stepping.Stepped.{Stepped}
 use Rattle.iterations.specs.Iteration.{System, State, after_of, true_residual_of, moved_of, step_of}
 use Rattle.iterations.specs.System.{system_at}
-use Rattle.iterations.specs.Steps.{StepOk, VectorsOk, Renewed, Moved, move_of, move_at, after_at, state_at, step_at, AdvanceDone, StepDone}
+use Rattle.iterations.specs.Steps.{stepped, StepOk, VectorsOk, Renewed, Moved, move_of, move_at, after_at, state_at, step_at, AdvanceDone, StepDone}
 use Rattle.iterations.proofs.stepping.Moving.{memory_kept}
 use Rattle.iterations.proofs.stepping.Placing.{vectors, move_ok, cycle_ok, rows_is, correction_is, system_kept, kernel_is, kernel_rows}
 
 -- ---- after the cycle
 
 -- Pairs are counted where a correction is accepted,
-used_is : {r : Corrected} {stored : ℕ} (out : Outcome Corrections) → r ≡ corrected_of out → r ≡ Corrected.Used stored
+used_is : {r : Result ℕ Refusal} {stored : ℕ} (out : Outcome Corrections) → r ≡ corrected_of out → r ≡ Ok stored
     → (s : Corrections) × (out ≡ accepted s) × (length s.memory ≡ stored)
 used_is (accepted s) e told = (s, refl, cc)
 used_is (refused q) e told = absurd (let none : ◌≡◌ {A = ℕ} 0 1 = cc in omega arith)
 
 -- and a refusal is the outcome's.
-refused_is : {r : Corrected} {q : Refusal} (out : Outcome Corrections) → r ≡ corrected_of out → r ≡ Corrected.Refused q → out ≡ refused q
+refused_is : {r : Result ℕ Refusal} {q : Refusal} (out : Outcome Corrections) → r ≡ corrected_of out → r ≡ Err q → out ≡ refused q
 refused_is (accepted s) e told = absurd (let none : ◌≡◌ {A = ℕ} 0 1 = cc in omega arith)
 refused_is (refused q) e told = cc
 
@@ -95,9 +93,9 @@ module _ {h : Handle} {w : List ℕ} (F : List Float) {g : Regions} {used : ℕ}
       ap (λ (k : ℕ). move_of k y.kernel krylov m c r x) (kernel_rows ok.ready F)
       ∙ ap (λ (k : Kernel). move_of n k krylov m c r x) (kernel_is ok.ready F)
 
-  module _ {G : List Float} {r : Corrected} (m : Moved krylov g (move_at w F g krylov used) F G r) where
+  module _ {G : List Float} {r : Result ℕ Refusal} (m : Moved krylov g (move_at w F g krylov used) F G r) where
     -- A refused correction.
-    pub advance_no : {factor : Float} {q : Refusal} → r ≡ Corrected.Refused q → AdvanceDone h w F G g used factor (Step.Refused q)
+    pub advance_no : {factor : Float} {q : Refusal} → r ≡ Err q → AdvanceDone h w F G g used factor (Err q)
     advance_no {factor} {q} told =
         let out = moved_is factor ∙ refused_is (move_at w F g krylov used) m.answer told in
         record {
@@ -107,7 +105,7 @@ module _ {h : Handle} {w : List ℕ} (F : List Float) {g : Regions} {used : ℕ}
           floats = m.floats;
         }
 
-    module _ {stored : ℕ} (told : r ≡ Corrected.Used stored) {H : List Float} (v : Renewed w G H g) where
+    module _ {stored : ℕ} (told : r ≡ Ok stored) {H : List Float} (v : Renewed w G H g) where
       abbrev s : Corrections
       s = (used_is (move_at w F g krylov used) m.answer told).0
 
@@ -154,21 +152,25 @@ module _ {h : Handle} {w : List ℕ} (F : List Float) {g : Regions} {used : ℕ}
           ∙ ap (λ (r : List Float). finished h factor counts n (part g.solution n H) r s.memory) (sym (residual_is factor))
           ∙ ap (finished h factor counts n (part g.solution n H) (part g.residual n H)) (sym memory)
 
-      module _ {factor : Float} {p : Product} (e : p ≡ measure_of h.options.residual_norm n (part g.residual n H) factor) where
+      module _ {factor : Float} {p : Option Float} (e : p ≡ measure_of h.options.residual_norm n (part g.residual n H) factor) where
         -- A norm that is finite.
-        pub advance_yes : {last : Float} → p ≡ Product.Finite last → AdvanceDone h w F H g used factor (Step.Done stored last)
+        pub advance_yes : {last : Float} → p ≡ Some last → AdvanceDone h w F H g used factor (Ok (stepped stored last))
         advance_yes {last} t = record {
           done = λ stored' norm counts q.
-              let one : stored ≡ stored' = cc in
-              let two : last ≡ norm = cc in
+              let same : stepped stored last ≡ stepped stored' norm = cc in
+              let one : stored ≡ stored' = ap (λ (s : Stepped). s.used) same in
+              let two : last ≡ norm = ap (λ (s : Stepped). s.last) same in
               after_is factor counts ∙ rw (← e, t, one, two);
-          fits = λ stored' norm q. let one : stored ≡ stored' = cc in rw one at few;
+          fits = λ stored' norm q.
+              let same : stepped stored last ≡ stepped stored' norm = cc in
+              let one : stored ≡ stored' = ap (λ (s : Stepped). s.used) same in
+              rw one at few;
           refusal = λ q counts r. absurd (let none : ◌≡◌ {A = ℕ} 0 1 = cc in omega arith);
           floats = kept;
         }
 
         -- One that is not.
-        pub advance_bad : p ≡ Product.NotFinite → AdvanceDone h w F H g used factor (Step.Refused bad_residual)
+        pub advance_bad : p ≡ None → AdvanceDone h w F H g used factor (Err bad_residual)
         advance_bad t = record {
           done = λ stored' norm counts q. absurd (let none : ◌≡◌ {A = ℕ} 0 1 = cc in omega arith);
           fits = λ stored' norm q. absurd (let none : ◌≡◌ {A = ℕ} 0 1 = cc in omega arith);
@@ -214,7 +216,7 @@ module _ {h : Handle} {w : List ℕ} (F : List Float) {g : Regions} {used : ℕ}
         ap (λ (n : ℕ). ◌>>=◌ (cycle_of h.options (system_at h w F).levels 0 (part g.residual g.rows F) (filled n zero64) t) rest) (kernel_rows ok.ready F)
         ∙ ap (λ (o : Outcome Cycled). ◌>>=◌ o rest) (sym (cycle_is t))
 
-    module _ {G : List Float} {t u : List ℕ} {v : Verdict}
+    module _ {G : List Float} {t u : List ℕ} {v : Result Unit Refusal}
         (d : CycleDone h.options h.levels w E G t u 0 0 0 g.residual v) where
       cycled_kept : Kept g.correction F G
       cycled_kept =
@@ -222,7 +224,7 @@ module _ {h : Handle} {w : List ℕ} (F : List Float) {g : Regions} {used : ℕ}
           kept_on filled_kept (rw (← at) at d.floats)
 
       -- A refused cycle.
-      pub step_no : {factor : Float} {q : Refusal} → v ≡ Verdict.Refused q → StepDone h w F G t u g used factor (Step.Refused q)
+      pub step_no : {factor : Float} {q : Refusal} → v ≡ Err q → StepDone h w F G t u g used factor (Err q)
       step_no {factor} {q} told =
           let l = vectors ok.ready in
           let out = refuses (cycle_at h.options h.levels w E t 0 0 0 g.residual) d.answer told in
@@ -233,7 +235,7 @@ module _ {h : Handle} {w : List ℕ} (F : List Float) {g : Regions} {used : ℕ}
             floats = kept_less cycled_kept (omega arith);
           }
 
-      module _ (told : v ≡ Verdict.Passed) where
+      module _ (told : v ≡ Ok tt) where
         -- What follows requires no more.
         pub after_ok : StepOk h w (length G) g used
         after_ok = let e = cycled_kept.size in rw e ok
@@ -260,7 +262,7 @@ module _ {h : Handle} {w : List ℕ} (F : List Float) {g : Regions} {used : ℕ}
             step_is factor last t ∙ then_accepted _ _ c.1 ∙ cc
 
         -- The correction and the counters are the cycle's.
-        pub step_on : {H : List Float} {factor : Float} {r : Step} → AdvanceDone h w G H g used factor r → StepDone h w F H t u g used factor r
+        pub step_on : {H : List Float} {factor : Float} {r : Result Stepped Refusal} → AdvanceDone h w G H g used factor r → StepDone h w F H t u g used factor r
         step_on {H} {factor} {r} a =
             let l = vectors ok.ready in
             record {

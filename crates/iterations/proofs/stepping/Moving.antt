@@ -1,5 +1,7 @@
 -- The residual of the solution, and the solution moved by a correction.
 -- Assumes nothing.
+use Rattle.refusal.specs.declared.Refusal.{Refusal}
+use Rattle.std.specs.Prelude.{Result, Ok}
 use mathlib.Core.Path.{◌≡◌, sym, ap, ◌∙◌, subst}
 use mathlib.Core.Bool.{true, false}
 use mathlib.Core.List.{List, []}
@@ -17,7 +19,6 @@ use Rattle.refusal.proofs.Outcome.{accepted_one}
 use Rattle.matrix.specs.Kernel.{KernelOk, kernel_at, apply_of}
 use Rattle.matrix.proofs.matrix.Kernel.{kernel_above}
 use Rattle.correction.specs.Correction.{SubtractOk, subtract_of, add_plain_of}
-use Rattle.acceleration.specs.declared.acceleration.Corrected.{Corrected}
 use Rattle.acceleration.specs.Gcr.{Corrections, correct_of}
 use Rattle.acceleration.specs.DirectionsContract.{pair_at, memory_at}
 use Rattle.acceleration.specs.AccelerationContract.{CorrectOk, CorrectedBy, corrected_of}
@@ -108,7 +109,7 @@ module _ {w : List ℕ} {F : List Float} {g : Regions} {krylov used : ℕ} (ok :
   -- The correction as it is.
   pub moved_plain : {G : List Float} → krylov ≡ 0
       → Wrote g.solution g.rows (add_plain_of g.rows (part g.correction g.rows F) (part g.solution g.rows F)) F G
-      → Moved krylov g (move_at w F g krylov used) F G (Corrected.Used used)
+      → Moved krylov g (move_at w F g krylov used) F G (Ok used)
   unfolding memory_at
   moved_plain {G} e a =
       let l = ok.vectors in
@@ -119,7 +120,7 @@ module _ {w : List ℕ} {F : List Float} {g : Regions} {krylov used : ℕ} (ok :
       let is : move_at w F g krylov used ≡ accepted (record { memory = []; solution = x }) = rw (t, none) in
       let at : part g.solution g.rows G ≡ x = wrote_at a (omega arith) in
       record {
-        answer = ap Corrected.Used none ∙ sym (ap corrected_of is);
+        answer = ap Ok none ∙ sym (ap corrected_of is);
         fits = λ u r. let same : used ≡ u = cc in omega arith;
         solved = λ s r. at ∙ ap (λ (c : Corrections). c.solution) (accepted_one (sym is ∙ r));
         stored = λ s r.
@@ -129,7 +130,7 @@ module _ {w : List ℕ} {F : List Float} {g : Regions} {krylov used : ℕ} (ok :
       }
 
   -- By GCR.
-  pub moved_gcr : {G H : List Float} {r : Corrected} → (krylov ≡ 0 → ⊥)
+  pub moved_gcr : {G H : List Float} {r : Result ℕ Refusal} → (krylov ≡ 0 → ⊥)
       → Wrote g.product g.matrix.rows (apply_of (kernel_at g.matrix w F) (part g.correction g.matrix.rows F)) F G
       → CorrectedBy g.rows krylov g.solution g.directions g.images g.correction g.product
       (correct_of g.rows krylov (memory_at used g.rows g.directions g.images G)

@@ -1,5 +1,6 @@
 -- Where the vectors of a solve stand: what question 19 tells of the finest level and of the scratch, and the hierarchy under writes to it.
 -- Assumes nothing.
+use Rattle.std.specs.Prelude.{Ok}
 use mathlib.Core.Path.{◌≡◌, refl, sym, ap, ◌∙◌, subst}
 use mathlib.Core.List.{List}
 use Prim.Native.Nat.{ℕ, suc, ◌+◌, ◌*◌, ◌-◌, ◌/◌, ◌≤◌, zero-le}
@@ -15,7 +16,6 @@ use Rattle.matrix.specs.Kernel.{Kernel, KernelOk, kernel_at}
 use Rattle.layout.specs.Layout.{rows_at, locate, level_at, words_end, floats_end, levels_at, image_end, finest_rows, image_of, view_of}
 use Rattle.layout.specs.Parts as parts
 use Rattle.layout.proofs.Views.{floats_to, levels_kept, finest_rows_lem}
-use Rattle.index_check.specs.declared.sound.Walk.{Walk}
 use Rattle.index_check.specs.Sound.{walk_of, scratch_start, scratch_end, cycle_start}
 use Rattle.layout.specs.PlaceContract.{PlaceOk}
 use Rattle.index_check.specs.SoundContract as index
@@ -59,7 +59,7 @@ module _ {h : Handle} {w : List ℕ} {size : ℕ} (o : Opened h w size) where
 
   -- The finest level, as the index check passed it.
   first : Passed k w 0 0
-  first = passed k (subst (λ (l : ℕ). walk_of l w 0 0 ≡ Walk.Sound) some_is o.sound)
+  first = passed k (subst (λ (l : ℕ). walk_of l w 0 0 ≡ Ok tt) some_is o.sound)
 
   -- The row sums are as many as its rows.
   sums_count : finest_rows h.levels w ≡ n

@@ -2,12 +2,10 @@
 ghost use Rattle.std.specs.Prelude.{length};
 ghost use Rattle.iterations.specs.Steps.{VectorsOk, Renewed, MoveOk, Moved, StepOk, AdvanceDone, StepDone, move_at};
 
-use crate::stepping::{Regions, Step};
-use acceleration::Corrected;
+use crate::stepping::{Regions, Stepped};
 use options::Handle;
-use refusal::Verdict;
+use refusal::Refusal;
 use residual_norm::measure;
-use vector::Product;
 
 // The product and the residual of the solution.
 pub fn renew(w: &[u32], f: &mut [f64], g: Regions)
@@ -19,13 +17,19 @@ pub fn renew(w: &[u32], f: &mut [f64], g: Regions)
 }
 
 // The solution moved by the correction: as it is where no directions are stored, else by GCR with the correction's image.
-fn move_solution(w: &[u32], f: &mut [f64], g: Regions, krylov: usize, used: usize) -> Corrected
+fn move_solution(
+    w: &[u32],
+    f: &mut [f64],
+    g: Regions,
+    krylov: usize,
+    used: usize,
+) -> Result<usize, Refusal>
     requires { MoveOk w.now (length f.old) g krylov used }
     ensures { Moved krylov g (move_at w.now f.old g krylov used) f.old f.new result }
 {
     if krylov == 0 {
         correction::add_plain(f, g.rows, g.correction, g.solution);
-        return Corrected::Used(used);
+        return Ok(used);
     }
     matrix::apply(w, f, g.matrix, g.correction, g.product);
     acceleration::correct(
@@ -43,24 +47,23 @@ fn move_solution(w: &[u32], f: &mut [f64], g: Regions, krylov: usize, used: usiz
 }
 
 // After a cycle: the solution moved by its correction, and the norm of the true residual, question 23.
-fn advance(h: Handle, w: &[u32], f: &mut [f64], g: Regions, factor: f64, used: usize) -> Step
+fn advance(
+    h: Handle,
+    w: &[u32],
+    f: &mut [f64],
+    g: Regions,
+    factor: f64,
+    used: usize,
+) -> Result<Stepped, Refusal>
     requires { StepOk h w.now (length f.old) g used }
     ensures { AdvanceDone h w.now f.old f.new g used factor result }
 {
     let options = h.options;
-    let norm = options.residual_norm;
-    match move_solution(w, f, g, options.krylov_dimension as usize, used) {
-        Corrected::Used(stored) => {
-            renew(w, f, g);
-            match measure::measure(f, g.rows, g.residual, norm, factor) {
-                Product::Finite(last) => Step::Done {
-                    used: stored,
-                    last: last,
-                },
-                Product::NotFinite => Step::Refused(refusal::BAD_RESIDUAL),
-            }
-        }
-        Corrected::Refused(q) => Step::Refused(q),
+    let stored = move_solution(w, f, g, options.krylov_dimension as usize, used)?;
+    renew(w, f, g);
+    match measure::measure(f, g.rows, g.residual, options.residual_norm, factor) {
+        Some(last) => Ok(Stepped { used: stored, last }),
+        None => Err(refusal::BAD_RESIDUAL),
     }
 }
 
@@ -73,13 +76,11 @@ pub fn step(
     g: Regions,
     factor: f64,
     used: usize,
-) -> Step
+) -> Result<Stepped, Refusal>
     requires { StepOk h w.now (length f.old) g used }
     ensures { StepDone h w.now f.old f.new t.old t.new g used factor result }
 {
     store::fill(f, g.correction, g.rows, 0.0);
-    match cycle::cycle(w, f, t, h.options, h.levels, 0, 0, 0, g.residual) {
-        Verdict::Passed => advance(h, w, f, g, factor, used),
-        Verdict::Refused(q) => Step::Refused(q),
-    }
+    cycle::cycle(w, f, t, h.options, h.levels, 0, 0, 0, g.residual)?;
+    advance(h, w, f, g, factor, used)
 }

@@ -19,14 +19,14 @@ pub fn regions(h: Handle, w: &[u32]) -> Regions
     let residual = index_check::cycle_start(w, h.levels, krylov);
     let matrix = layout::kernel_in(layout::place_at(w, 0, 0));
     Regions {
-        matrix: matrix,
+        matrix,
         rows: n,
         sums: image - n,
         rhs: start,
         solution: start + n,
         directions: start + 2 * n,
         images: start + 2 * n + (krylov as usize) * n,
-        residual: residual,
+        residual,
         correction: residual + n,
         product: residual + 2 * n,
     }

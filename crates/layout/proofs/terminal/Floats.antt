@@ -1,5 +1,7 @@
 -- The floats of the last level: its DIC data and its factor.
 -- Assumes nothing.
+use Rattle.refusal.specs.declared.Refusal.{Refusal}
+use Rattle.std.specs.Prelude.{Result}
 use mathlib.Core.Path.{◌≡◌, refl, sym, ◌∙◌, subst}
 use mathlib.Core.List.{List}
 use Prim.Native.Nat.{ℕ}
@@ -10,7 +12,6 @@ use Rattle.float.specs.Float.{zero64}
 use Rattle.store.specs.Region.{part, Wrote}
 use Rattle.store.specs.Vector.{filled}
 use Rattle.store.proofs.store.Region.{wrote_at, wrote_off, kept_wrote, kept_on}
-use Rattle.refusal.specs.declared.Verdict.{Verdict}
 use Rattle.refusal.specs.Outcome.{Outcome}
 use Rattle.cholesky.specs.declared.Terminal.{Terminal}
 use Rattle.cholesky.specs.Factor.{cholesky_of}
@@ -32,7 +33,7 @@ module _ {w : List ℕ} {F H : List Float} {p : Place} {coupled : ℕ} (ok : Fac
       wrote_off zeros p.values p.entries (omega (arith, ok.values)) in
       rw values refl
 
-  made_done : {G : List Float} {level : ℕ} {v : Verdict} → Factored (terminal_in p coupled) (factor_of w H p coupled level) H G v
+  made_done : {G : List Float} {level : ℕ} {v : Result Unit Refusal} → Factored (terminal_in p coupled) (factor_of w H p coupled level) H G v
       → FactorDone w F G p coupled level v
   made_done {G} {level} {v} done =
       let dic = ok.dic in
@@ -47,7 +48,7 @@ module _ {w : List ℕ} {F H : List Float} {p : Place} {coupled : ℕ} (ok : Fac
       }
 
   -- The zeros and the factor are there.
-  pub factor_done : {terminal : Terminal} {G : List Float} {level : ℕ} {v : Verdict} → terminal ≡ terminal_in p coupled
+  pub factor_done : {terminal : Terminal} {G : List Float} {level : ℕ} {v : Result Unit Refusal} → terminal ≡ terminal_in p coupled
       → Factored terminal (cholesky_of level (csr_at terminal w H) terminal.size (coupled_at terminal w)) H G v → FactorDone w F G p coupled level v
   factor_done {terminal} {G} {level} {v} is done = made_done
       (subst (λ (x : Terminal). Factored x (cholesky_of level (csr_at x w H) x.size (coupled_at x w)) H G v) is done)

@@ -1,4 +1,7 @@
 -- Records of statistics as numbers: read to a table, and written back. Assumes nothing.
+use Rattle.solver.specs.declared.solver.LinearSolveReport.{LinearSolveReport}
+use Rattle.refusal.specs.declared.Refusal.{Refusal}
+use Rattle.std.specs.Prelude.{Result}
 use Rattle.std.proofs.Common.{◌≡◌, ℕ, ◌+◌, ◌*◌, ◌<◌, ◌≤◌, List, length, get_or, set, sym, refl, ap, ◌∙◌, subst, arith, le-ltb, lt-ltb}
 use lib.Seq.{set_out}
 use lib.Ieee.{Float}
@@ -10,9 +13,6 @@ use Rattle.store.proofs.store.Region.{wrote, wrote_whole}
 use Rattle.store.proofs.store.Vector.{length_tab, for_each}
 use Rattle.options.specs.declared.options.Handle.{Handle}
 use Rattle.hierarchy.specs.Build.{Input}
-use Rattle.solver.specs.declared.answers.Built.{Built}
-use Rattle.solver.specs.declared.answers.Updated.{Updated}
-use Rattle.solver.specs.declared.answers.Solved.{Solved}
 use Rattle.solver.specs.declared.solver.LinearSolverOptions.{LinearSolverOptions}
 use Rattle.solver.specs.declared.statistics.MultigridLevelStatistics.{MultigridLevelStatistics}
 use Rattle.solver.specs.Statistics.{unvisited}
@@ -63,16 +63,16 @@ back_on t l h e = left_on l h e
 
 -- ---- the calls
 
-pub build_over : {w z : List ℕ} {F G : List Float} {table : List MultigridLevelStatistics} {lent : ℕ} {S S' : List ℕ} {x : Input} {r : Built} → table ≡ records_in S → lent ≡ records_lent S
+pub build_over : {w z : List ℕ} {F G : List Float} {table : List MultigridLevelStatistics} {lent : ℕ} {S S' : List ℕ} {x : Input} {r : Result Handle Refusal} → table ≡ records_in S → lent ≡ records_lent S
     → BuildLent w z F G table lent S S' x r → BuildOver w z F G S S' x r
 build_over {w} {z} {F} {G} {table} {lent} {S} {S'} {x} {r} e f d =
     subst (λ (n : ℕ). BuildLent w z F G (records_in S) n S S' x r) f (subst (λ (t : List MultigridLevelStatistics). BuildLent w z F G t lent S S' x r) e d)
 
-pub solve_over : {h : Handle} {w : List ℕ} {F G : List Float} {table : List MultigridLevelStatistics} {lent : ℕ} {S S' : List ℕ} {rhs x y : List Float} {s : LinearSolverOptions} {r : Solved}
+pub solve_over : {h : Handle} {w : List ℕ} {F G : List Float} {table : List MultigridLevelStatistics} {lent : ℕ} {S S' : List ℕ} {rhs x y : List Float} {s : LinearSolverOptions} {r : Result LinearSolveReport Refusal}
     → table ≡ records_in S → lent ≡ records_lent S → SolveLent h w F G table lent S S' rhs x y s r → SolveOver h w F G S S' rhs x y s r
 solve_over {h} {w} {F} {G} {table} {lent} {S} {S'} {rhs} {x} {y} {s} {r} e f d =
     subst (λ (n : ℕ). SolveLent h w F G (records_in S) n S S' rhs x y s r) f (subst (λ (t : List MultigridLevelStatistics). SolveLent h w F G t lent S S' rhs x y s r) e d)
 
-pub update_over : {h : Handle} {w : List ℕ} {F G : List Float} {lent n : ℕ} {offsets columns : List ℕ} {values : List Float} {r : Updated} → lent ≡ n
+pub update_over : {h : Handle} {w : List ℕ} {F G : List Float} {lent n : ℕ} {offsets columns : List ℕ} {values : List Float} {r : Result Unit Refusal} → lent ≡ n
     → UpdateCall h w F G lent offsets columns values r → UpdateCall h w F G n offsets columns values r
 update_over {h} {w} {F} {G} {lent} {n} {offsets} {columns} {values} {r} e d = subst (λ (k : ℕ). UpdateCall h w F G k offsets columns values r) e d

@@ -1,9 +1,8 @@
 -- Where a cell stands along each axis, and so which faces it has. Assumes nothing.
-use Rattle.std.proofs.Common.{◌≡◌, ℕ, ◌+◌, ◌-◌, ◌*◌, ◌/◌, ◌%◌, ◌<◌, ◌≤◌, Bool, ltb, sym, refl, ap, ◌∙◌, mod-eq_of_lt, one-mul, zero-add, mul-one, mul-add, div-one, arith}
+use Rattle.std.proofs.Common.{◌≡◌, ℕ, ◌+◌, ◌*◌, ◌/◌, ◌%◌, ◌<◌, ◌≤◌, ltb, sym, ap, ◌∙◌, mod-eq_of_lt, one-mul, zero-add, mul-one, mul-add, div-one, arith}
 use native.Mathlib.Nat.{div-eq_of_lt, add-mul-div_left, add-mul-mod_self_left, div-div-eq-div-mul}
 use Rattle.load.specs.declared.cells.Extents.{Extents}
 use Rattle.load.specs.declared.cells.Cell.{Cell}
-use Rattle.load.specs.declared.cells.Faces.{Faces}
 use Rattle.load.specs.Box.{along, has_ahead, has_behind}
 use Rattle.load.specs.Steps.{axis₀, axis₁, axis₂, Few, Placed, FacesAre}
 

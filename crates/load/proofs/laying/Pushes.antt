@@ -1,9 +1,9 @@
 -- Entries pushed one after the other, and mirrors read. Assumes nothing.
-use Rattle.std.proofs.Common.{◌≡◌, ℕ, zero, suc, ◌+◌, ◌-◌, ◌*◌, ◌<◌, ◌≤◌, Bool, true, false, cond, List, [], ◌∷◌, ◌++◌, length, set, sym, refl, ap, ◌∙◌, suc-add, zero-add, add-one, arith, length-append, length-set}
+use Rattle.std.proofs.Common.{◌≡◌, ℕ, zero, suc, ◌+◌, ◌-◌, ◌*◌, ◌<◌, ◌≤◌, Bool, true, false, cond, List, [], ◌∷◌, ◌++◌, length, set, sym, refl, ap, ◌∙◌, suc-add, zero-add, arith, length-append, length-set}
+use mir.Val.{bool_byte}
 use lib.Ieee.{Float}
-use Rattle.float.specs.Float.{zero64}
 use Rattle.store.specs.Region.{at, idx, lay, splice}
-use Rattle.store.proofs.store.Region.{splice_nil, length_splice}
+use Rattle.store.proofs.store.Region.{splice_nil}
 use Rattle.load.specs.declared.cells.Extents.{Extents}
 use Rattle.load.specs.declared.cells.Faces.{Faces}
 use Rattle.load.specs.Steps.{optional, one, count_of, MirrorOk, mirror_at, MirrorsAre, RoomFor, Pushed}
@@ -165,3 +165,8 @@ pub mirrors_are : {e : Extents} {i down deeper : ℕ} {f : Faces} {offsets : Lis
     → up ≡ mirror_at f.up i e.width (1 + deeper) offsets values → shallower ≡ mirror_at f.shallower i (e.width * e.height) 1 offsets values
     → MirrorsAre e i f offsets values (record { left = left; up = up; shallower = shallower })
 mirrors_are a b x y z = record { left = rw (a, b) at x; up = rw b at y; shallower = z }
+
+-- A yes or no as a number.
+pub byte_one : (there : Bool) → bool_byte there ≡ one there
+byte_one true = refl
+byte_one false = refl

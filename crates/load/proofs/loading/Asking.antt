@@ -1,5 +1,6 @@
 -- The question of a load, and what is written of one. Assumes nothing.
-use Rattle.std.proofs.Common.{◌≡◌, ℕ, zero, suc, ◌+◌, ◌-◌, ◌*◌, ◌/◌, ◌<◌, ◌≤◌, Bool, true, false, cond, not, ◌&&◌, eqb, ltb, leb, List, [], ◌∷◌, ◌++◌, map, length, set, sym, refl, ap, ◌∙◌, ap₂, ⊎_elim, mul_assoc, mul_comm, div-lt_iff_lt-mul, mul-pos, mul-zero, zero-mul, mul-one, mul-suc, add-one, arith, length-set, ltb-true, lt-ltb, eq-eqb, ne_eqb, le-leb, leb-false, leb-true}
+use Rattle.std.specs.Prelude.{Result, Ok, Err}
+use Rattle.std.proofs.Common.{◌≡◌, ℕ, zero, suc, ◌+◌, ◌*◌, ◌/◌, ◌<◌, ◌≤◌, Bool, true, false, not, ◌&&◌, eqb, ltb, leb, List, [], ◌∷◌, ◌++◌, map, length, set, sym, refl, ap, ◌∙◌, ap₂, subst, ⊎_elim, mul_assoc, mul_comm, div-lt_iff_lt-mul, mul-pos, mul-zero, zero-mul, mul-one, mul-suc, add-one, arith, length-set, ltb-true, lt-ltb, eq-eqb, ne_eqb, le-leb, leb-true}
 use lib.Ieee.{Float, binary64, of_int}
 use borrow.Author.Tests.{lt-leb}
 use Rattle.store.specs.Region.{splice}
@@ -7,16 +8,14 @@ use Rattle.store.specs.Vector.{tab}
 use Rattle.store.proofs.store.Region.{le_or_lt, set_splice_end}
 use Rattle.store.proofs.store.Vector.{length_tab}
 use Rattle.store.proofs.store.Each.{both_l, both_r}
-use Rattle.pattern.proofs.pattern.Number.{not_both}
 use Rattle.load.specs.declared.cells.Extents.{Extents}
 use Rattle.load.specs.declared.laying.Reached.{Reached}
-use Rattle.load.specs.declared.loading.Asked.{Asked}
-use Rattle.load.specs.declared.loading.Loaded.{Loaded}
+use Rattle.refusal.specs.declared.Refusal.{Refusal}
 use Rattle.refusal.specs.Refusal.{bad_load}
 use Rattle.load.specs.Box.{Grid, cells_of, all_positive, extents_ok}
 use Rattle.load.specs.Load.{joined, columns_in, wholes_in, row_start, wholes_of, values_of, Room, room_ok, load_of}
 use Rattle.load.specs.Call.{room_of, Loading}
-use Rattle.load.specs.Steps.{list_of, grid_of, Few, CellsOk, CellsDone, capped, Writable, AskedOf, Written}
+use Rattle.load.specs.Steps.{list_of, grid_of, Few, CellsOk, CellsDone, capped, Writable, is_load, AskedOf, Written}
 use Rattle.load.proofs.Lists.{length_joined}
 use Rattle.load.proofs.Rows.{start_small}
 
@@ -128,48 +127,52 @@ module _ (e : Extents) where
 -- ---- the question
 
 module _ (seed : ℕ) (e : Extents) (room : Room) where
-  abbrev none : Asked
-  none = record { ok = false; cells = 0; entries = 0 }
-
-  no : {A : Type 0} → false ≡ true → A
-  no t = absurd (not_both t refl)
-
   -- A zero seed has no load,
-  pub asked_seed : seed ≡ 0 → AskedOf seed e room none
-  asked_seed z = record { is = rw (eq-eqb seed 0 z) refl; good = λ t. no t }
+  pub asked_seed : seed ≡ 0 → AskedOf seed e room (Err bad_load)
+  asked_seed z = (rw (eq-eqb seed 0 z) refl, refl)
 
   -- nor have extents that are wrong.
-  pub asked_cells : (n : ℕ) → n ≡ capped (e.width * e.height * e.depth) → n ≡ 0 → AskedOf seed e room none
-  asked_cells n c z = record { is = rw (extents_wrong e (sym c ∙ z)) (go (not (eqb seed 0))); good = λ t. no t }
+  pub asked_cells : (n : ℕ) → n ≡ capped (e.width * e.height * e.depth) → n ≡ 0 → AskedOf seed e room (Err bad_load)
+  asked_cells n c z = (rw (extents_wrong e (sym c ∙ z)) (go (not (eqb seed 0))), refl)
     where
-      go : (b : Bool) → false ≡ ((b && false) && room_ok (grid_of e) room)
+      go : (b : Bool) → ((b && false) && room_ok (grid_of e) room) ≡ false
       go true = refl
       go false = refl
 
   -- Else it is a matter of room.
-  pub asked_room : (n entries : ℕ) → (seed ≡ 0 → ⊥) → n ≡ capped (e.width * e.height * e.depth) → (n ≡ 0 → ⊥) → entries ≡ row_start (grid_of e) n
-      → AskedOf seed e room (record { ok = (leb (n + 1) room.offsets && leb entries room.columns) && leb entries room.values; cells = n; entries = entries })
-  unfolding room_ok
-  asked_room n entries some c cs counted =
-      let few = few_of e n c cs in
-      let same : n ≡ cells_of (list_of e) = few.1 ∙ sym (cells_are e) in
-      record {
-        is = rw (ne_eqb seed 0 some, extents_right e few.0, counted, same) refl;
-        good = λ t.
-            let x = leb (n + 1) room.offsets in
-            let y = leb entries room.columns in
-            let z = leb entries room.values in
-            let xy = both_l (x && y) z t in
-            record {
-              few = few.0;
-              all = few.1;
-              same = same;
-              counted = counted;
-              offsets = leb-true (n + 1) room.offsets (both_l x y xy);
-              columns = leb-true entries room.columns (both_r x y xy);
-              values = leb-true entries room.values (both_r (x && y) z t);
-            };
-      }
+  module _ (n entries : ℕ) (some : seed ≡ 0 → ⊥) (c : n ≡ capped (e.width * e.height * e.depth)) (cs : n ≡ 0 → ⊥)
+      (counted : entries ≡ row_start (grid_of e) n) where
+    abbrev fits : Bool
+    fits = (leb (n + 1) room.offsets && leb entries room.columns) && leb entries room.values
+
+    same : n ≡ cells_of (list_of e)
+    same = (few_of e n c cs).1 ∙ sym (cells_are e)
+
+    fits_is : fits ≡ is_load seed e room
+    unfolding room_ok
+    fits_is = rw (ne_eqb seed 0 some, extents_right e (few_of e n c cs).0, counted, same) refl
+
+    pub asked_room : fits ≡ true → AskedOf seed e room (Ok n)
+    asked_room t =
+        let few = few_of e n c cs in
+        let x = leb (n + 1) room.offsets in
+        let y = leb entries room.columns in
+        let z = leb entries room.values in
+        let xy = both_l (x && y) z t in (
+          sym fits_is ∙ t,
+          record {
+            few = few.0;
+            all = few.1;
+            same = same;
+            counted = refl;
+            offsets = leb-true (n + 1) room.offsets (both_l x y xy);
+            columns = rw counted at (leb-true entries room.columns (both_r x y xy));
+            values = rw counted at (leb-true entries room.values (both_r (x && y) z t));
+          },
+        )
+
+    pub asked_short : fits ≡ false → AskedOf seed e room (Err bad_load)
+    asked_short t = (sym fits_is ∙ t, refl)
 
 -- ---- what is written
 
@@ -183,17 +186,10 @@ pub cells_ok : {e : Extents} {cells : ℕ} {room : Room} → Writable e cells (r
     → CellsOk e cells room.offsets room.columns room.values
 cells_ok w = record { few = w.few; all = w.all; offsets = w.offsets; room = w.columns; places = w.values }
 
--- The entries counted are those of the definition.
-pub writable_same : {e : Extents} {cells entries : ℕ} {room : Room} → Writable e cells entries room → Writable e cells (row_start (grid_of e) cells) room
-writable_same w = record {
-  few = w.few;
-  all = w.all;
-  same = w.same;
-  counted = refl;
-  offsets = w.offsets;
-  columns = rw w.counted at w.columns;
-  values = rw w.counted at w.values;
-}
+-- What is written passed the question.
+pub asked_good : (seed : ℕ) (e : Extents) (room : Room) {a : Result ℕ Refusal} {cells : ℕ} → AskedOf seed e room a → a ≡ Ok cells
+    → (is_load seed e room ≡ true) × Writable e cells (row_start (grid_of e) cells) room
+asked_good seed e room asked ok = subst (AskedOf seed e room) ok asked
 
 -- The rows' end fits a word.
 pub end_small : {seed : ℕ} {e : Extents} {cells : ℕ} {O O' C C' : List ℕ} {F F' : List Float} {r : Reached} → CellsDone seed e cells O O' C C' F F' r
@@ -224,25 +220,27 @@ written {seed} {e} {cells} {O} {O'} {C} {C'} {F} {F'} {r} d =
 -- ---- the call
 
 -- A load that is made.
-pub loading_made : {seed : ℕ} {e : Extents} {a : Asked} {O O' C C' : List ℕ} {F F' : List Float} {r : ℕ} → AskedOf seed e (room_of O C F) a → a.ok ≡ true
-    → Written seed e a.cells O O' C C' F F' r → Loading (load_of seed (list_of e) (room_of O C F)) O O' C C' F F' (Loaded.Made (record { rows = a.cells; entries = r }))
+pub loading_made : (seed : ℕ) (e : Extents) {a : Result ℕ Refusal} {cells : ℕ} {O O' C C' : List ℕ} {F F' : List Float} {r : ℕ} → AskedOf seed e (room_of O C F) a → a ≡ Ok cells
+    → Written seed e cells O O' C C' F F' r → Loading (load_of seed (list_of e) (room_of O C F)) O O' C C' F F' (Ok (record { rows = cells; entries = r }))
 unfolding wholes_of values_of
-loading_made {seed} {e} {a} {O} {C = C} {F = F} {r = r} asked ok w =
+loading_made seed e {a} {cells} {O} {C = C} {F = F} {r = r} asked ok w =
     let m = grid_of e in
-    let yes : (not (eqb seed 0) && extents_ok (list_of e) && room_ok m (room_of O C F)) ≡ true = sym asked.is ∙ ok in
-    let same : a.cells ≡ cells_of (list_of e) = (asked.good ok).same in
+    let good = asked_good seed e (room_of O C F) asked ok in
+    let yes : (not (eqb seed 0) && extents_ok (list_of e) && room_ok m (room_of O C F)) ≡ true = good.0 in
+    let same : cells ≡ cells_of (list_of e) = good.1.same in
     let long : r ≡ length (joined (columns_in m) (cells_of (list_of e))) =
     w.end ∙ ap (row_start m) same ∙ unfold_start m (cells_of (list_of e)) in
     rw yes (record {
-      answer = ap₂ (λ (x y : ℕ). Loaded.Made (record { rows = x; entries = y })) same long;
+      answer = ap₂ (λ (x y : ℕ). Ok (record { rows = x; entries = y })) same long;
       offsets = w.offsets ∙ ap (λ (n : ℕ). splice 0 (tab (row_start m) (n + 1)) O) same;
       columns = w.columns ∙ ap (λ (n : ℕ). splice 0 (joined (columns_in m) n) C) same;
       values = w.values ∙ ap (λ (n : ℕ). splice 0 (map (of_int binary64) (joined (wholes_in seed m) n)) F) same;
     })
 
 -- One that is refused.
-pub loading_refused : {seed : ℕ} {e : Extents} {a : Asked} {O C : List ℕ} {F : List Float} → AskedOf seed e (room_of O C F) a → a.ok ≡ false
-    → Loading (load_of seed (list_of e) (room_of O C F)) O O C C F F (Loaded.Refused bad_load)
-loading_refused {seed} {e} {a} {O} {C} {F} asked ok =
-    let nope : (not (eqb seed 0) && extents_ok (list_of e) && room_ok (grid_of e) (room_of O C F)) ≡ false = sym asked.is ∙ ok in
-    rw nope (record { answer = refl; offsets = refl; columns = refl; values = refl })
+pub loading_refused : (seed : ℕ) (e : Extents) {a : Result ℕ Refusal} {q : Refusal} {O C : List ℕ} {F : List Float} → AskedOf seed e (room_of O C F) a → a ≡ Err q
+    → Loading (load_of seed (list_of e) (room_of O C F)) O O C C F F (Err q)
+loading_refused seed e {a} {q} {O} {C} {F} asked err =
+    let told : (is_load seed e (room_of O C F) ≡ false) × (q ≡ bad_load) = subst (AskedOf seed e (room_of O C F)) err asked in
+    let nope : (not (eqb seed 0) && extents_ok (list_of e) && room_ok (grid_of e) (room_of O C F)) ≡ false = told.0 in
+    rw (told.1, nope) (record { answer = refl; offsets = refl; columns = refl; values = refl })

@@ -3,7 +3,7 @@
 use mathlib.Core.Path.{◌≡◌, refl, sym, ap, ◌∙◌}
 use mathlib.Core.List.{List}
 use Prim.Native.Nat.{ℕ, ◌+◌, ◌≤◌, ◌<◌}
-use native.Mathlib.Nat.{add_assoc}
+use native.Mathlib.Nat.{add_assoc, add-zero}
 use native.Mathlib.Omega.{arith}
 use lib.ListN.{length, set, length-set}
 use lib.Ieee.{Float}
@@ -46,12 +46,14 @@ module _ (op : Float → Float → Float) (w : List ℕ) (s : SymmetricMatrix) (
     pub from : lo ≡ start_of w s row
 
 module _ {op : Float → Float → Float} {w : List ℕ} {s : SymmetricMatrix} {x out : ℕ} where
-  -- One face, as the code has it: its neighbour j is known by an equation.
-  pub faced_one : {e j : ℕ} {own t : Float} {F : List Float} → j ≡ idx w (s.neighbors + e)
-      → Faced op w s x out e (e + 1) own F t (set F (out + j) (op (at F (out + j)) (mul64 (at F (s.coefficients + e)) own)))
-      (op t (mul64 (at F (s.coefficients + e)) (at F (x + j))))
+  -- One face, as the code has it: its neighbour j, the owner's value r and the neighbour's u are known by equations.
+  pub faced_one : {e j : ℕ} {own t r u : Float} {F : List Float} → j ≡ idx w (s.neighbors + e)
+      → r ≡ op t (mul64 (at F (s.coefficients + e)) (at F (x + j)))
+      → u ≡ op (at F (out + j)) (mul64 (at F (s.coefficients + e)) own)
+      → Faced op w s x out e (e + 1) own F t (set F (out + j) u) r
   unfolding face_turn
-  faced_one {e} {j} {own} {t} {F} h = record { is = rw h (sym (for_one (face_turn op w s x out own) e (record { vector = F; owner = t }))) }
+  faced_one {e} {j} {own} {t} {r} {u} {F} h k l =
+      record { is = rw (k, l, h) (sym (for_one (face_turn op w s x out own) e (record { vector = F; owner = t }))) }
 
   module _ {own t r : Float} {F G : List Float} where
     -- What it leaves is a turn of the loop,
@@ -98,8 +100,8 @@ module _ {op : Float → Float → Float} {w : List ℕ} {s : SymmetricMatrix} {
   rowed {row} a b e = record { is = ap (λ (t : Owned). set t.vector (out + row) t.owner) (rw (a, b) at e.is); next = rw add_assoc at b }
 
   -- At the start the whole is left.
-  pub spreading_start : {lo : ℕ} {F : List Float} → lo ≡ start_of w s 0 → Spreading op w s x out F 0 F lo
-  spreading_start e = record { size = refl; left = left_start; from = e }
+  pub spreading_start : {lo : ℕ} {F : List Float} → lo ≡ idx w s.offsets → Spreading op w s x out F 0 F lo
+  spreading_start e = record { size = refl; left = left_start; from = rw add-zero e }
 
   module _ {row lo : ℕ} {F G : List Float} (i : Spreading op w s x out F row G lo) where
     -- A row.

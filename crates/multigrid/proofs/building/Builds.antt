@@ -1,6 +1,7 @@
 -- What an answer tells of a build: how many levels there are, the rows that it gives its call, and that weights which are not given play no
 -- part.
 -- Assumes nothing.
+use Rattle.std.specs.Prelude.{Result, Ok, Err}
 use mathlib.Core.Path.{◌≡◌, refl, sym, ap, ◌∙◌}
 use mathlib.Core.Bool.{false}
 use mathlib.Core.List.{List, []}
@@ -15,7 +16,6 @@ use Rattle.refusal.specs.Outcome.{Outcome, accepted, refused}
 use Rattle.hierarchy.specs.Level.{Hierarchy}
 use Rattle.hierarchy.specs.Build.{Lent, Input, build_of}
 use Rattle.layout.specs.Layout.{view_of}
-use Rattle.solver.specs.declared.answers.Built.{Built}
 use Rattle.solver.specs.declared.answers.BuildRun.{BuildRun}
 use Rattle.build.specs.Built.{handle_of, built_of, lent_of, BuildDone}
 use Rattle.build.specs.Steps.{input_of}
@@ -28,38 +28,38 @@ use Rattle.multigrid.proofs.building.Reading.{cells_are}
 -- ---- the answer
 
 -- Only an accepted build answers with a handle, and with its own,
-pub made_is : (x : Input) {h : Handle} (out : Outcome Hierarchy) → Built.Made h ≡ built_of x out
+pub made_is : (x : Input) {h : Handle} (out : Outcome Hierarchy) → Ok h ≡ built_of x out
     → (k : Hierarchy) × (out ≡ accepted k) × (h ≡ handle_of x k)
 made_is x (accepted k) e = (k, refl, cc)
 made_is x (refused q) e = absurd (let none : ◌≡◌ {A = ℕ} 0 1 = cc in omega arith)
 
 -- and only a refused one with a refusal.
-pub refused_is : (x : Input) {q : Refusal} (out : Outcome Hierarchy) → Built.Refused q ≡ built_of x out → out ≡ refused q
+pub refused_is : (x : Input) {q : Refusal} (out : Outcome Hierarchy) → Err q ≡ built_of x out → out ≡ refused q
 refused_is x (accepted k) e = absurd (let none : ◌≡◌ {A = ℕ} 0 1 = cc in omega arith)
 refused_is x (refused q) e = cc
 
 -- ---- the levels
 
-module _ {w z : List ℕ} {F G : List Float} {records : ℕ} {x : Input} {r : Built} (d : BuildDone w z F G x records r) where
+module _ {w z : List ℕ} {F G : List Float} {records : ℕ} {x : Input} {r : Result Handle Refusal} (d : BuildDone w z F G x records r) where
   -- A build has at most 128 levels, and a record was lent for each.
   pub levels_few : (k : Hierarchy) → build_of (lent_of w F records) x ≡ accepted k → (length k.levels ≤ 128) × (length k.levels ≤ records)
   levels_few k e = sound_few (handle_of x k) z (length G) records
       (built_sound (lent_of w F records) x e z G (d.view k e) (d.fits k e) d.wordsize d.floatsize)
 
   -- The rows of a handle's levels can be read.
-  pub cells_ok : {h : Handle} → r ≡ Built.Made h → CellsOk z h.levels
+  pub cells_ok : {h : Handle} → r ≡ Ok h → CellsOk z h.levels
   cells_ok {h} e =
       let m = made_is x (build_of (lent_of w F records) x) (sym e ∙ d.answer) in
       let levels : h.levels ≡ length m.0.levels = ap (λ (k : Handle). k.levels) m.2 in
       record { fits = rw levels (d.fits m.0 m.1); few = rw levels (levels_few m.0 m.1).0 }
 
   -- The answer as it is told.
-  told : {b : Built} → r ≡ b → BuildDone w z F G x records b
+  told : {b : Result Handle Refusal} → r ≡ b → BuildDone w z F G x records b
   told e = rw e at d
 
   -- Rows that were read are those of the hierarchy.
-  pub ran_made : {h : Handle} {table : List ℕ} → r ≡ Built.Made h → table ≡ table_of (cells_at h.levels z 0)
-      → BuildRan w z F G records x (record { answer = Built.Made h; cells = table })
+  pub ran_made : {h : Handle} {table : List ℕ} → r ≡ Ok h → table ≡ table_of (cells_at h.levels z 0)
+      → BuildRan w z F G records x (record { answer = Ok h; cells = table })
   unfolding table_built view_of
   ran_made {h} {table} e rows =
       let m = made_is x (build_of (lent_of w F records) x) (sym e ∙ d.answer) in
@@ -72,8 +72,8 @@ module _ {w z : List ℕ} {F G : List Float} {records : ℕ} {x : Input} {r : Bu
       }
 
   -- Where the build refuses there are none.
-  pub ran_refused : {q : Refusal} {table : List ℕ} → r ≡ Built.Refused q → table ≡ replicate 128 0
-      → BuildRan w z F G records x (record { answer = Built.Refused q; cells = table })
+  pub ran_refused : {q : Refusal} {table : List ℕ} → r ≡ Err q → table ≡ replicate 128 0
+      → BuildRan w z F G records x (record { answer = Err q; cells = table })
   unfolding table_built
   ran_refused {q} e zeros =
       let none = refused_is x (build_of (lent_of w F records) x) (sym e ∙ d.answer) in

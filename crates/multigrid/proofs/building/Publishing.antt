@@ -1,5 +1,8 @@
 -- A build whose rows are published in the records of the statistics leaves the statistics of its hierarchy.
 -- Assumes nothing.
+use Rattle.options.specs.declared.options.Handle.{Handle}
+use Rattle.refusal.specs.declared.Refusal.{Refusal}
+use Rattle.std.specs.Prelude.{Result}
 use mathlib.Core.Path.{◌≡◌, refl, sym, ap, subst, ◌∙◌}
 use mathlib.Core.List.{List, [], ◌∷◌}
 use mathlib.Core.Logic.{◌⊎◌, inl, inr}
@@ -16,7 +19,6 @@ use Rattle.refusal.specs.Outcome.{Outcome, accepted, refused}
 use Rattle.hierarchy.specs.Level.{Level, Hierarchy}
 use Rattle.hierarchy.specs.Build.{Input, build_of}
 use Rattle.solver.specs.declared.answers.BuildRun.{BuildRun}
-use Rattle.solver.specs.declared.answers.Built.{Built}
 use Rattle.statistics.specs.Contract.{PublishDone}
 use Rattle.solver.specs.declared.statistics.MultigridLevelStatistics.{MultigridLevelStatistics}
 use Rattle.solver.specs.Statistics.{unvisited}
@@ -126,6 +128,6 @@ new_published {w} {z} {F} {G} {s} {t} {x} {run} d p =
     }
 
 -- So it is where `publish` gives the answer.
-pub new_done : {w z : List ℕ} {F G : List Float} {s t : List MultigridLevelStatistics} {x : Input} {run : BuildRun} {r : Built}
+pub new_done : {w z : List ℕ} {F G : List Float} {s t : List MultigridLevelStatistics} {x : Input} {run : BuildRun} {r : Result Handle Refusal}
     → BuildRan w z F G (length s) x run → PublishDone run s t r → NewDone w z F G s t x r
-new_done {w} {z} {F} {G} {s} {t} {x} d p = subst (λ (r : Built). NewDone w z F G s t x r) (sym p.answer) (new_published d p.records)
+new_done {w} {z} {F} {G} {s} {t} {x} d p = subst (λ (r : Result Handle Refusal). NewDone w z F G s t x r) (sym p.answer) (new_published d p.records)

@@ -1,5 +1,8 @@
 -- A solve whose counts are added to the records of its levels leaves the statistics that its call ensures.
 -- Assumes nothing.
+use Rattle.solver.specs.declared.solver.LinearSolveReport.{LinearSolveReport}
+use Rattle.refusal.specs.declared.Refusal.{Refusal}
+use Rattle.std.specs.Prelude.{Result}
 use mathlib.Core.Path.{◌≡◌, refl, sym, ap, subst, ◌∙◌}
 use mathlib.Core.Bool.{true, false}
 use mathlib.Core.List.{List, [], ◌∷◌}
@@ -20,7 +23,6 @@ use Rattle.refusal.proofs.Outcome.{ask_no}
 use Rattle.index_check.specs.Sound.{sound_of}
 use Rattle.iterations.specs.Iterate.{Solution}
 use Rattle.solver.specs.declared.answers.SolveRun.{SolveRun}
-use Rattle.solver.specs.declared.answers.Solved.{Solved}
 use Rattle.statistics.specs.Contract.{CountOk, CountDone}
 use Rattle.solver.specs.declared.statistics.MultigridLevelStatistics.{MultigridLevelStatistics}
 use Rattle.solver.specs.Statistics.{unvisited, counted_at, counted_on}
@@ -141,5 +143,5 @@ solve_count_ok d = record { counted = (counted_few d).0; room = (counted_few d).
 
 -- and with its answer the call ensures the same.
 pub solve_done : {h : Handle} {w : List ℕ} {F G : List Float} {t u : List MultigridLevelStatistics} {rhs x y : List Float} {s : LinearSolverOptions}
-    {run : SolveRun} {r : Solved} → SolveRan h w F G (length t) rhs x y s run → CountDone run t u r → SolveCall h w F G t u rhs x y s r
-solve_done {h} {w} {F} {G} {t} {u} {rhs} {x} {y} {s} d c = subst (λ (r : Solved). SolveCall h w F G t u rhs x y s r) (sym c.answer) (solve_counted d c.records)
+    {run : SolveRun} {r : Result LinearSolveReport Refusal} → SolveRan h w F G (length t) rhs x y s run → CountDone run t u r → SolveCall h w F G t u rhs x y s r
+solve_done {h} {w} {F} {G} {t} {u} {rhs} {x} {y} {s} d c = subst (λ (r : Result LinearSolveReport Refusal). SolveCall h w F G t u rhs x y s r) (sym c.answer) (solve_counted d c.records)

@@ -12,12 +12,12 @@ use lib.Seq.{get_or-set_same, get_or-set_other}
 use borrow.Author.Tests.{eqb-true, eqb-false, eq-eqb, ne_eqb}
 use Rattle.store.specs.Region.{idx, Wrote, Kept}
 use Rattle.store.specs.Vector.{filled}
-use Rattle.store.proofs.store.Region.{le_or_lt, get_d_splice_in, kept_wrote, kept_on, kept_self}
+use Rattle.store.proofs.store.Region.{le_or_lt, get_d_splice_in, kept_wrote, kept_on}
 use Rattle.store.proofs.store.Vector.{get_d_tab}
 use Rattle.pattern.specs.declared.pattern.Coarsening.{Coarsening}
 use Rattle.pattern.specs.Pattern.{Pattern, row_of, Valid}
 use Rattle.pattern.specs.Coarsening.{fine_at, map_at, PatternOk}
-use Rattle.pattern.specs.Steps.{heads, nexts, marks, seek, first, Standing, Chained, Linked, Links}
+use Rattle.pattern.specs.Steps.{heads, nexts, marks, seek, first, Standing, Chained, Links}
 use Rattle.pattern.proofs.pattern.Number.{same?, under}
 use Rattle.pattern.proofs.pattern.Standing.{kept_set, standing_at, standing_on, settle}
 use Rattle.pattern.proofs.pattern.Row.{offset_mono, row_is, row_between}
@@ -187,17 +187,9 @@ links_start {w} {z} {c} ok f =
       follows = λ j a b. absurd (omega arith);
     }) (omega arith)
 
--- What stands is linked.
-pub links_here : {w : List ℕ} {c : Coarsening} {i : ℕ} → Linked w c i → Links w w c i
-links_here s = record { state = s; kept = kept_self }
-
 -- Steps follow one another.
 pub links_then : {w y z : List ℕ} {c : Coarsening} {i j : ℕ} → Links w y c i → Links y z c j → Links w z c j
 links_then g h = record { state = h.state; kept = kept_on g.kept h.kept }
-
--- At 0 all rows are chained.
-pub links_end : {w z : List ℕ} {c : Coarsening} {i : ℕ} → Links w z c i → i ≤ 0 → Links w z c 0
-links_end {w} {z} {c} {i} g h = let q : 0 ≡ i = omega arith in subst (Links w z c) (sym q) g
 
 module _ {w y : List ℕ} {c : Coarsening} {i k : ℕ} (g : Links w y c i) (h : 0 < i) (below : k ≡ i - 1) where
   -- The aggregate of the next row down.

@@ -1,6 +1,6 @@
 -- Two maps one after the other, in place: a turn of the loop, and what the loop leaves.
 -- Assumes nothing.
-use mathlib.Core.Path.{◌≡◌, refl, sym, ap, ◌∙◌}
+use mathlib.Core.Path.{◌≡◌, sym, ap, ◌∙◌}
 use mathlib.Core.List.{List}
 use Prim.Native.Nat.{ℕ, ◌+◌, ◌≤◌, ◌<◌}
 use native.Mathlib.Omega.{arith}
@@ -8,7 +8,7 @@ use lib.ListN.{length, get_or, set, length-set}
 use lib.Seq.{get_or-set_other}
 use Rattle.store.specs.Loop.{for}
 use Rattle.store.specs.Region.{idx, part, splice, Wrote}
-use Rattle.store.proofs.store.Loop.{Left, left_start, left_on, left_end}
+use Rattle.store.proofs.store.Loop.{Left, left_on, left_end}
 use Rattle.store.proofs.store.Region.{get_d_part, wrote}
 use Rattle.store.proofs.store.Vector.{length_tab, tab_same, for_each}
 use Rattle.pattern.specs.Pattern.{compose_of}
@@ -23,10 +23,6 @@ pub record Composing (w z : List ℕ) (n map next i : ℕ) : Type 0 where
   pub left : Left (compose_turn map next) i n z (for (compose_turn map next) 0 n w)
   pub rest : (k : ℕ) → i ≤ k → idx z (map + k) ≡ idx w (map + k)
   pub size : length z ≡ length w
-
--- At the start the whole is left.
-pub compose_start : {w : List ℕ} {n map next : ℕ} → Composing w w n map next 0
-compose_start = record { left = left_start; rest = λ k h. refl; size = refl }
 
 module _ {w z : List ℕ} {n map next count i : ℕ} (ok : ComposeOk w n map next count)
     (s : Composing w z n map next i) where

@@ -18,7 +18,7 @@ use Rattle.store.proofs.store.Region.{le_or_lt, get_d_splice_in, get_d_splice_be
 use Rattle.store.proofs.store.Vector.{get_d_tab}
 use Rattle.pattern.specs.declared.pattern.Coarsening.{Coarsening}
 use Rattle.pattern.specs.Pattern.{some, Pattern, column_of, row_of, joins}
-use Rattle.pattern.specs.Steps.{joins_by, start, marks, Listed, joins_to, Gathering, GatheringAt, Gathered, SlotOk, Slotted, MeetOk, EntriesOk, RowOk, Linked}
+use Rattle.pattern.specs.Steps.{joins_by, start, marks, Listed, joins_to, Gathering, GatheringAt, Gathered, Slotted, MeetOk, EntriesOk, RowOk, Linked}
 use Rattle.pattern.specs.Coarsening.{fine_at, map_at}
 use Rattle.pattern.proofs.pattern.Number.{bool?, not_both, same?, some_at, some_which, some_same, some_skip, some_none, many_none, many_sub, many_more}
 use Rattle.pattern.proofs.pattern.Place.{start_zero, start_step, start_mono}
@@ -214,13 +214,6 @@ module _ {w : List ℕ} {c : Coarsening} {a e r : ℕ} (ok : MeetOk w c a e r) w
           gather_room s h small (sym (s.stamps b small) ∙ ne_eqb (idx w (marks c + b)) (a + 1) new)
           (λ d q. joined_sub (fine_at w c) (map_at w c) a (e + 1) d (omega arith)
           (sym (ap (λ (t : ℕ → Bool). t d) after) ∙ q))
-
-      -- Its mark is written, and then a slot.
-      pub meet_slot : SlotOk (length (set w (marks c + b) (a + 1))) c.positions c.entries b
-      meet_slot =
-          let l = ok.state.standing.layout in
-          let n = small in
-          record { room = rw (length-set w (marks c + b) (a + 1)) (omega arith); small = omega arith }
 
       -- An aggregate that was met in this row: its mark was that already.
       pub meet_old : {z : List ℕ} → Slotted (set w (marks c + b) (a + 1)) z c.positions c.entries r b
@@ -441,11 +434,6 @@ row_few {w} {z} {c} {a} {r} g h =
     let few = joins_few p map c.count in
     let size = g.state.standing.size in
     omega arith
-
--- After the last row all have been.
-pub rows_end : {w z : List ℕ} {c : Coarsening} {a r : ℕ} → Gathered w z c a 0 r → c.count ≤ a
-    → Gathered w z c c.count 0 r
-rows_end {w} {z} {c} {a} {r} g h = let i = g.state.inside in subst (λ (x : ℕ). Gathered w z c x 0 r) (omega arith) g
 
 -- On to the next coarse row.
 pub rows_on : {w y z : List ℕ} {c : Coarsening} {a r s : ℕ} → Gathered w y c a 0 r → a < c.count

@@ -5,11 +5,11 @@ use Rattle.record_order.proofs.judge.Goals as goal
 pub returns-then-b-lt2 : goal.returns-then-b-lt2
 returns-then-b-lt2 c = search (next_short)
 
-pub returns-then-allows : goal.returns-then-allows
-returns-then-allows c = search (next_sized)
+pub returns-in-Some : goal.returns-in-Some
+returns-in-Some c = search (next_sized)
 
-pub returns-else-allows : goal.returns-else-allows
-returns-else-allows c = search (next_misplaced)
+pub returns-in_default : goal.returns-in_default
+returns-in_default c = search (next_misplaced)
 
-pub returns-in-Unknown : goal.returns-in-Unknown
-returns-in-Unknown c = search (next_unknown)
+pub returns-in_default-2 : goal.returns-in_default-2
+returns-in_default-2 c = search (next_unknown)

@@ -1,27 +1,26 @@
--- The turns of the two sums as the code has them, and what the functions above them give.
+-- The terms of the two sums as the code has them, and what the functions above them give.
 -- Assumes nothing.
 use Rattle.std.proofs.Common.{◌≡◌, ℕ, ◌+◌, ◌^◌, ◌<◌, List, pos, refl}
 use lib.Ieee.{Float, binary64, of_bits, of_int, round}
-use Rattle.float.specs.Float.{add64, div64, ratio, max_num}
+use Rattle.float.specs.Float.{div64, ratio, max_num}
 use Rattle.options.specs.declared.options.MultigridResidualNorm.{MultigridResidualNorm}
 use Rattle.store.specs.Region.{at, part}
 use Rattle.store.proofs.store.Region.{get_d_part}
 use Rattle.residual_norm.specs.Measure.{sum_of}
-use Rattle.residual_norm.specs.Turns.{sum_turn, spread_of, spread_at, spreads_of}
+use Rattle.residual_norm.specs.Turns.{spread_of, spread_at, spreads_of}
 use Rattle.residual_norm.specs.Normalization.{mean_of, normalization_of}
 
-module _ (F : List Float) (n row : ℕ) (sum : Float) (h : row < n) where
-  -- A turn of `sum`: an element of the store is one of the region's.
-  pub sum_on : (x : ℕ) → add64 sum (at F (x + row)) ≡ sum_turn (at (part x n F)) row sum
-  unfolding sum_turn
-  sum_on x = simp get_d_part
+module _ (F : List Float) (n row : ℕ) (h : row < n) where
+  -- An element of the store is one of the region's.
+  pub sum_row : (x : ℕ) → at F (x + row) ≡ at (part x n F) row
+  sum_row x = simp get_d_part
 
-  -- A turn of `sum_spreads`: s is the row's spread.
-  pub spread_on : (rhs product rowsums : ℕ) (mean s : Float)
-      → s ≡ spread_of (at F (rhs + row)) (at F (product + row)) (at F (rowsums + row)) mean
-      → add64 sum s ≡ sum_turn (spread_at (part rhs n F) (part product n F) (part rowsums n F) mean) row sum
-  unfolding sum_turn spread_at
-  spread_on rhs product rowsums mean s e = rw e (simp get_d_part)
+  -- A row's spread as the code has it.
+  pub spread_row : (rhs product rowsums : ℕ) (mean : Float)
+      → spread_of (at F (rhs + row)) (at F (product + row)) (at F (rowsums + row)) mean
+      ≡ spread_at (part rhs n F) (part product n F) (part rowsums n F) mean row
+  unfolding spread_at
+  spread_row rhs product rowsums mean = simp get_d_part
 
 -- `mean` as the code has it.
 pub mean_done : (n : ℕ) (x : List Float) {s d : Float} → s ≡ sum_of n (at x) → d ≡ of_int binary64 (pos n)

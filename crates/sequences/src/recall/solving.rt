@@ -2,7 +2,8 @@
 use crate::recall::Agreed;
 use lists::{calls, least, reading, stores};
 use options::Handle;
-use solver::{LinearSolverOptions, LinearSolverStatus, Solved};
+use refusal::Refusal;
+use solver::{LinearSolveReport, LinearSolverOptions, LinearSolverStatus};
 
 // How much of right-hand side and start a solve gets, its controls, and where its answer starts in the text.
 #[derive(Clone, Copy)]
@@ -45,7 +46,7 @@ fn read_solve(text: &[u8], at: usize, rhs: &mut [f64], x: &mut [f64]) -> SolveCa
     SolveCall {
         rhs: n.value as usize,
         start: m.value as usize,
-        options: options,
+        options,
         answer: read.next,
     }
 }
@@ -69,9 +70,9 @@ fn status_number(status: LinearSolverStatus) -> u64 {
     }
 }
 
-fn told_solve(solved: Solved) -> SolveAnswer {
+fn told_solve(solved: Result<LinearSolveReport, Refusal>) -> SolveAnswer {
     match solved {
-        Solved::Report(r) => {
+        Ok(r) => {
             let status = r.status;
             SolveAnswer {
                 number: 0,
@@ -82,7 +83,7 @@ fn told_solve(solved: Solved) -> SolveAnswer {
                 relative: float::to_bits(r.relative_residual),
             }
         }
-        Solved::Refused(q) => SolveAnswer {
+        Err(q) => SolveAnswer {
             number: q.number,
             status: 0,
             iterations: 0,
@@ -102,7 +103,7 @@ fn run_solve(
     statistics: &mut [u64],
     rhs: &[f64],
     x: &mut [f64],
-) -> Solved {
+) -> Result<LinearSolveReport, Refusal> {
     let a = least(s.rhs, rhs.len());
     let b = least(s.start, x.len());
     let options = s.options;

@@ -2,7 +2,7 @@
 use crate::recall::Agreed;
 use lists::{calls, least, reading};
 use options::Handle;
-use solver::Updated;
+use refusal::Refusal;
 
 // How much of each array an update gets, and where its answer starts in the text.
 #[derive(Clone, Copy)]
@@ -43,14 +43,14 @@ struct UpdateAnswer {
     row: u64,
 }
 
-fn told_update(updated: Updated) -> UpdateAnswer {
+fn told_update(updated: Result<(), Refusal>) -> UpdateAnswer {
     match updated {
-        Updated::Done => UpdateAnswer {
+        Ok(()) => UpdateAnswer {
             number: 0,
             level: 0,
             row: 0,
         },
-        Updated::Refused(q) => UpdateAnswer {
+        Err(q) => UpdateAnswer {
             number: q.number,
             level: q.level,
             row: q.row,
@@ -68,7 +68,7 @@ fn run_update(
     words: &[u32],
     floats: &mut [f64],
     statistics: &[u64],
-) -> Updated {
+) -> Result<(), Refusal> {
     let a = least(u.offsets, offsets.len());
     let b = least(u.columns, columns.len());
     let c = least(u.values, values.len());
@@ -86,11 +86,7 @@ fn run_update(
 // Updates have two kinds to each question, refused on the finest level or below it; none refuses in the first.
 fn update_kind(a: UpdateAnswer) -> usize {
     let question = (a.number % 32) as usize;
-    if a.level == 0 {
-        2 * question
-    } else {
-        2 * question + 1
-    }
+    2 * question + usize::from(a.level != 0)
 }
 
 // Whether the answer is the one that is due, which starts at `at`.

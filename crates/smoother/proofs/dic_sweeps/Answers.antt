@@ -1,6 +1,5 @@
 -- `smoother::dic_sweeps` meets its contract. The loop's invariant: x so far, of which what is left makes the whole.
 use mathlib.Core.Path.{refl}
-use Prim.Native.Nat.{◌-◌}
 use Rattle.smoother.proofs.Smoothing.{smooth_resize, dic_start, dic_on, dic_done}
 use borrow.Author.Rules.{rules}
 use Rattle.smoother.proofs.dic_sweeps.Goals as goal

@@ -1,6 +1,5 @@
 -- `smoother::gauss_seidels` meets its contract. The loop's invariant: x so far, of which what is left makes the whole.
 use mathlib.Core.Path.{refl}
-use Prim.Native.Nat.{◌-◌}
 use Rattle.smoother.proofs.Smoothing.{smooth_sweep, gauss_seidel_start, gauss_seidel_on, gauss_seidel_done}
 use borrow.Author.Rules.{rules}
 use Rattle.smoother.proofs.gauss_seidels.Goals as goal

@@ -17,13 +17,13 @@ pub measure-requires : goal.measure-requires
 measure-requires c = norm_ok _ c.requires.ready c.renew.ensures
 
 pub returns-then-initial-threshold : goal.returns-then-initial-threshold
-returns-then-initial-threshold c = attempt_done _ c.requires.ready c.renew.ensures c.normalization-factor.ensures c.requires.zeros _ (sym c.is_finite.ensures ∙ c.if-not-is_finite.false) c.measure.ensures c.in-Finite.is c.threshold-threshold.ensures c.if-initial-threshold.true c.report.ensures
+returns-then-initial-threshold c = attempt_done _ c.requires.ready c.renew.ensures c.normalization-factor.ensures c.requires.zeros _ (sym c.is_finite.ensures ∙ c.if-not-is_finite.false) c.measure.ensures c.in-Some.is c.threshold-threshold.ensures c.if-initial-threshold.true c.report.ensures
 
 pub iterate-requires : goal.iterate-requires
 iterate-requires c = iterate_ok _ c.requires.ready c.renew.ensures
 
 pub returns-else-initial-threshold : goal.returns-else-initial-threshold
-returns-else-initial-threshold c = attempt_on _ c.requires.ready c.renew.ensures c.normalization-factor.ensures c.requires.zeros _ (sym c.is_finite.ensures ∙ c.if-not-is_finite.false) c.measure.ensures c.in-Finite.is c.threshold-threshold.ensures c.if-initial-threshold.false c.iterate.ensures
+returns-else-initial-threshold c = attempt_on _ c.requires.ready c.renew.ensures c.normalization-factor.ensures c.requires.zeros _ (sym c.is_finite.ensures ∙ c.if-not-is_finite.false) c.measure.ensures c.in-Some.is c.threshold-threshold.ensures c.if-initial-threshold.false c.iterate.ensures
 
-pub returns-in-NotFinite : goal.returns-in-NotFinite
-returns-in-NotFinite c = attempt_bad _ c.requires.ready c.renew.ensures c.normalization-factor.ensures c.requires.zeros _ (sym c.is_finite.ensures ∙ c.if-not-is_finite.false) c.measure.ensures c.in-NotFinite.is
+pub returns-in-None : goal.returns-in-None
+returns-in-None c = attempt_bad _ c.requires.ready c.renew.ensures c.normalization-factor.ensures c.requires.zeros _ (sym c.is_finite.ensures ∙ c.if-not-is_finite.false) c.measure.ensures c.in-None.is

@@ -16,14 +16,14 @@ attempt-requires c = attempt_ok c.requires c.regions-g.ensures c.enter.ensures.f
 pub copy_out-requires : goal.copy_out-requires
 copy_out-requires c = omega (arith, leave_ok _ _ _ _ c.requires c.regions-g.ensures c.enter.ensures c.attempt.ensures)
 
-pub returns-in-Report : goal.returns-in-Report
-returns-in-Report c = begin_yes _ _ _ _ c.requires c.regions-g.ensures c.enter.ensures c.attempt.ensures c.in-Report.is c.copy_out.ensures
+pub returns-in-Ok : goal.returns-in-Ok
+returns-in-Ok c = begin_yes _ _ _ _ c.requires c.regions-g.ensures c.enter.ensures c.attempt.ensures c.in-Ok.is c.copy_out.ensures
 
-pub returns-in-Refused : goal.returns-in-Refused
-returns-in-Refused c =
+pub returns-in-Err : goal.returns-in-Err
+returns-in-Err c =
     let at-q = c in
     let at-attempt = at-q in
     let at-enter = at-attempt in
     let at-regions = at-enter in
     let start = at-regions in
-    begin_no _ _ _ _ start.requires at-regions.regions-g.ensures at-enter.enter.ensures at-attempt.attempt.ensures at-q.in-Refused.is c.refused.ensures
+    begin_no _ _ _ _ start.requires at-regions.regions-g.ensures at-enter.enter.ensures at-attempt.attempt.ensures at-q.in-Err.is c.refused.ensures

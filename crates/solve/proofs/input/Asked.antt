@@ -1,5 +1,6 @@
 -- Questions 20 and 21: a law for each way out, and what their answer tells.
 -- Assumes nothing.
+use Rattle.std.specs.Prelude.{Ok, Err}
 use mathlib.Core.Path.{◌≡◌, refl, ◌∙◌}
 use mathlib.Core.Bool.{Bool, true, false, ◌&&◌}
 use mathlib.Core.List.{List}
@@ -15,7 +16,6 @@ use Rattle.solver.specs.declared.solver.LinearSolverOptions.{LinearSolverOptions
 use Rattle.options.specs.Options.{tolerable}
 use Rattle.refusal.specs.declared.Refusal.{Refusal}
 use Rattle.refusal.specs.Refusal.{wrong_length, bad_input}
-use Rattle.refusal.specs.declared.Verdict.{Verdict}
 use Rattle.refusal.specs.Outcome.{Outcome, accepted, refused, ask, verdict_of}
 use Rattle.refusal.proofs.Outcome.{ask_yes}
 use Rattle.vector.specs.Finite.{all_finite}
@@ -42,21 +42,21 @@ asked_yes a b y out e = let t = both_asked a b y e in ask_yes _ _ _ t.0 ∙ ask_
 
 module _ (n : ℕ) (s : LinearSolverOptions) (rhs x : List Float) where
   -- Question 20 of the right-hand side,
-  pub ask_rhs : (length rhs ≡ n → ⊥) → Verdict.Refused wrong_length ≡ verdict_of (asked_of n s rhs x)
+  pub ask_rhs : (length rhs ≡ n → ⊥) → Err wrong_length ≡ verdict_of (asked_of n s rhs x)
   ask_rhs other = rw (ne_eqb (length rhs) n other)
 
   module _ (long : length rhs ≡ n) where
     -- and of the solution.
-    pub ask_x : (length x ≡ n → ⊥) → Verdict.Refused wrong_length ≡ verdict_of (asked_of n s rhs x)
+    pub ask_x : (length x ≡ n → ⊥) → Err wrong_length ≡ verdict_of (asked_of n s rhs x)
     ask_x other = rw (eq-eqb (length rhs) n long, ne_eqb (length x) n other)
 
     module _ (wide : length x ≡ n) {b : Bool} (is : b ≡ input_ok s rhs x) where
       -- Question 21.
-      pub ask_bad : b ≡ false → Verdict.Refused bad_input ≡ verdict_of (asked_of n s rhs x)
+      pub ask_bad : b ≡ false → Err bad_input ≡ verdict_of (asked_of n s rhs x)
       ask_bad fails = rw (eq-eqb (length rhs) n long, eq-eqb (length x) n wide, ← is, fails)
 
       -- Both pass.
-      pub ask_good : b ≡ true → Verdict.Passed ≡ verdict_of (asked_of n s rhs x)
+      pub ask_good : b ≡ true → (Ok tt) ≡ verdict_of (asked_of n s rhs x)
       ask_good holds = rw (eq-eqb (length rhs) n long, eq-eqb (length x) n wide, ← is, holds)
 
 -- A vector is the region of its length.

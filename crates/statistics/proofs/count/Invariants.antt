@@ -1,10 +1,6 @@
 -- Below the depth the records have what the solve counted, from there on they are as they were.
-use Rattle.std.proofs.Common.{◌-◌}
 use Rattle.statistics.proofs.Records.{Counting}
 use Rattle.statistics.proofs.count.Given as goal
 
 abbrev pub invariant-loop-depth : goal.invariant-loop-depth
 invariant-loop-depth l = Counting l.run.counts l.run.levels l.initial.statistics l.depth l.statistics
-
-abbrev pub decreases-loop-depth : goal.decreases-loop-depth
-decreases-loop-depth l = l.levels - l.depth

@@ -1,13 +1,16 @@
 -- Laws of regions: loads and stores in a splice, a part of a splice, a splice of a splice, frames; and of `Wrote` and `Kept`.
 -- Assumes nothing.
 use mathlib.Core.Path.{◌≡◌, refl, sym, ap, ◌∙◌}
-use mathlib.Core.List.{List, [], ◌∷◌, ◌++◌}
+use mathlib.Core.List.{List, [], ◌∷◌, ◌++◌, append_assoc}
 use mathlib.Core.Logic.{◌⊎◌, inl, inr, ⊎_elim}
-use Prim.Native.Nat.{ℕ, zero, suc, ◌+◌, ◌≤◌, ◌<◌, zero-le, suc-le-suc}
+use Prim.Native.Nat.{ℕ, zero, suc, ◌+◌, ◌-◌, ◌≤◌, ◌<◌, zero-le, suc-le-suc}
 use native.Mathlib.Nat.{le_of_suc-le-suc, not-suc-le-zero, suc-add, zero-add, suc_inj}
 use native.Mathlib.Omega.{arith}
 use lib.ListN.{length, get_or, set, take, drop, length-drop}
-use lib.Seq.{get_or-drop, get_or-take, length-take-le, take-nil, take-take}
+use lib.Seq.{get_or-drop, get_or-take, length-take-le, take-nil, take-take, paste, take_all}
+use borrow.Rule.Slice.PartMut.{put_mid}
+use Rattle.std.proofs.lemmas.List.{take-append-le, drop-append-le}
+use Rattle.std.proofs.lemmas.Slice.{put_mid-paste}
 use Rattle.store.specs.Region.{Clear, part, lay, splice, Wrote, Kept}
 
 -- Of two numbers one is at most the other.
@@ -230,6 +233,19 @@ module _ {A : Type 0} where
   splice_splice (suc b) u v [] e = refl
   splice_splice (suc b) u v (y ∷ F) e = ap (λ (r : List A). y ∷ r) (splice_splice b u v F e)
 
+  lay_is : (v F : List A) → length v ≤ length F → lay v F ≡ v ++ drop (length v) F
+  unfolding lay
+  lay_is [] F h = refl
+  lay_is (x ∷ v) [] h = absurd (not-suc-le-zero h)
+  lay_is (x ∷ v) (y ∷ F) h = ap (λ (r : List A). x ∷ r) (lay_is v F (le_of_suc-le-suc h))
+
+  -- Where the store has room for it, a splice is what stands below, what is laid, and what stands above.
+  pub splice_is : (b : ℕ) (v F : List A) → b + length v ≤ length F → splice b v F ≡ take b F ++ (v ++ drop (b + length v) F)
+  unfolding splice
+  splice_is zero v F h = rw zero-add (lay_is v F (omega arith))
+  splice_is (suc b) v [] h = absurd (omega arith)
+  splice_is (suc b) v (y ∷ F) h = rw suc-add (ap (λ (r : List A). y ∷ r) (splice_is b v F (omega arith)))
+
   lay_whole : (v F : List A) → length v ≡ length F → lay v F ≡ v
   unfolding lay
   lay_whole [] [] e = refl
@@ -242,6 +258,36 @@ module _ {A : Type 0} where
 -- An equation with a splice makes the record.
 pub wrote : {A : Type 0} {b n : ℕ} {v F G : List A} → G ≡ splice b v F → length v ≡ n → Wrote b n v F G
 wrote {A} {b} {n} {v} {F} {G} e l = record { is = e; long = l; size = ap length e ∙ length_splice b v F }
+
+-- A method of the library that copies the first n elements of s to b writes them there.
+pub wrote_paste : {A : Type 0} (b n k : ℕ) (s F G : List A) → G ≡ paste F b s k → k ≡ n → b + n ≤ length F → n ≤ length s → Wrote b n (take n s) F G
+wrote_paste {A} b n k s F G e same fits has =
+    let long : length (take n s) ≡ n = length-take-le n s has in
+    wrote (e
+    ∙ ap (paste F b s) same
+    ∙ append_assoc (take b F) (take n s) (drop (b + n) F)
+    ∙ ap (λ (m : ℕ). take b F ++ (take n s ++ drop (b + m) F)) (sym long)
+    ∙ sym (splice_is b (take n s) F (rw long fits))) long
+
+-- A method of the library that writes the part of n elements at b, leaving v there, writes v.
+pub wrote_mid : {A : Type 0} (b n k : ℕ) (v F u : List A) → u ≡ v → length v ≡ n → k ≡ n → b + n ≤ length F → Wrote b n v F (put_mid b k F u)
+wrote_mid {A} b n k v F u e long same fits =
+    let whole : take n v ≡ v = take_all n v (omega arith) in
+    rw whole at (wrote_paste b n n v F (put_mid b k F u) (put_mid-paste b k F u v n e (sym same) (sym long)) refl fits (omega arith))
+
+module _ {A : Type 0} where
+  -- What is laid behind a front leaves it.
+  pub splice_back : (front v back : List A) → splice (length front) v (front ++ back) ≡ front ++ splice 0 v back
+  unfolding splice
+  splice_back [] v back = refl
+  splice_back (y ∷ front) v back = ap (λ (r : List A). y ∷ r) (splice_back front v back)
+
+  -- A part of the front is one of the whole.
+  pub part_front : (b n : ℕ) (front back : List A) → b + n ≤ length front → part b n (front ++ back) ≡ take n (drop b front)
+  unfolding part
+  part_front b n front back h =
+      let l : length (drop b front) ≡ length front - b = length-drop b front in
+      ap (take n) (drop-append-le b front back (omega arith)) ∙ take-append-le n (drop b front) back (omega arith)
 
 -- What was written is read back.
 pub wrote_at : {A : Type 0} {b n : ℕ} {v F G : List A} → Wrote b n v F G → b + n ≤ length F → part b n G ≡ v

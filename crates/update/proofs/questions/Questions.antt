@@ -1,5 +1,6 @@
 -- Questions 31 and 10 of an update, as the code asks them.
 -- Assumes nothing.
+use Rattle.std.specs.Prelude.{Result, Ok, Err}
 use mathlib.Core.Path.{◌≡◌, refl, sym, ap, ◌∙◌}
 use mathlib.Core.Bool.{Bool, true, false, ◌&&◌}
 use mathlib.Core.List.{List}
@@ -16,7 +17,6 @@ use Rattle.store.proofs.store.Region.{get_d_part, length_part, wrote_at, kept_wr
 use Rattle.store.proofs.store.Each.{both_l, both_r, each_same}
 use Rattle.refusal.specs.Refusal.{not_symmetric, other_pattern}
 use Rattle.refusal.specs.declared.Refusal.{Refusal}
-use Rattle.refusal.specs.declared.Verdict.{Verdict}
 use Rattle.refusal.specs.Outcome.{Outcome, refused, passed, ask, verdict_of}
 use Rattle.refusal.proofs.Outcome.{ask_yes, ask_no}
 use Rattle.coefficients.specs.Mirrors.{mirrors_agree}
@@ -80,7 +80,7 @@ unfolding same_pattern
 pattern_same w p offsets columns values e f = rw (e, f)
 
 -- A refusal is no pass.
-no_pass : {A : Type 0} {q : Refusal} → Verdict.Refused q ≡ Verdict.Passed → A
+no_pass : {A : Type 0} {q : Refusal} → ◌≡◌ {A = Result Unit Refusal} (Err q) (Ok tt) → A
 no_pass e = absurd (let none : ◌≡◌ {A = ℕ} 0 1 = cc in omega arith)
 
 -- What question 31 tells: as many values as the finest level has entries.
@@ -116,7 +116,7 @@ module _ {w : List ℕ} (F : List Float) {image : ℕ} (offsets columns : List �
       rw (is, many) (record { uppers = omega arith; lowers = omega arith; up = ok.uppers; low = ok.lowers }, ok.room)
 
   -- Question 31 refuses.
-  pub asked_other : t ≡ false → Asked w F F offsets columns values image (Verdict.Refused other_pattern)
+  pub asked_other : t ≡ false → Asked w F F offsets columns values image (Err other_pattern)
   asked_other fails =
       let no : wanted ≡ refused other_pattern = ask_no (same_pattern (shape_in w 0) offsets columns values) other_pattern _ (sym same_is ∙ fails) in
       record { answer = sym (ap verdict_of no); taken = λ y. no_pass y; kept = kept_self }
@@ -149,12 +149,12 @@ module _ {w : List ℕ} (F : List Float) {image : ℕ} (offsets columns : List �
     under = kept_wrote took.wrote (rw is (omega arith))
 
     -- Question 10 refuses.
-    pub asked_asymmetric : m ≡ false → Asked w F G offsets columns values image (Verdict.Refused not_symmetric)
+    pub asked_asymmetric : m ≡ false → Asked w F G offsets columns values image (Err not_symmetric)
     asked_asymmetric fails =
         record { answer = sym (ap verdict_of (on ∙ ask_no m not_symmetric passed fails)); taken = λ y. no_pass y; kept = under }
 
     -- Both pass.
-    pub asked_passed : m ≡ true → Asked w F G offsets columns values image Verdict.Passed
+    pub asked_passed : m ≡ true → Asked w F G offsets columns values image (Ok tt)
     asked_passed holds =
         record { answer = sym (ap verdict_of (on ∙ ask_yes m not_symmetric passed holds)); taken = λ _. there; kept = under }
 
@@ -177,8 +177,8 @@ module _ (offsets columns : List ℕ) (values : List Float) where
 
   module _ {t : Bool} (is : t ≡ empty_pattern offsets columns values) where
     -- Question 31 as an answer.
-    pub empty_passed : t ≡ true → Verdict.Passed ≡ verdict_of (empty_asked offsets columns values)
+    pub empty_passed : t ≡ true → (Ok tt) ≡ verdict_of (empty_asked offsets columns values)
     empty_passed holds = let e = sym is ∙ holds in rw e
 
-    pub empty_refused : t ≡ false → Verdict.Refused other_pattern ≡ verdict_of (empty_asked offsets columns values)
+    pub empty_refused : t ≡ false → Err other_pattern ≡ verdict_of (empty_asked offsets columns values)
     empty_refused fails = let e = sym is ∙ fails in rw e

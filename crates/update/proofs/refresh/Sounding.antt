@@ -1,15 +1,15 @@
 -- Stores that question 19 passes are ready for an update.
 -- Assumes nothing.
-use mathlib.Core.Path.{◌≡◌, refl, sym}
+use mathlib.Core.Path.{◌≡◌, refl}
 use mathlib.Core.Bool.{true, ◌&&◌}
 use mathlib.Core.List.{List}
-use Prim.Native.Nat.{ℕ, zero, suc, ◌*◌, ◌≤◌}
+use Prim.Native.Nat.{ℕ, zero, suc}
 use native.Mathlib.Omega.{arith}
 use lib.Dec.{eqb, leb}
 use borrow.Author.Tests.{leb-true}
 use Rattle.store.proofs.store.Each.{both_l, both_r}
 use Rattle.options.specs.declared.options.Handle.{Handle}
-use Rattle.layout.specs.Layout.{rows_at, entries_at, image_of}
+use Rattle.layout.specs.Layout.{rows_at, entries_at}
 use Rattle.layout.proofs.Views.{image_empty}
 use Rattle.index_check.specs.Sound.{heads_walked, levels_walked, walk_of, levels_sound, scratch_end, cycle_start, handle_sound, filled_sound, sound_of}
 use Rattle.index_check.proofs.sound.Question.{handle_few, sound_filled}

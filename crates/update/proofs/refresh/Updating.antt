@@ -1,9 +1,10 @@
 -- The update, each way out said of the definitions.
 -- Assumes nothing.
+use Rattle.std.specs.Prelude.{Result, Err}
 use mathlib.Core.Path.{◌≡◌, refl, sym, ap, ◌∙◌, subst}
 use mathlib.Core.Bool.{Bool, true, false}
 use mathlib.Core.List.{List, ◌∷◌}
-use Prim.Native.Nat.{ℕ, ◌-◌, ◌/◌, ◌≤◌}
+use Prim.Native.Nat.{ℕ, ◌-◌, ◌≤◌}
 use native.Mathlib.Omega.{arith}
 use lib.ListN.{length}
 use lib.Ieee.{Float}
@@ -14,7 +15,6 @@ use Rattle.options.specs.declared.options.MultigridOptions.{MultigridOptions}
 use Rattle.options.specs.declared.options.MultigridResidualNorm.{MultigridResidualNorm}
 use Rattle.refusal.specs.declared.Refusal.{Refusal}
 use Rattle.refusal.specs.Refusal.{not_symmetric, other_pattern}
-use Rattle.refusal.specs.declared.Verdict.{Verdict}
 use Rattle.refusal.specs.Outcome.{Outcome, accepted, refused, passed, ask, verdict_of, is_refused, ◌>>=◌}
 use Rattle.refusal.proofs.Outcome.{then_accepted, then_refused, passes, went_on_lem, never}
 use Rattle.coefficients.specs.Mirrors.{mirrors_agree}
@@ -37,9 +37,8 @@ use Rattle.update.proofs.questions.Questions.{many_values}
 use Rattle.update.specs.ShadowContract.{SumOk, Summed, With, ShadowOk}
 use Rattle.update.proofs.shadow.Moving.{shapes_are, view_stays}
 use Rattle.update.proofs.shadow.Shadowing.{shadow_end, sums_ready, with_sums_lem}
-use Rattle.solver.specs.declared.answers.Updated.{Updated}
 use Rattle.update.specs.Updated.{updated_at, updated_answer, hierarchy_of, UpdateDone}
-use Rattle.update.specs.Steps.{CommitOk, Committed, AttemptOk, attempt_of, Attempted, told_of, UpdateOk}
+use Rattle.update.specs.Steps.{CommitOk, Committed, AttemptOk, attempt_of, Attempted, UpdateOk}
 
 -- ---- the update
 
@@ -99,7 +98,7 @@ module _ {levels : ℕ} {w : List ℕ} {size : ℕ} (ok : AttemptOk levels w siz
     pub sums_ready_at : {now : ℕ} → now ≡ size → SumOk w now (image)
     sums_ready_at e = let c = commit_ready e in let room = c.room in sums_ready c.some c.is c.chain (omega arith)
 
-    module _ {A B : List Float} (offsets columns : List ℕ) (values : List Float) {v : Verdict} (told : Asked w A B offsets columns values (image) v)
+    module _ {A B : List Float} (offsets columns : List ℕ) (values : List Float) {v : Result Unit Refusal} (told : Asked w A B offsets columns values (image) v)
         (pass : is_refused v ≡ false) where
       -- There are as many values as entries.
       many : length values ≡ entries_at w 0
@@ -160,7 +159,7 @@ module _ {levels : ℕ} {w : List ℕ} (F : List Float) (ok : AttemptOk levels w
       ∙ ap (λ (l : List Shape). ◌>>=◌ asked (λ _. ◌>>=◌ (renew_of o 0 l values) (λ ls. accepted (with_sums o ls)))) (sym some)
 
   -- What a refusal leaves.
-  refused_done : {G : List Float} {q : Refusal} {r : Verdict} → out ≡ refused q → r ≡ Verdict.Refused q → Kept (image_of levels w) F G
+  refused_done : {G : List Float} {q : Refusal} {r : Result Unit Refusal} → out ≡ refused q → r ≡ Err q → Kept (image_of levels w) F G
       → Attempted levels w F G out r
   refused_done {G} {q} {r} e f k =
       let z : view_of levels w G 0 ≡ view_of levels w F 0 = view_stays k levels w (omega arith) in
@@ -171,14 +170,14 @@ module _ {levels : ℕ} {w : List ℕ} (F : List Float) (ok : AttemptOk levels w
         size = k.size;
       }
 
-  module _ {image : ℕ} (at : image ≡ image_of levels w) {E : List Float} {v : Verdict} (told : Asked w F E offsets columns values (image) v) where
+  module _ {image : ℕ} (at : image ≡ image_of levels w) {E : List Float} {v : Result Unit Refusal} (told : Asked w F E offsets columns values (image) v) where
     -- Question 31 or 10 refuses: nothing below the shadow was written.
     pub attempt_asked_no : is_refused v ≡ true → Attempted levels w F E out v
     attempt_asked_no stop =
         let no = told_refused asked told.answer stop in
         refused_done (out_is ∙ then_refused asked (λ _. summed) no.1) no.2 (subst (λ (n : ℕ). Kept n F E) at told.kept)
 
-    module _ (pass : is_refused v ≡ false) {G : List Float} {r : Verdict} (done : Renewed o levels 0 w values E G 0 (image) r) where
+    module _ (pass : is_refused v ≡ false) {G : List Float} {r : Result Unit Refusal} (done : Renewed o levels 0 w values E G 0 (image) r) where
       -- What the levels leave.
       frame : Kept (image) F G
       frame = kept_on told.kept done.kept
@@ -218,18 +217,18 @@ pub attempt_ready : {h : Handle} {w : List ℕ} {size : ℕ} → UpdateOk h w si
 attempt_ready ok filled fits = record { some = omega (arith, filled); few = ok.few; walk = ok.walk; room = ok.room; fits = fits }
 
 -- The answer is that of the outcome.
-answer_is : (out : Outcome Hierarchy) → told_of (verdict_of out) ≡ updated_answer out
+answer_is : (out : Outcome Hierarchy) → verdict_of out ≡ updated_answer out
 answer_is (accepted k) = refl
 answer_is (refused q) = refl
 
 -- The attempt under the options of the handle is the update.
-pub update_done : (h : Handle) {w : List ℕ} {F G : List Float} (offsets columns : List ℕ) (values : List Float) {v : Verdict}
+pub update_done : (h : Handle) {w : List ℕ} {F G : List Float} (offsets columns : List ℕ) (values : List Float) {v : Result Unit Refusal}
     → With h.options.smoother h.options.residual_norm (λ o. Attempted h.levels w F G (attempt_of o h.levels w F offsets columns values) v)
-    → {r : Updated} → r ≡ told_of v → UpdateDone h w F G (updated_at h w F offsets columns values) r
-update_done h {w} {F} offsets columns values all e =
+    → UpdateDone h w F G (updated_at h w F offsets columns values) v
+update_done h {w} {F} offsets columns values all =
     let d = all h.options refl refl in
     record {
-      answer = e ∙ ap told_of d.answer ∙ answer_is (updated_at h w F offsets columns values);
+      answer = d.answer ∙ answer_is (updated_at h w F offsets columns values);
       view = d.view;
       kept = d.kept;
       size = d.size;
@@ -242,22 +241,22 @@ abbrev emptied : List ℕ → List ℕ → List Float → Outcome Hierarchy
 emptied offsets columns values = ask (empty_pattern offsets columns values) other_pattern (accepted empty_hierarchy)
 
 -- Its answer is that of question 31, and its hierarchy the empty one.
-emptied_is : (b : Bool) (q : Refusal) → (told_of (verdict_of (ask b q passed)) ≡ updated_answer (ask b q (accepted empty_hierarchy)))
+emptied_is : (b : Bool) (q : Refusal) → (verdict_of (ask b q passed) ≡ updated_answer (ask b q (accepted empty_hierarchy)))
     × (empty_hierarchy ≡ hierarchy_of empty_hierarchy (ask b q (accepted empty_hierarchy)))
 emptied_is true q = (refl, refl)
 emptied_is false q = (refl, refl)
 
 -- Where there are no levels an update leaves the stores as they are.
-pub update_empty : (h : Handle) (w : List ℕ) (F : List Float) (offsets columns : List ℕ) (values : List Float) → h.levels ≡ 0 → {v : Verdict}
-    → v ≡ verdict_of (empty_asked offsets columns values) → {r : Updated} → r ≡ told_of v → UpdateDone h w F F (updated_at h w F offsets columns values) r
+pub update_empty : (h : Handle) (w : List ℕ) (F : List Float) (offsets columns : List ℕ) (values : List Float) → h.levels ≡ 0 → {v : Result Unit Refusal}
+    → v ≡ verdict_of (empty_asked offsets columns values) → UpdateDone h w F F (updated_at h w F offsets columns values) v
 unfolding update_of
-update_empty h w F offsets columns values none ev er =
+update_empty h w F offsets columns values none ev =
     let view : view_of h.levels w F 0 ≡ empty_hierarchy = ap (λ (n : ℕ). view_of n w F 0) none ∙ view_empty w F in
     let out : updated_at h w F offsets columns values ≡ emptied offsets columns values =
     ap (λ (k : Hierarchy). update_of h.options (shapes_in k.levels) offsets columns values) view in
     let told = emptied_is (empty_pattern offsets columns values) other_pattern in
     record {
-      answer = er ∙ ap told_of ev ∙ told.0 ∙ sym (ap updated_answer out);
+      answer = ev ∙ told.0 ∙ sym (ap updated_answer out);
       view = view ∙ told.1 ∙ sym (ap (hierarchy_of empty_hierarchy) out) ∙ ap (λ (k : Hierarchy). hierarchy_of k (updated_at h w F offsets columns values)) (sym view);
       kept = λ _ _. kept_self;
       size = refl;

@@ -12,7 +12,7 @@ use Rattle.store.proofs.store.Region.{get_d_part, length_part, wrote_at, kept_pa
 use Rattle.cholesky.specs.Triangle.{tri}
 use Rattle.hierarchy.specs.Level.{Shape}
 use Rattle.hierarchy.specs.First.{shapes_in}
-use Rattle.layout.specs.Layout.{rows_at, coupled_at, locate, level_at, words_end, floats_end, levels_at, image_end, finest_rows, view_of, image_of}
+use Rattle.layout.specs.Layout.{coupled_at, locate, level_at, words_end, floats_end, levels_at, image_end, finest_rows, view_of, image_of}
 use Rattle.layout.proofs.Views.{floats_to}
 use Rattle.index_check.specs.Sound.{shape_in}
 use Rattle.update_levels.specs.Steps.{shapes_at}

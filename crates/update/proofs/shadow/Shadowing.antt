@@ -1,5 +1,7 @@
 -- The levels in the shadow, and the row sums that make a hierarchy of levels.
 -- Assumes nothing.
+use Rattle.refusal.specs.declared.Refusal.{Refusal}
+use Rattle.std.specs.Prelude.{Result}
 use mathlib.Core.Path.{◌≡◌, refl, sym, ap, ◌∙◌, subst}
 use mathlib.Core.Bool.{Bool, cond}
 use mathlib.Core.List.{List, ◌∷◌}
@@ -14,7 +16,6 @@ use Rattle.store.proofs.store.Region.{wrote_at, kept_wrote}
 use Rattle.options.specs.declared.options.MultigridOptions.{MultigridOptions}
 use Rattle.options.specs.declared.options.MultigridResidualNorm.{MultigridResidualNorm}
 use Rattle.options.specs.declared.options.MultigridSmoother.{MultigridSmoother}
-use Rattle.refusal.specs.declared.Verdict.{Verdict}
 use Rattle.matrix.specs.Kernel.{kernel_at, row_sums_of}
 use Rattle.hierarchy.specs.Level.{Level}
 use Rattle.hierarchy.specs.Refresh.{needs_dic, needs_sums, with_sums}
@@ -47,7 +48,7 @@ pub renew_ready : {levels : ℕ} {w : List ℕ} {size count image : ℕ} → Sha
 renew_ready ok = record { ok = record { chain = ok.chain; some = ok.some }; many = ok.many }
 
 -- The levels, renewed for a smoother that needs DIC data or none.
-pub shadowed : {levels : ℕ} {w : List ℕ} {values F G : List Float} {image : ℕ} {v : Verdict} {kind : MultigridSmoother} {dic : Bool} → dic ≡ needs_dic kind
+pub shadowed : {levels : ℕ} {w : List ℕ} {values F G : List Float} {image : ℕ} {v : Result Unit Refusal} {kind : MultigridSmoother} {dic : Bool} → dic ≡ needs_dic kind
     → Under dic (λ o. Renewed o levels 0 w values F G 0 image v) → Smoothed kind (λ o. Renewed o levels 0 w values F G 0 image v)
 shadowed needed all o by = all o (ap needs_dic by ∙ sym needed)
 

@@ -1,5 +1,6 @@
 -- Question 11 of a level: all rows at once, and row by row.
 -- Assumes nothing.
+use Rattle.std.specs.Prelude.{Ok, Err}
 use mathlib.Core.Path.{◌≡◌, refl, sym, ap, ◌∙◌}
 use mathlib.Core.Bool.{Bool, true, false, ◌&&◌}
 use mathlib.Core.List.{List}
@@ -13,7 +14,6 @@ use Rattle.store.proofs.store.Each.{each_at}
 use Rattle.store.proofs.store.Region.{get_d_part}
 use Rattle.refusal.specs.declared.Refusal.{Refusal}
 use Rattle.refusal.specs.Refusal.{missing_diagonal}
-use Rattle.refusal.specs.declared.Verdict.{Verdict}
 use Rattle.refusal.specs.Outcome.{Outcome, accepted, refused, passed, ask, ask_rows, ask_from, verdict_of, ◌>>=◌}
 use Rattle.refusal.proofs.Outcome.{ask_yes, ask_no, each_step, each_stop, each_done, never}
 use Rattle.layout.specs.declared.Place.{Place}
@@ -98,12 +98,12 @@ module _ {level : ℕ} {w : List ℕ} {p : Place} {row : ℕ} (s : Standing leve
 
   -- A row refuses.
   pub standing_no : {t : Bool} → row < p.rows → t ≡ diagonal_stands (bare_at w p) row → t ≡ false
-      → Verdict.Refused (missing_diagonal level row) ≡ verdict_of (diagonals_stand level (bare_at w p))
+      → Err (missing_diagonal level row) ≡ verdict_of (diagonals_stand level (bare_at w p))
   standing_no h e fails = sym (ap verdict_of (sym s.rest ∙ each_stop row p.rows (asks level w p) passed h
       (ask_no (diagonal_stands (bare_at w p) row) (missing_diagonal level row) passed (sym e ∙ fails))))
 
   -- All have passed.
-  pub standing_done : p.rows ≤ row → Verdict.Passed ≡ verdict_of (diagonals_stand level (bare_at w p))
+  pub standing_done : p.rows ≤ row → (Ok tt) ≡ verdict_of (diagonals_stand level (bare_at w p))
   standing_done h = sym (ap verdict_of (sym s.rest ∙ each_done row p.rows (asks level w p) passed h))
 
 -- Where the diagonals of all rows stand, those of so many from `row` on pass.

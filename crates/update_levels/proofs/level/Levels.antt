@@ -1,5 +1,7 @@
 -- The float work of one level: its coefficients, its DIC data, its factor, and the values of the next level.
 -- Assumes nothing.
+use Rattle.refusal.specs.declared.Refusal.{Refusal}
+use Rattle.std.specs.Prelude.{Result}
 use mathlib.Core.Path.{◌≡◌, refl, sym, ap, ◌∙◌, subst}
 use mathlib.Core.Bool.{Bool, true, false}
 use mathlib.Core.List.{List}
@@ -10,7 +12,6 @@ use lib.Ieee.{Float}
 use Rattle.store.specs.Region.{part, Wrote}
 use Rattle.store.specs.Vector.{each}
 use Rattle.store.proofs.store.Region.{wrote_at, kept_wrote, kept_on}
-use Rattle.refusal.specs.declared.Verdict.{Verdict}
 use Rattle.refusal.specs.Outcome.{Outcome, refused, verdict_of}
 use Rattle.refusal.proofs.Outcome.{then_accepted, then_refused, never}
 use Rattle.vector.specs.Finite.{all_finite}
@@ -123,7 +124,7 @@ module _ (w : List ℕ) (values F : List Float) (p : Place) (level : ℕ) {all :
   wanted = update_with level (kernel_in p) (entries_in p) w values
 
   -- Question 11 refuses.
-  pub coefficients_no : all ≡ false → {v : Verdict} → v ≡ verdict_of (diagonals_stand level (bare_at w p))
+  pub coefficients_no : all ≡ false → {v : Result Unit Refusal} → v ≡ verdict_of (diagonals_stand level (bare_at w p))
       → Updated w (kernel_in p) (coefficients_asked level w values p) F F v
   coefficients_no told e =
       let no = stand_not level w p asked told in
@@ -135,7 +136,7 @@ module _ (w : List ℕ) (values F : List Float) (p : Place) (level : ℕ) {all :
       }
 
   -- It passes.
-  through : all ≡ true → {G : List Float} {v : Verdict} → Updated w (kernel_in p) wanted F G v
+  through : all ≡ true → {G : List Float} {v : Result Unit Refusal} → Updated w (kernel_in p) wanted F G v
       → Updated w (kernel_in p) (coefficients_asked level w values p) F G v
   through told {G} {v} made =
       let same : coefficients_asked level w values p ≡ wanted =
@@ -143,13 +144,13 @@ module _ (w : List ℕ) (values F : List Float) (p : Place) (level : ℕ) {all :
       subst (λ (x : Outcome Coefficients). Updated w (kernel_in p) x F G v) (sym same) made
 
   -- It passes, and the values are given.
-  pub coefficients_given : all ≡ true → {k : SymmetricMatrix} {e : Entries} → k ≡ kernel_in p → e ≡ entries_in p → {G : List Float} {v : Verdict}
+  pub coefficients_given : all ≡ true → {k : SymmetricMatrix} {e : Entries} → k ≡ kernel_in p → e ≡ entries_in p → {G : List Float} {v : Result Unit Refusal}
       → Updated w k (update_with level k e w values) F G v → Updated w (kernel_in p) (coefficients_asked level w values p) F G v
   coefficients_given told kernel image made = through told (rw (kernel, image) at made)
 
 -- It passes, and the values stand in the store.
 pub coefficients_made : (w : List ℕ) (F : List Float) (p : Place) (level : ℕ) {all : Bool} → all ≡ each (diagonal_stands (bare_at w p)) p.rows → all ≡ true
-    → {k : SymmetricMatrix} {e : Entries} → k ≡ kernel_in p → e ≡ entries_in p → {G : List Float} {v : Verdict} → Updated w k (update_at level k e w F) F G v
+    → {k : SymmetricMatrix} {e : Entries} → k ≡ kernel_in p → e ≡ entries_in p → {G : List Float} {v : Result Unit Refusal} → Updated w k (update_at level k e w F) F G v
     → Updated w (kernel_in p) (coefficients_asked level w (part p.values p.entries F) p) F G v
 coefficients_made w F p level asked told kernel image made =
     through w (part p.values p.entries F) F p level asked told (rw (kernel, image) at made)

@@ -1,5 +1,7 @@
 -- The numbers of one level: 11, 12 and 13, then 15, or 16 and 17.
 -- Assumes nothing.
+use Rattle.refusal.specs.declared.Refusal.{Refusal}
+use Rattle.std.specs.Prelude.{Result, Ok, Err}
 use mathlib.Core.Path.{◌≡◌, refl, sym, ap, ◌∙◌}
 use mathlib.Core.Bool.{Bool, true, false, cond}
 use mathlib.Core.List.{List, []}
@@ -12,7 +14,6 @@ use Rattle.store.specs.Region.{idx, part, Kept}
 use Rattle.store.specs.Vector.{filled}
 use Rattle.store.proofs.store.Region.{length_part, wrote_at, kept_part, kept_wrote, kept_on, kept_less}
 use Rattle.options.specs.declared.options.MultigridOptions.{MultigridOptions}
-use Rattle.refusal.specs.declared.Verdict.{Verdict}
 use Rattle.refusal.specs.Outcome.{Outcome, accepted, refused, verdict_of, is_refused, ◌>>=◌}
 use Rattle.refusal.proofs.Outcome.{then_accepted, then_refused, verdict_passed, accepted_one, then_then, never}
 use Rattle.matrix.specs.Kernel.{kernel_at}
@@ -38,16 +39,16 @@ use Rattle.update_levels.proofs.diagonals.Outcomes.{verdict_then, told_accepted,
 -- ---- outcomes
 
 -- A settled outcome has its verdict,
-settled_verdict : (v : Verdict) (l : List Float) → verdict_of (settled v l) ≡ v
+settled_verdict : (v : Result Unit Refusal) (l : List Float) → verdict_of (settled v l) ≡ v
 unfolding settled
-settled_verdict Verdict.Passed l = refl
-settled_verdict (Verdict.Refused q) l = refl
+settled_verdict (Ok tt) l = refl
+settled_verdict (Err q) l = refl
 
 -- and what it holds.
-settled_held : (v : Verdict) (l : List Float) {d : List Float} → settled v l ≡ accepted d → l ≡ d
+settled_held : (v : Result Unit Refusal) (l : List Float) {d : List Float} → settled v l ≡ accepted d → l ≡ d
 unfolding settled
-settled_held Verdict.Passed l e = accepted_one e
-settled_held (Verdict.Refused q) l e = never refl e
+settled_held (Ok tt) l e = accepted_one e
+settled_held (Err q) l e = never refl e
 
 -- ---- a level
 
@@ -74,7 +75,7 @@ module _ {w : List ℕ} (F : List Float) {p : Place} {last : Bool} {coupled : �
   abbrev rest : Coefficients → Outcome Numbers
   rest c = cond last (last_numbers o level own values c) (inner_numbers o level own c)
 
-  module _ {G : List Float} {v : Verdict} (made : Updated w (kernel_in p) (coefficients_asked level w values p) F G v) where
+  module _ {G : List Float} {v : Result Unit Refusal} (made : Updated w (kernel_in p) (coefficients_asked level w values p) F G v) where
     -- The questions in the stores are those of the shape.
     asked_is : coefficients_asked level w values p ≡ asked
     asked_is =
@@ -135,7 +136,7 @@ module _ {w : List ℕ} (F : List Float) {p : Place} {last : Bool} {coupled : �
       onward = whole ∙ then_accepted asked rest owned.is
 
       -- The last level: question 15.
-      module _ (ends : last ≡ true) (here : values ≡ part p.values p.entries F) {H : List Float} {r : Verdict} (done : FactorDone w G H p coupled level r) where
+      module _ (ends : last ≡ true) (here : values ≡ part p.values p.entries F) {H : List Float} {r : Result Unit Refusal} (done : FactorDone w G H p coupled level r) where
         -- the factor that question 15 asks for
         abbrev wanted : Outcome (List Float)
         wanted = cholesky_of level (csr_of own values) (length own.links) own.links
@@ -178,7 +179,7 @@ module _ {w : List ℕ} (F : List Float) {p : Place} {last : Bool} {coupled : �
               answer = done.answer ∙ ap verdict_of (sym wanted_is) ∙ sym (verdict_then wanted with_factor) ∙ sym (ap verdict_of lasts);
               numbers = λ n e.
                   let s = then_split wanted (λ l. accepted (with_factor l)) (sym lasts ∙ e) in
-                  let went : r ≡ Verdict.Passed = done.answer ∙ verdict_passed (factor_of w G p coupled level) (sym wanted_is ∙ s.1) in
+                  let went : r ≡ Ok tt = done.answer ∙ verdict_passed (factor_of w G p coupled level) (sym wanted_is ∙ s.1) in
                   let factor : part p.factor (tri coupled) H ≡ s.0 = accepted_one (sym (done.factor went) ∙ sym wanted_is ∙ s.1) in
                   let v2 : part p.coefficients p.faces H ≡ c.coefficients = kept_part done.kept p.coefficients p.faces (omega arith) ∙ owned.coefficients in
                   let v3 : part p.diagonal p.rows H ≡ c.diagonal = kept_part done.kept p.diagonal p.rows (omega arith) ∙ owned.diagonal in
@@ -190,7 +191,7 @@ module _ {w : List ℕ} (F : List Float) {p : Place} {last : Bool} {coupled : �
             }
 
       -- Another level: 16 and 17.
-      module _ (more : last ≡ false) {dic : Bool} (by : needs_dic o.smoother ≡ dic) {H : List Float} {r : Verdict}
+      module _ (more : last ≡ false) {dic : Bool} (by : needs_dic o.smoother ≡ dic) {H : List Float} {r : Result Unit Refusal}
           (done : Settled p.dic p.rows (smoother_at dic level w G p) G H r) where
         -- the DIC data that 16 and 17 ask for
         abbrev needed : Outcome (List Float)

@@ -1,5 +1,6 @@
 -- The levels, one after the other: what the calls require, a turn of the loop, and the loop.
 -- Assumes nothing.
+use Rattle.std.specs.Prelude.{Result, Ok}
 use mathlib.Core.Path.{◌≡◌, refl, sym, ap, ◌∙◌, subst}
 use mathlib.Core.Bool.{Bool, true, false, cond}
 use mathlib.Core.List.{List, [], ◌∷◌}
@@ -14,7 +15,6 @@ use Rattle.store.proofs.store.Region.{get_d_part, length_part, wrote_at, kept_wr
 use Rattle.options.specs.declared.options.MultigridOptions.{MultigridOptions}
 use Rattle.refusal.specs.declared.Refusal.{Refusal}
 use Rattle.refusal.specs.Refusal.{bad_coarse_value}
-use Rattle.refusal.specs.declared.Verdict.{Verdict}
 use Rattle.refusal.specs.Outcome.{Outcome, accepted, refused, ask, verdict_of, is_refused, ◌>>=◌}
 use Rattle.refusal.proofs.Outcome.{then_accepted, then_refused, went_on_lem, accepted_one, then_then, never, accepts_it}
 use Rattle.vector.specs.Finite.{all_finite}
@@ -285,7 +285,7 @@ ask_then (refused p) holds q f = refl
 module _ {w : List ℕ} (old F : List Float) {left level a b : ℕ} (ok : RenewOk w (length F) left level a b) (o : MultigridOptions)
     {p : Place} (is : p ≡ locate w a b) where
   -- The last level.
-  pub renewed_last : left ≡ 1 → {coupled : ℕ} → coupled ≡ idx w (a + 2) → {G : List Float} {r : Verdict}
+  pub renewed_last : left ≡ 1 → {coupled : ℕ} → coupled ≡ idx w (a + 2) → {G : List Float} {r : Result Unit Refusal}
       → LevelDone w old F G o p true coupled level r → Renewed o left level w old F G a b r
   renewed_last one {coupled} e {G} {r} done =
       let l = is_last ok is one in
@@ -308,7 +308,7 @@ module _ {w : List ℕ} (old F : List Float) {left level a b : ℕ} (ok : RenewO
       }
 
   module _ (more : 2 ≤ left) {next : ℕ} (at : next ≡ words_end w a) {t : Place} (there : t ≡ locate w next p.factor)
-      {G : List Float} {v : Verdict} (done : Turned w old F G o p t level v) where
+      {G : List Float} {v : Result Unit Refusal} (done : Turned w old F G o p t level v) where
     -- where the next level starts
     abbrev x : ℕ
     x = words_end w a
@@ -408,7 +408,7 @@ module _ {w : List ℕ} (old F : List Float) {left level a b : ℕ} (ok : RenewO
         let refusal : renew_at o left level w old a ≡ refused no.0 = whole ∙ then_refused asked (λ n. ◌>>=◌ deeper (λ ls. accepted (before n ls))) no.1 in
         record { answer = no.2 ∙ sym (ap verdict_of refusal); levels = λ ls e. never refusal e; kept = kept_less made.kept (omega arith) }
 
-    module _ (told : v ≡ Verdict.Passed) {E : List Float} {r : Verdict} (deep : Renewed o (left - 1) (level + 1) w (part t.values t.entries G) G E next p.factor r) where
+    module _ (told : v ≡ Ok tt) {E : List Float} {r : Result Unit Refusal} (deep : Renewed o (left - 1) (level + 1) w (part t.values t.entries G) G E next p.factor r) where
       -- The turn was accepted.
       numbers : (n : Numbers) × (asked ≡ accepted n)
       numbers = accepts_it asked answered told
@@ -469,7 +469,7 @@ pub record Underway (dic : Bool) (levels first a₀ : ℕ) (p₀ : Place) (level
   pub is : p ≡ locate w a b
   pub ok : RenewOk w (length G) (levels - level) level a b
   pub size : length G ≡ length F
-  pub whole : Under dic (λ o. (E : List Float) (r : Verdict) → Renewed o (levels - level) level w (part p.values p.entries G) G E a b r
+  pub whole : Under dic (λ o. (E : List Float) (r : Result Unit Refusal) → Renewed o (levels - level) level w (part p.values p.entries G) G E a b r
       → Renewed o (levels - first) first w (part p₀.values p₀.entries F) F E a₀ p₀.values r)
 
 -- Before the first level all are left.
@@ -510,7 +510,7 @@ module _ {dic : Bool} {levels first a₀ level a : ℕ} {p₀ p : Place} {w : Li
         pub underway_turn : TurnOk w (length G) p t
         underway_turn = turn_ready u.ok u.is two_left at there
 
-        module _ {H : List Float} {v : Verdict} (done : Under dic (λ o. Turned w (part p.values p.entries G) G H o p t level v)) where
+        module _ {H : List Float} {v : Result Unit Refusal} (done : Under dic (λ o. Turned w (part p.values p.entries G) G H o p t level v)) where
           -- A question of the turn refuses.
           pub underway_no : is_refused v ≡ true
               → Under dic (λ o. Renewed o (levels - first) first w (part p₀.values p₀.entries F) F H a₀ p₀.values v)
@@ -540,7 +540,7 @@ module _ {dic : Bool} {levels first a₀ level a : ℕ} {p₀ p : Place} {w : Li
     underway_last = last_ready u.ok u.is one_left told
 
     -- With it all are there.
-    pub underway_end : {E : List Float} {r : Verdict} → Under dic (λ o. LevelDone w (part p.values p.entries G) G E o p true coupled level r)
+    pub underway_end : {E : List Float} {r : Result Unit Refusal} → Under dic (λ o. LevelDone w (part p.values p.entries G) G E o p true coupled level r)
         → Under dic (λ o. Renewed o (levels - first) first w (part p₀.values p₀.entries F) F E a₀ p₀.values r)
     underway_end {E} {r} done o by = u.whole o by E r (renewed_last mine G u.ok o u.is one_left told (done o by))
 
@@ -566,7 +566,7 @@ module _ {levels image : ℕ} {w : List ℕ} (given F : List Float) (s : StartOk
       loaded_rest = rw (is, loaded.size) (record { is = refl; ok = rw (sub-zero levels) s.ok })
 
       -- and what they make.
-      pub loaded_done : {dic : Bool} {G : List Float} {r : Verdict}
+      pub loaded_done : {dic : Bool} {G : List Float} {r : Result Unit Refusal}
           → Under dic (λ o. Renewed o (levels - 0) 0 w (part p.values p.entries E) E G 0 p.values r)
           → Under dic (λ o. Renewed o levels 0 w given F G 0 image r)
       loaded_done {dic} {G} {r} done o by =
@@ -602,7 +602,7 @@ module _ {levels image : ℕ} {w : List ℕ} (given F : List Float) (s : StartOk
                 many = many;
               }
 
-          module _ {dic : Bool} {G : List Float} {v : Verdict} (done : Under dic (λ o. Turned w given F G o p t 0 v)) where
+          module _ {dic : Bool} {G : List Float} {v : Result Unit Refusal} (done : Under dic (λ o. Turned w given F G o p t 0 v)) where
             -- A question of the turn refuses.
             pub first_no : is_refused v ≡ true → Under dic (λ o. Renewed o levels 0 w given F G 0 image v)
             first_no stop o by = renewed_no given F s.ok o is more at there (done o by) stop
@@ -613,7 +613,7 @@ module _ {levels image : ℕ} {w : List ℕ} (given F : List Float) (s : StartOk
                 rw (there, size) (record { is = refl; ok = next_ready s.ok is more at })
 
             -- and with them all are there.
-            pub first_on : is_refused v ≡ false → {E : List Float} {r : Verdict}
+            pub first_on : is_refused v ≡ false → {E : List Float} {r : Result Unit Refusal}
                 → Under dic (λ o. Renewed o (levels - 1) 1 w (part t.values t.entries G) G E next t.values r)
                 → Under dic (λ o. Renewed o levels 0 w given F E 0 image r)
             first_on told {E} {r} deep o by =

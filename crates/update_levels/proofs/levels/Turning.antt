@@ -1,5 +1,7 @@
 -- A turn of the loop over the levels: one level, and the values of the next.
 -- Assumes nothing.
+use Rattle.refusal.specs.declared.Refusal.{Refusal}
+use Rattle.std.specs.Prelude.{Result, Err}
 use mathlib.Core.Path.{◌≡◌, refl, sym, ap, ◌∙◌, subst}
 use mathlib.Core.Bool.{Bool, true, false}
 use mathlib.Core.List.{List}
@@ -10,7 +12,6 @@ use Rattle.store.specs.Region.{part, Kept}
 use Rattle.store.proofs.store.Region.{kept_part, kept_on, kept_less}
 use Rattle.options.specs.declared.options.MultigridOptions.{MultigridOptions}
 use Rattle.refusal.specs.Refusal.{bad_coarse_value}
-use Rattle.refusal.specs.declared.Verdict.{Verdict}
 use Rattle.refusal.specs.Outcome.{Outcome, accepted, refused, ask, verdict_of, is_refused}
 use Rattle.refusal.proofs.Outcome.{ask_yes, ask_no, then_accepted, then_refused, went_on_lem, accepted_one, never}
 use Rattle.vector.specs.Finite.{all_finite}
@@ -42,12 +43,12 @@ pub first_coarse : {w : List ℕ} {size count : ℕ} {p t : Place} → FirstOk w
 first_coarse {w} {size} {count} {p} {t} ok e = subst (λ (n : ℕ). FirstOk w n count p t) (sym e) ok
 
 -- A level leaves its values.
-pub values_stay : {w : List ℕ} {size : ℕ} {old F G : List Float} {o : MultigridOptions} {p : Place} {level : ℕ} {v : Verdict} → LevelOk w size p 0
+pub values_stay : {w : List ℕ} {size : ℕ} {old F G : List Float} {o : MultigridOptions} {p : Place} {level : ℕ} {v : Result Unit Refusal} → LevelOk w size p 0
     → LevelDone w old F G o p false 0 level v → part p.values p.entries G ≡ part p.values p.entries F
 values_stay {w} {size} {old} {F} {G} {o} {p} ok done = kept_part done.kept p.values p.entries ok.image
 
 module _ {w : List ℕ} {size : ℕ} {p : Place} (t : Place) (ok : LevelOk w size p 0) (behind : p.factor ≤ t.values) where
-  module _ (o : MultigridOptions) (level : ℕ) (old : List Float) {F G : List Float} {v : Verdict} (done : LevelDone w old F G o p false 0 level v) where
+  module _ (o : MultigridOptions) (level : ℕ) (old : List Float) {F G : List Float} {v : Result Unit Refusal} (done : LevelDone w old F G o p false 0 level v) where
     -- the questions of the level
     abbrev own : Outcome Numbers
     own = level_renewed o false 0 level w old p
@@ -60,7 +61,7 @@ module _ {w : List ℕ} {size : ℕ} {p : Place} (t : Place) (ok : LevelOk w siz
     pub turned_no : is_refused v ≡ true → Turned w old F G o p t level v
     turned_no stop =
         let no = told_refused own done.answer stop in
-        let said : v ≡ Verdict.Refused no.0 = no.2 in
+        let said : v ≡ Err no.0 = no.2 in
         let refusal : turn_of o level w old p t ≡ refused no.0 = then_refused own (λ n. ask finite bad_coarse_value (accepted n)) no.1 in
         record {
           answer = said ∙ sym (ap verdict_of refusal);
@@ -99,7 +100,7 @@ module _ {w : List ℕ} {size : ℕ} {p : Place} (t : Place) (ok : LevelOk w siz
           kept_on done.kept (kept_less summed.kept (omega arith))
 
       -- A value of the next level is not finite.
-      pub turned_coarse_no : fin ≡ false → Turned w old F H o p t level (Verdict.Refused bad_coarse_value)
+      pub turned_coarse_no : fin ≡ false → Turned w old F H o p t level (Err bad_coarse_value)
       turned_coarse_no bad =
           let refusal : turn_of o level w old p t ≡ refused bad_coarse_value =
           onward ∙ ask_no finite bad_coarse_value (accepted numbers.0) (finite_is ∙ bad) in

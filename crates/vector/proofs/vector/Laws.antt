@@ -1,28 +1,22 @@
 -- The turns of the loops of `dot_block` and `dot_sum` as the code has them.
 -- Assumes nothing.
+use Rattle.std.specs.Prelude.{Option, Some, None}
 use mathlib.Core.Path.{◌≡◌, refl, sym, ap, ◌∙◌}
 use mathlib.Core.Bool.{Bool, true, false}
 use mathlib.Core.List.{List}
-use Prim.Native.Nat.{ℕ, suc, ◌+◌, ◌*◌, ◌/◌, ◌≤◌, ◌<◌, min, zero-le}
+use Prim.Native.Nat.{ℕ, suc, ◌+◌, ◌*◌, ◌/◌, ◌-◌, ◌≤◌, ◌<◌, min, zero-le}
 use native.Mathlib.Omega.{arith}
+use lib.ListN.{length, take, drop}
 use lib.Ieee.{Float}
 use Rattle.float.specs.Float.{add64, mul64, neg_zero, is_finite}
 use Rattle.float.specs.Sqrt.{sqrt_of}
 use Rattle.store.specs.Loop.{for}
 use Rattle.store.specs.Region.{at, part}
 use Rattle.store.proofs.store.Loop.{Left, left_start, left_on, left_end, for_count}
-use Rattle.store.proofs.store.Region.{get_d_part}
-use Rattle.vector.specs.declared.vector.Product.{Product}
-use Rattle.vector.specs.declared.vector.Product.TheVariants.{Finite, NotFinite}
+use Rattle.store.proofs.store.Region.{length_part}
 use Rattle.vector.specs.declared.vector.Sums.{Sums}
 use Rattle.vector.specs.Dot.{block_of, dot_of, product_of, root_of, norm_of}
 use Rattle.vector.specs.Turns.{term_of, blocks_of, block_turn}
-
--- A product of elements of the store is one of the regions' elements.
-pub term_on : (a b n hi : ℕ) (F : List Float) (k : ℕ) (sum : Float) → k < hi → hi ≤ n
-    → add64 sum (mul64 (at F (a + k)) (at F (b + k))) ≡ term_of (part a n F) (part b n F) k sum
-unfolding term_of
-term_on a b n hi F k sum h l = let i : k < n = omega arith in simp get_d_part
 
 -- A block whose end is known by an equation is the definition's block.
 pub block_on : (n : ℕ) (u v : List Float) (i h : ℕ) (sum b : Float) → h ≡ min (i * 1024 + 1024) n → b ≡ block_of u v (i * 1024) h
@@ -30,39 +24,28 @@ pub block_on : (n : ℕ) (u v : List Float) (i h : ℕ) (sum b : Float) → h �
 unfolding block_turn
 block_on n u v i h sum b e d = rw (d, e)
 
--- The invariant of `dot_blocks`: what is left to do from k and from l, the next block's index, gives each block's sum.
-pub record Sides (u v : List Float) (lo hi k l : ℕ) (first second : Float) : Type 0 where
-  pub until : hi ≡ lo + 1024
-  pub apart : l ≡ k + 1024
+-- The invariant of `dot_blocks`: what is left to do from k, and from 1,024 past it, gives each block's sum.
+pub record Sides (u v : List Float) (lo k : ℕ) (first second : Float) : Type 0 where
   pub one : Left (term_of u v) k (lo + 1024) first (block_of u v lo (lo + 1024))
-  pub two : Left (term_of u v) l (lo + 2048) second (block_of u v (lo + 1024) (lo + 2048))
+  pub two : Left (term_of u v) (k + 1024) (lo + 2048) second (block_of u v (lo + 1024) (lo + 2048))
 
-pub sides_start : (u v : List Float) (lo : ℕ) → Sides u v lo (lo + 1024) lo (lo + 1024) neg_zero neg_zero
+pub sides_start : (u v : List Float) (lo : ℕ) → Sides u v lo lo neg_zero neg_zero
 unfolding block_of term_of
-sides_start u v lo = record { until = refl; apart = refl; one = left_start; two = left_start }
+sides_start u v lo = record { one = left_start; two = left_start }
 
 -- A product more for each.
-pub sides_on : (a b n : ℕ) (F : List Float) {lo hi k l : ℕ} {first second : Float}
-    → lo + 2048 ≤ n → k < hi → Sides (part a n F) (part b n F) lo hi k l first second
-    → Sides (part a n F) (part b n F) lo hi (k + 1) (l + 1)
-    (add64 first (mul64 (at F (a + k)) (at F (b + k)))) (add64 second (mul64 (at F (a + l)) (at F (b + l))))
-sides_on a b n F {lo} {hi} {k} {l} {first} {second} room h s =
-    let until = s.until in
-    let apart = s.apart in
-    let near : k < lo + 1024 = omega arith in
-    let far : l < lo + 2048 = omega arith in
-    record {
-      until = until;
-      apart = omega arith;
-      one = left_on s.one near (term_on a b n (lo + 1024) F k first near (omega arith));
-      two = left_on s.two far (term_on a b n (lo + 2048) F l second far room);
-    }
+pub sides_on : {u v : List Float} {lo k : ℕ} {first second : Float}
+    → k < lo + 1024 → Sides u v lo k first second
+    → Sides u v lo (k + 1) (add64 first (mul64 (at u k) (at v k))) (add64 second (mul64 (at u (k + 1024)) (at v (k + 1024))))
+unfolding term_of
+sides_on {u} {v} {lo} {k} {first} {second} h s =
+    let next : k + 1024 + 1 ≡ k + 1 + 1024 = omega arith in
+    let two = left_on s.two (omega arith) refl in
+    record { one = left_on s.one h refl; two = rw next at two }
 
-pub sides_end : {u v : List Float} {lo hi k l : ℕ} {first second : Float} → Sides u v lo hi k l first second → hi ≤ k
+pub sides_end : {u v : List Float} {lo k : ℕ} {first second : Float} → Sides u v lo k first second → lo + 1024 ≤ k
     → record { first = first; second = second } ≡ blocks_of u v lo
 sides_end s h =
-    let until = s.until in
-    let apart = s.apart in
     let one = left_end s.one (omega arith) in
     let two = left_end s.two (omega arith) in
     rw (one, two)
@@ -97,24 +80,31 @@ pairs_left n u v pairs h e =
     (λ k _ b s l. let next : k + 1 ≡ suc k = omega arith in rw next at (left_on l (omega arith) refl)) neg_zero left_start)
 
 -- A value that passed the test is itself; one that failed is refused.
-pub product_yes : (x : Float) (r : Bool) → r ≡ is_finite x → r ≡ true → Finite x ≡ product_of x
+pub product_yes : (x : Float) (r : Bool) → r ≡ is_finite x → r ≡ true → Some x ≡ product_of x
 unfolding product_of
 product_yes x r e t = rw (← e, t)
 
-pub product_no : (x : Float) (r : Bool) → r ≡ is_finite x → r ≡ false → NotFinite ≡ product_of x
+pub product_no : (x : Float) (r : Bool) → r ≡ is_finite x → r ≡ false → None ≡ product_of x
 unfolding product_of
 product_no x r e t = rw (← e, t)
 
--- `dot` as the code has it.
-pub dot_done : {p : Product} {x y : Float} → x ≡ y → p ≡ product_of x → p ≡ product_of y
-dot_done e t = rw e at t
+-- `dot` as the code has it: each region is a slice of the store, as long as asked.
+pub dot_done : (a b n : ℕ) (F : List Float) {p : Option Float} {x : Float} → a + n ≤ length F
+    → x ≡ dot_of (length (take (a + n - a) (drop a F))) (take (a + n - a) (drop a F)) (take (b + n - b) (drop b F))
+    → p ≡ product_of x → p ≡ product_of (dot_of n (part a n F) (part b n F))
+unfolding part
+dot_done a b n F l e t =
+    let long : length (take n (drop a F)) ≡ n = length_part a n F l in
+    let i : a + n - a ≡ n = omega arith in
+    let j : b + n - b ≡ n = omega arith in
+    rw (← (rw (i, j, long) at e)) t
 
 -- The two ways out of `norm_l2`: its d is the dot product, as it was matched.
-pub norm_yes : (n : ℕ) (u : List Float) {d p : Product} {squared root : Float}
-    → d ≡ product_of (dot_of n u u) → d ≡ Finite squared → root ≡ sqrt_of squared → p ≡ product_of root → p ≡ norm_of n u
+pub norm_yes : (n : ℕ) (u : List Float) {d p : Option Float} {squared root : Float}
+    → d ≡ product_of (dot_of n u u) → d ≡ Some squared → root ≡ sqrt_of squared → p ≡ product_of root → p ≡ norm_of n u
 unfolding norm_of root_of
 norm_yes n u {d} {p} {squared} {root} e m r t = t ∙ ap product_of r ∙ ap root_of (sym m ∙ e)
 
-pub norm_no : (n : ℕ) (u : List Float) {d : Product} → d ≡ product_of (dot_of n u u) → d ≡ NotFinite → NotFinite ≡ norm_of n u
+pub norm_no : (n : ℕ) (u : List Float) {d : Option Float} → d ≡ product_of (dot_of n u u) → d ≡ None → None ≡ norm_of n u
 unfolding norm_of root_of
 norm_no n u {d} e m = ap root_of (sym m ∙ e)

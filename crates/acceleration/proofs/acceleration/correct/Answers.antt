@@ -1,5 +1,6 @@
 -- `acceleration::correct` meets its contract.
 use native.Mathlib.Omega.{arith}
+use Rattle.refusal.proofs.Outcome.{passed_up}
 use Rattle.acceleration.proofs.acceleration.Ways.{next_fits, pass_ok, normal_ok, advance_ok, correct_done, correct_last, correct_second, correct_first}
 use Rattle.acceleration.proofs.acceleration.correct.Goals as goal
 
@@ -22,22 +23,24 @@ pub normalize-requires : goal.normalize-requires
 normalize-requires c = normal_ok _ c.requires c.restarted-kept.ensures c.orthogonalize.ensures
 
 pub advance-requires : goal.advance-requires
-advance-requires c = advance_ok _ c.requires c.restarted-kept.ensures c.orthogonalize.ensures c.if-orthogonalize.true c.normalize.ensures
+advance-requires c = advance_ok _ c.requires c.restarted-kept.ensures c.orthogonalize.ensures c.in_ok-orthogonalize.was c.normalize.ensures
 
-pub returns-then-advance : goal.returns-then-advance
-returns-then-advance c =
-    correct_done _ c.requires c.restarted-kept.ensures c.orthogonalize.ensures c.if-orthogonalize.true c.normalize.ensures
-    c.in-Passed.is c.advance.ensures c.if-advance.true
+pub returns : goal.returns
+returns c =
+    correct_done _ c.requires c.restarted-kept.ensures c.orthogonalize.ensures c.in_ok-orthogonalize.was c.normalize.ensures
+    c.in_ok-normalize.was c.advance.ensures c.in_ok-advance.was
 
-pub returns-else-advance : goal.returns-else-advance
-returns-else-advance c =
-    correct_last _ c.requires c.restarted-kept.ensures c.orthogonalize.ensures c.if-orthogonalize.true c.normalize.ensures
-    c.in-Passed.is c.advance.ensures c.if-advance.false
+pub returns-in_err-advance : goal.returns-in_err-advance
+returns-in_err-advance c =
+    rw (passed_up _ c.from_residual-in_err-advance.ensures.1)
+    (correct_last _ c.requires c.restarted-kept.ensures c.orthogonalize.ensures c.in_ok-orthogonalize.was c.normalize.ensures
+    c.in_ok-normalize.was c.advance.ensures c.in_err-advance.was)
 
-pub returns-in-Refused : goal.returns-in-Refused
-returns-in-Refused c =
-    correct_second _ c.requires c.restarted-kept.ensures c.orthogonalize.ensures c.if-orthogonalize.true c.normalize.ensures
-    c.in-Refused.is
+pub returns-in_err-normalize : goal.returns-in_err-normalize
+returns-in_err-normalize c =
+    rw (passed_up _ c.from_residual-in_err-normalize.ensures.1)
+    (correct_second _ c.requires c.restarted-kept.ensures c.orthogonalize.ensures c.in_ok-orthogonalize.was c.normalize.ensures c.in_err-normalize.was)
 
-pub returns-else-orthogonalize : goal.returns-else-orthogonalize
-returns-else-orthogonalize c = correct_first _ c.requires c.restarted-kept.ensures c.orthogonalize.ensures c.if-orthogonalize.false
+pub returns-in_err-orthogonalize : goal.returns-in_err-orthogonalize
+returns-in_err-orthogonalize c =
+    rw (passed_up _ c.from_residual.ensures.1) (correct_first _ c.requires c.restarted-kept.ensures c.orthogonalize.ensures c.in_err-orthogonalize.was)

@@ -1,16 +1,10 @@
 -- `acceleration::orthogonalize` meets its contract.
+use Rattle.refusal.proofs.Outcome.{passed_up}
 use Rattle.acceleration.proofs.acceleration.Twice.{twice_yes, twice_no}
 use Rattle.acceleration.proofs.acceleration.orthogonalize.Goals as goal
 
-pub returns-then-pass : goal.returns-then-pass
-returns-then-pass c =
-    let at_second = c in
-    let at_first = at_second in
-    let start = at_first in
-    twice_yes start.requires at_first.pass.ensures at_second.if-pass.true at_second.pass-then-pass.ensures
+pub returns : goal.returns
+returns c = twice_yes c.requires c.pass.ensures c.in_ok-pass.was c.pass-2.ensures
 
-pub returns-else-pass : goal.returns-else-pass
-returns-else-pass c =
-    let at_first = c in
-    let start = at_first in
-    twice_no start.requires at_first.pass.ensures c.if-pass.false
+pub returns-in_err-pass : goal.returns-in_err-pass
+returns-in_err-pass c = rw (passed_up _ c.from_residual.ensures.1) (twice_no c.requires c.pass.ensures c.in_err-pass.was)

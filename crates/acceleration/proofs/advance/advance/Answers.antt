@@ -1,20 +1,16 @@
 -- `advance::advance` meets its contract.
+use Rattle.refusal.proofs.Outcome.{passed_up}
+use Rattle.acceleration.proofs.directions.Passes.{asked_some, asked_none, asked_told}
 use Rattle.acceleration.proofs.advance.Moved.{more_ok, advance_yes, advance_no}
 use Rattle.acceleration.proofs.advance.advance.Goals as goal
 
 pub more-requires : goal.more-requires
 more-requires c = search (more_ok)
 
-pub returns-in-Finite : goal.returns-in-Finite
-returns-in-Finite c =
-    let at_more = c in
-    let at-alpha = at_more in
-    let at-dot = at-alpha in
-    let start = at-dot in
-    advance_yes start.requires at-dot.dot.ensures at-alpha.in-Finite.is at_more.more.ensures
+pub returns : goal.returns
+returns c = advance_yes c.requires c.dot.ensures (asked_some _ _ c.ok_or.ensures.value c.in_ok-alpha.was) c.more.ensures
 
-pub returns-in-NotFinite : goal.returns-in-NotFinite
-returns-in-NotFinite c =
-    let at-dot = c in
-    let start = at-dot in
-    advance_no start.requires at-dot.dot.ensures c.in-NotFinite.is
+pub returns-in_err-alpha : goal.returns-in_err-alpha
+returns-in_err-alpha c =
+    rw (passed_up _ c.from_residual.ensures.1, asked_told _ c.ok_or.ensures.value c.in_err-alpha.was)
+    (advance_no c.requires c.dot.ensures (asked_none _ _ c.ok_or.ensures.value c.in_err-alpha.was))

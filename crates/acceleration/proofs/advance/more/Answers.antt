@@ -1,7 +1,6 @@
 -- `advance::more` meets its contract. The loop's invariant: what is left to do from here gives what the whole gives.
 use mathlib.Core.Path.{refl}
-use Prim.Native.Nat.{◌-◌}
-use lib.ListN.{length, length-set}
+use lib.ListN.{length-set}
 use Rattle.store.proofs.store.Loop.{left_start, left_on}
 use Rattle.acceleration.proofs.advance.Vectors.{more_turn, more_done}
 use Rattle.acceleration.proofs.advance.more.Goals as goal

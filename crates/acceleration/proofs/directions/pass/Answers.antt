@@ -1,5 +1,5 @@
 -- `directions::pass` meets its contract. The loop's invariant: the pass over what is left gives the whole.
-use Prim.Native.Nat.{◌-◌}
+use Rattle.refusal.proofs.Outcome.{passed_up}
 use Rattle.acceleration.proofs.directions.Passes.{passing_start, passing_ok, passing_on, passing_no, passing_end}
 use Rattle.acceleration.proofs.directions.pass.Goals as goal
 
@@ -10,16 +10,11 @@ pub step-requires : goal.step-requires
 step-requires c = passing_ok c.loop-index.invariant c.loop-index-test.true
 
 pub loop-index-preserved : goal.loop-index-preserved
-loop-index-preserved c =
-    let at-step = c in
-    let at_test = at-step in
-    passing_on at_test.loop-index.invariant at_test.loop-index-test.true at-step.step.ensures c.if-step.true
+loop-index-preserved c = passing_on c.loop-index.invariant c.loop-index-test.true c.step.ensures c.in_ok-step.was
 
-pub returns-else-step : goal.returns-else-step
-returns-else-step c =
-    let at-step = c in
-    let at_test = at-step in
-    passing_no at_test.loop-index.invariant at_test.loop-index-test.true at-step.step.ensures c.if-step.false
+pub returns-in_err-step : goal.returns-in_err-step
+returns-in_err-step c =
+    rw (passed_up _ c.from_residual.ensures.1) (passing_no c.loop-index.invariant c.loop-index-test.true c.step.ensures c.in_err-step.was)
 
 pub returns : goal.returns
 returns c = passing_end c.loop-index.invariant c.loop-index-test.false

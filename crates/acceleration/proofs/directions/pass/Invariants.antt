@@ -1,9 +1,5 @@
-use Prim.Native.Nat.{◌-◌}
 use Rattle.acceleration.proofs.directions.Passes.{Passing}
 use Rattle.acceleration.proofs.directions.pass.Given as goal
 
 abbrev pub invariant-loop-index : goal.invariant-loop-index
-invariant-loop-index l = Passing l.n l.used l.index l.directions l.images l.p l.q l.direction l.image l.initial.f l.f
-
-abbrev pub decreases-loop-index : goal.decreases-loop-index
-decreases-loop-index l = l.used - l.index
+invariant-loop-index l = Passing l.n l.used l._index l.directions l.images l.p l.q l.direction l.image l.initial.f l.f

@@ -1,15 +1,18 @@
 -- `directions::step` meets its contract.
-use Rattle.acceleration.proofs.directions.Passes.{image_ok, direction_ok, step_yes, step_no}
+use Rattle.refusal.proofs.Outcome.{passed_up}
+use Rattle.acceleration.proofs.directions.Passes.{image_ok, direction_ok, asked_some, asked_none, asked_told, step_yes, step_no}
 use Rattle.acceleration.proofs.directions.step.Goals as goal
 
 pub lessen-requires : goal.lessen-requires
 lessen-requires c = search (image_ok)
 
-pub lessen-requires-in-Finite : goal.lessen-requires-in-Finite
-lessen-requires-in-Finite c = search (direction_ok)
+pub lessen-requires-2 : goal.lessen-requires-2
+lessen-requires-2 c = search (direction_ok)
 
-pub returns-in-Finite : goal.returns-in-Finite
-returns-in-Finite c = search (step_yes)
+pub returns : goal.returns
+returns c = step_yes c.requires c.dot.ensures (asked_some _ _ c.ok_or.ensures.value c.in_ok-beta.was) c.lessen.ensures c.lessen-2.ensures
 
-pub returns-in-NotFinite : goal.returns-in-NotFinite
-returns-in-NotFinite c = search (step_no)
+pub returns-in_err-beta : goal.returns-in_err-beta
+returns-in_err-beta c =
+    rw (passed_up _ c.from_residual.ensures.1, asked_told _ c.ok_or.ensures.value c.in_err-beta.was)
+    (step_no c.requires c.dot.ensures (asked_none _ _ c.ok_or.ensures.value c.in_err-beta.was))

@@ -1,7 +1,6 @@
 -- `normalize::over` meets its contract. The loop's invariant: what is left to do from here gives what the whole gives.
 use borrow.Author.Rules.{rules}
 use mathlib.Core.Path.{refl}
-use Prim.Native.Nat.{◌-◌}
 use Rattle.store.proofs.store.Loop.{left_start, left_on}
 use Rattle.acceleration.proofs.normalize.Vectors.{over_turn, over_done}
 use Rattle.acceleration.proofs.normalize.over.Goals as goal

@@ -1,5 +1,4 @@
 use mathlib.Core.Path.{◌≡◌}
-use Prim.Native.Nat.{◌-◌}
 use lib.ListN.{length}
 use Rattle.store.specs.Loop.{for}
 use Rattle.store.proofs.store.Loop.{Left}
@@ -8,6 +7,3 @@ use Rattle.acceleration.proofs.normalize.over.Given as goal
 
 abbrev pub invariant-loop-row : goal.invariant-loop-row
 invariant-loop-row l = (length l.f ≡ length l.initial.f) × Left (over_turn l.a l.x l.y) l.row l.n l.f (for (over_turn l.a l.x l.y) 0 l.n l.initial.f)
-
-abbrev pub decreases-loop-row : goal.decreases-loop-row
-decreases-loop-row l = l.n - l.row

@@ -17,5 +17,7 @@ mirrors_agree-requires c = values_ok_lem c.requires (rw c.faces_of.ensures at c.
 pub returns-then-mirrors : goal.returns-then-mirrors
 returns-then-mirrors c = compared c.requires (rw c.faces_of.ensures at c.face_offsets-faces.ensures) (rw c.faces_of-s.ensures at c.fill_faces.ensures) (rw c.faces_of-s.ensures at c.mirrors.ensures) c.if-mirrors.true c.mirrors_agree.ensures
 
-pub returns : goal.returns
-returns c = asymmetric c.requires (rw c.faces_of.ensures at c.face_offsets-faces.ensures) (rw c.faces_of-s.ensures at c.fill_faces.ensures) (rw c.faces_of-s.ensures at c.mirrors.ensures) c.if-mirrors.false
+pub returns-else-mirrors : goal.returns-else-mirrors
+returns-else-mirrors c =
+    rw c.if-mirrors.false
+    (asymmetric c.requires (rw c.faces_of.ensures at c.face_offsets-faces.ensures) (rw c.faces_of-s.ensures at c.fill_faces.ensures) (rw c.faces_of-s.ensures at c.mirrors.ensures) c.if-mirrors.false)

@@ -1,5 +1,6 @@
 -- `coarsest::last` meets its contract: a law for each of its three ways out.
 use native.Mathlib.Omega.{arith}
+use Rattle.refusal.proofs.Outcome.{passed_up}
 use Rattle.build_level.proofs.coarsest.Sizes.{standing}
 use Rattle.build_level.proofs.coarsest.Ways.{list_ok, end_ok, factor_ok, ended_many, ended_pivot, ended_made}
 use Rattle.build_level.proofs.coarsest.last.Goals as goal
@@ -17,8 +18,8 @@ list_coupled-requires c =
     list_ok c.requires c.coupled_in-coupled.ensures
     c.if-coupled-o.false
 
-pub factor-verdict-requires : goal.factor-verdict-requires
-factor-verdict-requires c =
+pub factor-requires : goal.factor-requires
+factor-requires c =
     factor_ok c.requires
     c.coupled_in-coupled.ensures
     c.if-coupled-o.false c.list_coupled.ensures
@@ -34,8 +35,8 @@ triangle-size-requires c =
       c.well_formed.1.0.0,
     )
 
-pub overflow_add-result-in-Passed : goal.overflow_add-result-in-Passed
-overflow_add-result-in-Passed c =
+pub overflow_add-result-2 : goal.overflow_add-result-2
+overflow_add-result-2 c =
     omega (
       arith,
       end_ok
@@ -46,21 +47,22 @@ overflow_add-result-in-Passed c =
       c.well_formed.1.0.0,
     )
 
-pub returns-in-Passed : goal.returns-in-Passed
-returns-in-Passed c =
+pub returns : goal.returns
+returns c =
     ended_made _
     c.requires
     c.coupled_in-coupled.ensures _
     c.if-coupled-o.false
     c.list_coupled.ensures
-    c.factor-verdict.ensures c.in-Passed.is
+    c.factor.ensures c.in_ok-factor.was
     c.triangle-size.ensures
 
-pub returns-in-Refused : goal.returns-in-Refused
-returns-in-Refused c =
-    ended_pivot _
+pub returns-in_err-factor : goal.returns-in_err-factor
+returns-in_err-factor c =
+    rw (passed_up _ c.from_residual.ensures.1)
+    (ended_pivot _
     c.requires
     c.coupled_in-coupled.ensures _
     c.if-coupled-o.false
     c.list_coupled.ensures
-    c.factor-verdict.ensures c.in-Refused.is
+    c.factor.ensures c.in_err-factor.was)

@@ -7,4 +7,4 @@ returns c =
     pattern_laid
     c.requires
     c.lay_header.ensures
-    c.copy_words.ensures c.copy_words-2.ensures
+    c.copy.ensures c.copy-2.ensures

@@ -1,5 +1,6 @@
 -- `descent::first_steps` meets its contract.
 use native.Mathlib.Omega.{arith}
+use Rattle.build_levels.proofs.descent.Ways.{finite_is, no_finite}
 use Rattle.build_levels.proofs.descent.Levels as laws
 use Rattle.build_levels.proofs.descent.first_steps.Goals as goal
 
@@ -20,8 +21,8 @@ overflow_sub-o c =
     let start = made in
     omega (arith, start.requires.controls.merge)
 
-pub overflow_add-s-then-first : goal.overflow_add-s-then-first
-overflow_add-s-then-first c =
+pub overflow_add-s-2 : goal.overflow_add-s-2
+overflow_add-s-2 c =
     let made = c in
     let start = made in
     omega (arith, start.requires.levels)
@@ -32,16 +33,15 @@ merge-requires c =
     let placed = made in
     laws.merge_requires placed.requires placed.level_in-m.ensures made.step-first.ensures
 
-pub returns-then-first : goal.returns-then-first
-returns-then-first c =
-    let finite = c in
-    let made = finite in
-    let placed = made in
-    laws.steps_on placed.requires placed.level_in-m.ensures made.step-first.ensures finite.if-first.true
-    c.merge.ensures
-
 pub returns : goal.returns
 returns c =
     let made = c in
     let placed = made in
-    laws.steps_bad placed.requires placed.level_in-m.ensures made.step-first.ensures c.if-first.false
+    laws.steps_on placed.requires placed.level_in-m.ensures made.step-first.ensures (finite_is _ c.if-not-first.false)
+    c.merge.ensures
+
+pub returns-then-not-first : goal.returns-then-not-first
+returns-then-not-first c =
+    let made = c in
+    let placed = made in
+    laws.steps_bad placed.requires placed.level_in-m.ensures made.step-first.ensures (no_finite _ c.if-not-first.true)

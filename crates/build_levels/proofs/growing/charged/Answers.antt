@@ -9,14 +9,14 @@ returns-then-words-s c =
     let start = c in
     let a = start.args in
     let heldwords = start.requires.heldwords in
-    words_short a.words a.floats (next_after a.s a.p a.count a.entries a.stage) (omega arith)
+    words_short a.words a.floats (next_after a.s a.p a.next.count a.next.entries a.next.stage) (omega arith)
 
 pub returns-then-floats-s : goal.returns-then-floats-s
 returns-then-floats-s c =
     let start = c in
     let a = start.args in
     let heldfloats = start.requires.heldfloats in
-    floats_short a.words a.floats (next_after a.s a.p a.count a.entries a.stage) (omega arith)
+    floats_short a.words a.floats (next_after a.s a.p a.next.count a.next.entries a.next.stage) (omega arith)
 
 pub returns : goal.returns
 returns c =
@@ -24,4 +24,4 @@ returns c =
     let a = start.args in
     let heldwords = start.requires.heldwords in
     let heldfloats = start.requires.heldfloats in
-    both_hold a.words a.floats (next_after a.s a.p a.count a.entries a.stage) (omega arith) (omega arith)
+    both_hold a.words a.floats (next_after a.s a.p a.next.count a.next.entries a.next.stage) (omega arith) (omega arith)

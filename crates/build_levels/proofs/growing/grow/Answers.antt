@@ -1,6 +1,7 @@
 -- `growing::grow` meets its contract. The loop's invariant: the levels from the frontier on make those from the first one on. The measure
 -- is the number of levels that may follow.
-use Rattle.build_levels.proofs.growing.Growing.{left_start, next_fewer, left_ended, left_next}
+use Rattle.refusal.proofs.Outcome.{passed_up}
+use Rattle.build_levels.proofs.growing.Growing.{left_start, next_fewer, left_ended, left_refused, left_next, then_is}
 use Rattle.build_levels.proofs.growing.grow.Goals as goal
 
 pub loop-g-init : goal.loop-g-init
@@ -9,17 +10,15 @@ loop-g-init c = left_start c.requires
 pub advance-requires : goal.advance-requires
 advance-requires c = c.loop-g.invariant.frontier
 
+pub returns-in_err-g : goal.returns-in_err-g
+returns-in_err-g c =
+    rw (passed_up _ c.from_residual.ensures.1) (left_refused c.loop-g.invariant c.advance.ensures c.in_err-g.was)
+
 pub returns-in-Ended : goal.returns-in-Ended
-returns-in-Ended c =
-    let gone = c in
-    left_ended gone.loop-g.invariant gone.advance.ensures c.in-Ended.is
+returns-in-Ended c = left_ended c.loop-g.invariant c.advance.ensures (then_is c.in_ok-g.was c.in-Ended.is)
 
 pub loop-g-smaller : goal.loop-g-smaller
-loop-g-smaller c =
-    let gone = c in
-    next_fewer gone.advance.ensures c.in-Next.is
+loop-g-smaller c = next_fewer c.advance.ensures (then_is c.in_ok-g.was c.in-Next.is)
 
 pub loop-g-preserved : goal.loop-g-preserved
-loop-g-preserved c =
-    let gone = c in
-    left_next gone.loop-g.invariant gone.advance.ensures c.in-Next.is
+loop-g-preserved c = left_next c.loop-g.invariant c.advance.ensures (then_is c.in_ok-g.was c.in-Next.is)

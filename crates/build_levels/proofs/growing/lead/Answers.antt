@@ -1,52 +1,40 @@
 -- `growing::lead` meets its contract: one law for each way out.
-use Rattle.build_levels.proofs.growing.Growing.{last_ok, led_last, descend_ok, led_refused, charged_ok, led_charged}
+use Rattle.refusal.proofs.Outcome.{passed_up}
+use Rattle.build_levels.proofs.growing.Growing.{last_ok, led_last, led_last_no, descend_ok, led_refused, charged_ok, led_charged, led_short}
 use Rattle.build_levels.proofs.growing.lead.Goals as goal
 
 pub choose-count-requires : goal.choose-count-requires
 choose-count-requires c = c.requires.level
 
-pub last-g-requires : goal.last-g-requires
-last-g-requires c =
-    let chosen = c in
-    let start = chosen in
-    last_ok start.requires chosen.choose-count.ensures
+pub last-requires : goal.last-requires
+last-requires c = last_ok c.requires c.choose-count.ensures
+
+pub returns-in_err-g : goal.returns-in_err-g
+returns-in_err-g c =
+    rw (passed_up _ c.from_residual.ensures.1)
+    (led_last_no c.requires c.choose-count.ensures c.if-count-s.true c.last.ensures c.in_err-g.was)
 
 pub returns-then-count-s : goal.returns-then-count-s
-returns-then-count-s c =
-    let made = c in
-    let choice = made in
-    let chosen = choice in
-    let start = chosen in
-    led_last start.requires chosen.choose-count.ensures choice.if-count-s.true made.last-g.ensures
+returns-then-count-s c = led_last c.requires c.choose-count.ensures c.if-count-s.true c.last.ensures c.in_ok-g.was
 
 pub descend-requires : goal.descend-requires
-descend-requires c =
-    let choice = c in
-    let chosen = choice in
-    let start = chosen in
-    descend_ok start.requires chosen.choose-count.ensures choice.if-count-s.false
+descend-requires c = descend_ok c.requires c.choose-count.ensures c.if-count-s.false
 
 pub charged-requires : goal.charged-requires
-charged-requires c =
-    let down = c in
-    let choice = down in
-    let chosen = choice in
-    let start = chosen in
-    charged_ok start.requires chosen.choose-count.ensures choice.if-count-s.false down.descend.ensures c.in-Done.is
+charged-requires c = charged_ok c.requires c.choose-count.ensures c.if-count-s.false c.descend.ensures c.in_ok-down.was
 
-pub returns-in-Refused : goal.returns-in-Refused
-returns-in-Refused c =
-    let down = c in
-    let choice = down in
-    let chosen = choice in
-    let start = chosen in
-    led_refused start.requires chosen.choose-count.ensures choice.if-count-s.false down.descend.ensures c.in-Refused.is
+pub returns-in_err-down : goal.returns-in_err-down
+returns-in_err-down c =
+    rw (passed_up _ c.from_residual-in_err-down.ensures.1)
+    (led_refused c.requires c.choose-count.ensures c.if-count-s.false c.descend.ensures c.in_err-down.was)
 
-pub returns-in-Done : goal.returns-in-Done
-returns-in-Done c =
-    let down = c in
-    let choice = down in
-    let chosen = choice in
-    let start = chosen in
-    led_charged start.requires chosen.choose-count.ensures choice.if-count-s.false down.descend.ensures c.in-Done.is
-    c.charged.ensures
+pub returns-in_err-next : goal.returns-in_err-next
+returns-in_err-next c =
+    rw (passed_up _ c.from_residual-in_err-next.ensures.1)
+    (led_short c.requires c.choose-count.ensures c.if-count-s.false c.descend.ensures c.in_ok-down.was
+    c.charged.ensures c.in_err-next.was)
+
+pub returns : goal.returns
+returns c =
+    led_charged c.requires c.choose-count.ensures c.if-count-s.false c.descend.ensures c.in_ok-down.was
+    c.charged.ensures c.in_ok-next.was

@@ -1,7 +1,6 @@
 -- `packed::less` meets its contract. The loop's invariant: what is left to do from here gives what the whole gives.
 use mathlib.Core.Path.{refl}
 use native.Mathlib.Omega.{arith}
-use Prim.Native.Nat.{◌-◌}
 use Rattle.store.proofs.store.Loop.{left_start, left_on}
 use Rattle.cholesky.specs.Turns.{less_of}
 use Rattle.cholesky.proofs.packed.Sums.{less_done}

@@ -1,6 +1,5 @@
 -- `packed::triangle` meets its contract. The loop's invariant: `end` is where the next row starts.
 use native.Mathlib.Omega.{arith}
-use Prim.Native.Nat.{◌-◌}
 use Rattle.cholesky.proofs.packed.Triangles.{up_start, up_on, up_end}
 use Rattle.cholesky.proofs.packed.triangle.Goals as goal
 

@@ -1,8 +1,5 @@
 -- `triangular::high_rest` meets its contract. The loop's invariant: the products that are left give what all of them give.
 use native.Mathlib.Omega.{arith}
-use Prim.Native.Nat.{◌-◌}
-use Rattle.store.specs.Loop.{for}
-use Rattle.store.specs.Region.{at}
 use Rattle.store.proofs.store.Loop.{left_start, left_on}
 use Rattle.cholesky.proofs.packed.Triangles.{up_next, up_on}
 use Rattle.cholesky.proofs.triangular.Substitution.{up_row, cross_on, high_done}
@@ -44,9 +41,6 @@ overflow_add-own-in-loop-k c = omega (arith, up_row c.loop-k.invariant.0 c.loop-
 pub overflow_add-own-in-loop-k-2 : goal.overflow_add-own-in-loop-k-2
 overflow_add-own-in-loop-k-2 c = omega (arith, up_row c.loop-k.invariant.0 c.loop-k-test.true, c.loop-k.invariant.1, c.loop-k-test.true, c.requires.solve_ok, c.well_formed.0)
 
-pub overflow_add-k-in-loop-k : goal.overflow_add-k-in-loop-k
-overflow_add-k-in-loop-k c = omega (arith, up_row c.loop-k.invariant.0 c.loop-k-test.true, c.loop-k.invariant.1, c.loop-k-test.true, c.requires.solve_ok, c.well_formed.0)
-
 pub overflow_add-value : goal.overflow_add-value
 overflow_add-value c = omega (arith, c.requires.solve_ok, c.requires.row_at.fits, c.requires.row_at.within, c.well_formed.0)
 
@@ -61,9 +55,3 @@ overflow_add-own c = omega (arith, c.requires.solve_ok, c.requires.row_at.fits, 
 
 pub overflow_add-own-2 : goal.overflow_add-own-2
 overflow_add-own-2 c = omega (arith, c.requires.solve_ok, c.requires.row_at.fits, c.requires.row_at.within, c.well_formed.0)
-
-pub overflow_add-k : goal.overflow_add-k
-overflow_add-k c = omega (arith, c.requires.solve_ok, c.requires.row_at.fits, c.requires.row_at.within, c.well_formed.0)
-
-pub loop-k-smaller : goal.loop-k-smaller
-loop-k-smaller c = omega (arith, c.loop-k-test.true)

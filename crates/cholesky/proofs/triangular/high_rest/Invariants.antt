@@ -1,4 +1,4 @@
-use Prim.Native.Nat.{◌-◌, ◌+◌, ◌≤◌}
+use Prim.Native.Nat.{◌+◌, ◌≤◌}
 use Rattle.store.specs.Loop.{for}
 use Rattle.store.specs.Region.{at}
 use Rattle.store.proofs.store.Loop.{Left}
@@ -8,6 +8,3 @@ use Rattle.cholesky.proofs.triangular.high_rest.Given as goal
 
 abbrev pub invariant-loop-k : goal.invariant-loop-k
 invariant-loop-k l = UpAt l.n l.k l.own × (l.row + 1 ≤ l.k) × Left (cross_turn l.f l.l l.x l.row) l.k l.n l.value (for (cross_turn l.f l.l l.x l.row) (l.row + 1) l.n (at l.f (l.x + l.row)))
-
-abbrev pub decreases-loop-k : goal.decreases-loop-k
-decreases-loop-k l = l.n - l.k

@@ -1,9 +1,7 @@
 -- `triangular::lower_solve` meets its contract. The loop's invariant: the rows that are left give what all of them give.
 use native.Mathlib.Omega.{arith}
 use mathlib.Core.Path.{refl}
-use Prim.Native.Nat.{◌-◌}
-use lib.ListN.{length, length-set}
-use Rattle.store.specs.Loop.{for}
+use lib.ListN.{length-set}
 use Rattle.store.proofs.store.Loop.{left_start, left_on}
 use Rattle.cholesky.proofs.packed.Triangles.{up_start, up_on}
 use Rattle.cholesky.proofs.triangular.Substitution.{up_row, low_ok, low_on, lowered}
@@ -59,12 +57,6 @@ overflow_add-start c = omega (arith, up_row c.loop-row.invariant.1 c.loop-row-te
 
 pub overflow_add-start-in-loop-row : goal.overflow_add-start-in-loop-row
 overflow_add-start-in-loop-row c = omega (arith, up_row c.loop-row.invariant.1 c.loop-row-test.true, c.loop-row-test.true, c.requires, c.loop-row.invariant.0, c.well_formed.0)
-
-pub overflow_add-row : goal.overflow_add-row
-overflow_add-row c = omega (arith, up_row c.loop-row.invariant.1 c.loop-row-test.true, c.loop-row-test.true, c.requires, c.loop-row.invariant.0, c.well_formed.0)
-
-pub loop-row-smaller : goal.loop-row-smaller
-loop-row-smaller c = omega (arith, c.loop-row-test.true)
 
 pub shape_of-f : goal.shape_of-f
 shape_of-f c = c.loop-row.invariant.0

@@ -1,5 +1,5 @@
 use mathlib.Core.Path.{◌≡◌}
-use Prim.Native.Nat.{◌-◌, ◌≤◌}
+use Prim.Native.Nat.{◌≤◌}
 use lib.ListN.{length}
 use Rattle.store.specs.Loop.{for}
 use Rattle.store.proofs.store.Loop.{Left}
@@ -9,6 +9,3 @@ use Rattle.cholesky.proofs.triangular.lower_solve.Given as goal
 
 abbrev pub invariant-loop-row : goal.invariant-loop-row
 invariant-loop-row l = (length l.f ≡ length l.initial.f) × UpAt l.n l.row l.start × (l.row ≤ l.n) × Left (low_turn l.l l.x) l.row l.n l.f (for (low_turn l.l l.x) 0 l.n l.initial.f)
-
-abbrev pub decreases-loop-row : goal.decreases-loop-row
-decreases-loop-row l = l.n - l.row

@@ -1,7 +1,6 @@
 -- `triangular::upper_solve` meets its contract. The loop's invariant: the rows that are left give what all of them give.
 use borrow.Author.Rules.{rules}
 use mathlib.Core.Path.{refl}
-use Prim.Native.Nat.{◌-◌}
 use Rattle.store.proofs.store.Loop.{left_start, left_on}
 use Rattle.cholesky.proofs.packed.Triangles.{down_start, down_row, down_on}
 use Rattle.cholesky.proofs.triangular.Substitution.{solve_resize, high_on, raised}

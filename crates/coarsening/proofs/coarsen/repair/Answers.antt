@@ -5,8 +5,8 @@ use Rattle.coarsening.proofs.coarsen.repair.Goals as goal
 pub form-r-requires : goal.form-r-requires
 form-r-requires c = c.requires.step
 
-pub copy_words-requires : goal.copy_words-requires
-copy_words-requires c =
+pub copy-requires : goal.copy-requires
+copy-requires c =
     positions_ok c.requires
     c.form-r.ensures
 
@@ -14,7 +14,7 @@ pub settle_words-requires : goal.settle_words-requires
 settle_words-requires c =
     next_ok c.requires
     c.form-r.ensures
-    c.copy_words.ensures
+    c.copy.ensures
 
 pub settle_floats-requires : goal.settle_floats-requires
 settle_floats-requires c =
@@ -27,7 +27,7 @@ returns c =
     repaired
     c.requires
     c.form-r.ensures
-    c.copy_words.ensures
+    c.copy.ensures
     c.settle_words.ensures c.settle_floats.ensures
 
 pub shape_of-w : goal.shape_of-w

@@ -5,7 +5,7 @@ use Rattle.coarsening.proofs.coarsen.settle_words.Goals as goal
 pub returns : goal.returns
 returns c =
     settled c.requires
-    c.copy_words.ensures c.copy_words-2.ensures
+    c.copy.ensures c.copy-2.ensures
 
 pub shape_of-w : goal.shape_of-w
 shape_of-w c = (returns c).kept.size

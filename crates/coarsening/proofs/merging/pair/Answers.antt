@@ -1,4 +1,5 @@
 -- `merging::pair` meets its contract.
+use Rattle.refusal.proofs.Outcome.{passed_up}
 use Rattle.coarsening.proofs.merging.Pairing as laws
 use Rattle.coarsening.proofs.merging.pair.Goals as goal
 
@@ -7,8 +8,8 @@ diagonals-requires c =
     let start = c in
     laws.diagonals_requires start.requires c.faces_in-s.ensures
 
-pub check_rows-asked-requires : goal.check_rows-asked-requires
-check_rows-asked-requires c =
+pub check_rows-requires : goal.check_rows-requires
+check_rows-requires c =
     let start = c in
     let ready = laws.ready start.requires c.faces_in-s.ensures
     c.diagonals.ensures in
@@ -16,45 +17,41 @@ check_rows-asked-requires c =
 
 pub coupled_count-coupled-requires : goal.coupled_count-coupled-requires
 coupled_count-coupled-requires c =
-    let asked = c in
-    let start = asked in
-    let ready = laws.ready start.requires asked.faces_in-s.ensures
-    asked.diagonals.ensures in
+    let start = c in
+    let ready = laws.ready start.requires c.faces_in-s.ensures
+    c.diagonals.ensures in
     laws.coupled_requires ready
 
 pub returns-then-coupled-o : goal.returns-then-coupled-o
 returns-then-coupled-o c =
-    let asked = c in
-    let start = asked in
-    let ready = laws.ready start.requires asked.faces_in-s.ensures
-    asked.diagonals.ensures in
-    laws.pair_few ready _ _ _ _ _ asked.check_rows-asked.ensures c.in-Passed.is
+    let start = c in
+    let ready = laws.ready start.requires c.faces_in-s.ensures
+    c.diagonals.ensures in
+    laws.pair_few ready _ _ _ _ _ c.check_rows.ensures c.in_ok-check_rows.was
     c.coupled_count-coupled.ensures c.if-coupled-o.true
 
 pub pairs-joined-requires : goal.pairs-joined-requires
 pairs-joined-requires c =
-    let asked = c in
-    let start = asked in
-    let ready = laws.ready start.requires asked.faces_in-s.ensures
-    asked.diagonals.ensures in
+    let start = c in
+    let ready = laws.ready start.requires c.faces_in-s.ensures
+    c.diagonals.ensures in
     laws.graph_requires ready start.args.given c.graph_in-g.ensures
 
-pub returns-in-Refused : goal.returns-in-Refused
-returns-in-Refused c =
-    let asked = c in
-    let start = asked in
-    let ready = laws.ready start.requires asked.faces_in-s.ensures
-    asked.diagonals.ensures in
-    laws.pair_refused ready _ _ _ _ _ asked.check_rows-asked.ensures c.in-Refused.is
+pub returns-in_err-check_rows : goal.returns-in_err-check_rows
+returns-in_err-check_rows c =
+    let start = c in
+    let ready = laws.ready start.requires c.faces_in-s.ensures
+    c.diagonals.ensures in
+    rw (passed_up _ c.from_residual.ensures.1)
+    (laws.pair_refused ready _ _ _ _ _ c.check_rows.ensures c.in_err-check_rows.was)
 
-pub returns-else-coupled-o : goal.returns-else-coupled-o
-returns-else-coupled-o c =
-    let asked = c in
-    let start = asked in
-    let ready = laws.ready start.requires asked.faces_in-s.ensures
-    asked.diagonals.ensures in
-    laws.pair_paired ready _ _ _ _ _ asked.check_rows-asked.ensures
-    c.in-Passed.is
+pub returns : goal.returns
+returns c =
+    let start = c in
+    let ready = laws.ready start.requires c.faces_in-s.ensures
+    c.diagonals.ensures in
+    laws.pair_paired ready _ _ _ _ _ c.check_rows.ensures
+    c.in_ok-check_rows.was
     c.coupled_count-coupled.ensures
     c.graph_in-g.ensures c.pairs-joined.ensures
     c.if-coupled-o.false

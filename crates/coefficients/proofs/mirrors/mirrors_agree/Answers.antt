@@ -14,10 +14,7 @@ index_at-b-requires c = search (low_of, rules)
 
 pub loop-face-preserved : goal.loop-face-preserved
 loop-face-preserved c =
-    let at-lower = c in
-    let at-upper = at-lower in
-    let at-loop = at-upper in
-    agreed_on at-loop.loop-face.invariant at-upper.loop-face-test.true at-upper.index_at-a.ensures.value at-lower.index_at-b.ensures.value c.pair_agrees-ok.ensures
+    agreed_on c.loop-face.invariant c.loop-face-test.true c.index_at-a.ensures.value c.index_at-b.ensures.value c.pair_agrees-ok.ensures
 
 pub returns : goal.returns
 returns c = search (agreed_done)

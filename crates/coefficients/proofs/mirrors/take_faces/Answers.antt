@@ -15,13 +15,10 @@ pub index_at-b-requires : goal.index_at-b-requires
 index_at-b-requires c = search (low_of, rules)
 
 pub loop-face-preserved : goal.loop-face-preserved
-loop-face-preserved c =
-    let at-lower = c in
-    let at-upper = at-lower in
-    let at-loop = at-upper in (
-      simp length-set at-loop.loop-face.invariant.0,
-      taking_on at-loop.loop-face.invariant.1 at-upper.loop-face-test.true at-upper.index_at-a.ensures.value at-lower.index_at-b.ensures.value c.pair_agrees-ok.ensures,
-    )
+loop-face-preserved c = (
+  simp length-set c.loop-face.invariant.0,
+  taking_on c.loop-face.invariant.1 c.loop-face-test.true c.index_at-a.ensures.value c.index_at-b.ensures.value c.pair_agrees-ok.ensures,
+)
 
 pub returns : goal.returns
 returns c = search (taking_done)

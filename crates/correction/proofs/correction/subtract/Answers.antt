@@ -1,9 +1,8 @@
 -- `correction::subtract` meets its contract. The loop's invariant: what is left to do from here gives what the whole gives.
 use mathlib.Core.Path.{refl}
-use Prim.Native.Nat.{◌-◌}
-use lib.ListN.{length, length-set}
+use lib.ListN.{length-set}
 use Rattle.store.proofs.store.Loop.{left_start, left_on}
-use Rattle.correction.proofs.correction.Correction.{subtract_step, subtract_done, rows_fall}
+use Rattle.correction.proofs.correction.Correction.{subtract_step, subtract_done}
 use native.Mathlib.Omega.{arith}
 use Rattle.correction.proofs.correction.subtract.Goals as goal
 
@@ -16,6 +15,3 @@ loop-row-preserved c = (simp length-set (omega arith), left_on c.loop-row.invari
 
 pub returns : goal.returns
 returns c = search (subtract_done)
-
-pub loop-row-smaller : goal.loop-row-smaller
-loop-row-smaller c = search (rows_fall)

@@ -1,5 +1,4 @@
 use mathlib.Core.Path.{◌≡◌}
-use Prim.Native.Nat.{◌-◌}
 use lib.ListN.{length}
 use Rattle.store.specs.Loop.{for}
 use Rattle.store.proofs.store.Loop.{Left}
@@ -9,6 +8,3 @@ use Rattle.correction.proofs.correction.subtract.Given as goal
 abbrev pub invariant-loop-row : goal.invariant-loop-row
 invariant-loop-row l =
     (length l.f ≡ length l.initial.f) × Left (subtract_step l.rhs l.product l.out) l.row l.n l.f (for (subtract_step l.rhs l.product l.out) 0 l.n l.initial.f)
-
-abbrev pub decreases-loop-row : goal.decreases-loop-row
-decreases-loop-row l = l.n - l.row

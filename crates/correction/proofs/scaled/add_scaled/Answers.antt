@@ -1,6 +1,5 @@
 -- `scaled::add_scaled` meets its contract. The loop's invariant: what is left to do from here gives what the whole gives.
 use mathlib.Core.Path.{refl}
-use Prim.Native.Nat.{◌-◌}
 use Rattle.store.proofs.store.Loop.{left_start, left_on}
 use Rattle.correction.proofs.scaled.Scaled.{scaled_step, scaled_done, scaled_at}
 use borrow.Author.Rules.{rules}

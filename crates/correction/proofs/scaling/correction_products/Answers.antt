@@ -1,5 +1,4 @@
 -- `scaling::correction_products` meets its contract. The loop's invariant: what is left to do from here gives both sums.
-use Prim.Native.Nat.{◌-◌}
 use Rattle.store.proofs.store.Loop.{left_start, left_on, left_end}
 use Rattle.correction.specs.Scaling.{products_turn, products_of}
 use Rattle.correction.proofs.scaling.Scaling.{products_on}

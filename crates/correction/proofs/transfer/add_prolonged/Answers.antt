@@ -1,7 +1,6 @@
 -- `transfer::add_prolonged` meets its contract. The loop's invariant: what is left to do from here gives what the whole gives.
 use mathlib.Core.Path.{refl}
-use Prim.Native.Nat.{◌-◌}
-use lib.ListN.{length, length-set}
+use lib.ListN.{length-set}
 use Rattle.store.proofs.store.Loop.{left_start}
 use Rattle.correction.proofs.transfer.Transfer.{prolong_near, added_left, added_done}
 use native.Mathlib.Omega.{arith}

@@ -1,7 +1,6 @@
 -- `transfer::prolong` meets its contract. The loop's invariant: what is left to do from here gives what the whole gives.
 use mathlib.Core.Path.{refl}
-use Prim.Native.Nat.{◌-◌}
-use lib.ListN.{length, length-set}
+use lib.ListN.{length-set}
 use Rattle.store.proofs.store.Loop.{left_start, left_on}
 use Rattle.correction.proofs.transfer.Transfer.{prolong_done, prolong_on, prolong_near}
 use native.Mathlib.Omega.{arith}

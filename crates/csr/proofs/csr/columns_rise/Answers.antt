@@ -19,14 +19,14 @@ loop-row-preserved c =
     row_on _ _ c.loop-row.invariant
     c.loop-row-test.true
     c.wide-first.ensures c.wide-last.ensures
-    c.row_rises.ensures c.if-row_rises.true
+    c.row_rises.ensures c.if-not-row_rises.false
 
-pub returns-else-row_rises : goal.returns-else-row_rises
-returns-else-row_rises c =
+pub returns-then-not-row_rises : goal.returns-then-not-row_rises
+returns-then-not-row_rises c =
     row_no _ _ _ _ _ _ _
     c.loop-row-test.true
     c.wide-first.ensures c.wide-last.ensures
-    c.row_rises.ensures c.if-row_rises.false
+    c.row_rises.ensures c.if-not-row_rises.true
 
 pub returns : goal.returns
 unfolding columns_ok row_at

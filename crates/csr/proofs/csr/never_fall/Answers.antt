@@ -11,8 +11,8 @@ loop-row-init c = passed_start _ _
 pub loop-row-preserved : goal.loop-row-preserved
 loop-row-preserved c = search (step_on)
 
-pub returns-else-offsets-row : goal.returns-else-offsets-row
-returns-else-offsets-row c = search (step_no)
+pub returns-then-offsets-row : goal.returns-then-offsets-row
+returns-then-offsets-row c = search (step_no)
 
 pub returns : goal.returns
 unfolding never_fall step_ok

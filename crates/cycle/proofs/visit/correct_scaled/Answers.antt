@@ -1,4 +1,5 @@
 -- `visit::correct_scaled` meets its contract: questions 26 and 27 refuse, or the correction is scaled and added.
+use Rattle.refusal.proofs.Outcome.{passed_up}
 use Rattle.cycle.proofs.visit.Laws.{image_ok, products_ok, scaled_ok, scaled_no, scaled_yes}
 use Rattle.cycle.proofs.visit.correct_scaled.Goals as goal
 
@@ -13,8 +14,10 @@ correction_factor-requires c = products_ok c.args.sweeps c.requires c.residual_a
 pub add_scaled-requires : goal.add_scaled-requires
 add_scaled-requires c = scaled_ok c.args.sweeps c.requires c.residual_at-from.ensures c.apply.ensures
 
-pub returns-in-Refused : goal.returns-in-Refused
-returns-in-Refused c = scaled_no c.args.sweeps c.requires c.residual_at-from.ensures c.apply.ensures c.correction_factor.ensures c.in-Refused.is
+pub returns-in_err-factor : goal.returns-in_err-factor
+returns-in_err-factor c =
+    rw (passed_up _ c.from_residual.ensures.1)
+    (scaled_no c.args.sweeps c.requires c.residual_at-from.ensures c.apply.ensures c.correction_factor.ensures c.in_err-factor.was)
 
-pub returns-in-Factor : goal.returns-in-Factor
-returns-in-Factor c = scaled_yes c.args.sweeps c.requires c.residual_at-from.ensures c.apply.ensures c.correction_factor.ensures c.in-Factor.is c.add_scaled.ensures
+pub returns : goal.returns
+returns c = scaled_yes c.args.sweeps c.requires c.residual_at-from.ensures c.apply.ensures c.correction_factor.ensures c.in_ok-factor.was c.add_scaled.ensures

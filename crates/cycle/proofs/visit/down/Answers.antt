@@ -1,4 +1,5 @@
 -- `visit::down` meets its contract: one law for each way out.
+use Rattle.refusal.proofs.Outcome.{passed_up}
 use Rattle.cycle.proofs.visit.Laws.{inner_on, down_no, down_yes}
 use Rattle.cycle.proofs.visit.down.Goals as goal
 
@@ -13,17 +14,8 @@ restrict-requires c =
     let start = at-smooth in
     inner_on start.requires at-smooth.smooth.ensures.floats.size
 
-pub returns-in-Refused : goal.returns-in-Refused
-returns-in-Refused c =
-    let at-q = c in
-    let at-smooth = at-q in
-    let start = at-smooth in
-    down_no start.requires at-smooth.smooth.ensures at-q.in-Refused.is
+pub returns-in_err-smooth : goal.returns-in_err-smooth
+returns-in_err-smooth c = rw (passed_up _ c.from_residual.ensures.1) (down_no c.requires c.smooth.ensures c.in_err-smooth.was)
 
-pub returns-in-Passed : goal.returns-in-Passed
-returns-in-Passed c =
-    let at-restrict = c in
-    let at-enum-told = at-restrict in
-    let at-smooth = at-enum-told in
-    let start = at-smooth in
-    down_yes start.requires at-smooth.smooth.ensures at-enum-told.in-Passed.is at-restrict.restrict.ensures
+pub returns : goal.returns
+returns c = down_yes c.requires c.smooth.ensures c.in_ok-smooth.was c.restrict.ensures

@@ -1,10 +1,7 @@
 use Rattle.decimal_text.proofs.Same.{SameTo}
 use lib.ListN.{length}
-use Prim.Native.Nat.{◌≤◌, ◌+◌}
+use Prim.Native.Nat.{◌-◌}
 use Rattle.decimal_text.proofs.field.same_number.Given as goal
 
-abbrev pub invariant-loop-i : goal.invariant-loop-i
-invariant-loop-i l = (l.i ≤ length l.a) × (l.j ≤ length l.b) × SameTo l.i l.j l.a l.b
-
-abbrev pub decreases-loop-i : goal.decreases-loop-i
-decreases-loop-i l = l.i + l.j
+abbrev pub invariant-loop-k : goal.invariant-loop-k
+invariant-loop-k l = SameTo (length l.a - l.k) (length l.b - l.k) l.a l.b

@@ -1,5 +1,4 @@
 -- `dic::ask_reciprocals` meets its contract. The loop's invariant: the questions left give the answer.
-use Prim.Native.Nat.{◌-◌}
 use Rattle.dic.proofs.dic.Dic.{asking_start, asking_on, asking_no, asking_done}
 use Rattle.dic.proofs.dic.ask_reciprocals.Goals as goal
 
@@ -9,8 +8,8 @@ loop-row-init c = asking_start _ _ _ _
 pub loop-row-preserved : goal.loop-row-preserved
 loop-row-preserved c = search (asking_on)
 
-pub returns-else-is_finite : goal.returns-else-is_finite
-returns-else-is_finite c = search (asking_no)
+pub returns-then-not-is_finite : goal.returns-then-not-is_finite
+returns-then-not-is_finite c = search (asking_no)
 
 pub returns : goal.returns
 returns c = search (asking_done)

@@ -1,7 +1,5 @@
 -- `dic::dic_pivots` meets its contract. The loop's invariant: the pivots so far, of which what is left makes the whole.
 use mathlib.Core.Path.{refl}
-use Prim.Native.Nat.{◌-◌}
-use Rattle.store.specs.Region.{at}
 use Rattle.gauss_seidel.proofs.Turns.{first_at}
 use Rattle.dic.proofs.dic.Turns.{dic_resize}
 use Rattle.dic.proofs.dic.Dic.{pivots_start, pivots_on, pivots_no, pivots_done}
@@ -32,15 +30,15 @@ loop-row-preserved c =
     let at-loop = at-if1 in
     let start = at-loop in (
       search rules,
-      pivots_on _ start.requires.dic_ok at-loop.loop-row.invariant.1 at-if1.loop-row-test.true c.pivot_row-pivot.ensures at-loop.loop-row.invariant.2 at-is-pivot.is_pivot.ensures at-if2.if-is_pivot.true,
+      pivots_on _ start.requires.dic_ok at-loop.loop-row.invariant.1 at-if1.loop-row-test.true c.pivot_row-pivot.ensures at-loop.loop-row.invariant.2 at-is-pivot.is_pivot.ensures at-if2.if-not-is_pivot.false,
       c.pivot_row-pivot.ensures.next,
     )
 
-pub returns-else-is_pivot : goal.returns-else-is_pivot
-returns-else-is_pivot c =
+pub returns-then-not-is_pivot : goal.returns-then-not-is_pivot
+returns-then-not-is_pivot c =
     let at-loop = c in
     let start = at-loop in
-    pivots_no _ start.requires.dic_ok at-loop.loop-row.invariant.1 c.loop-row-test.true at-loop.loop-row.invariant.2 c.is_pivot.ensures c.if-is_pivot.false
+    pivots_no _ start.requires.dic_ok at-loop.loop-row.invariant.1 c.loop-row-test.true at-loop.loop-row.invariant.2 c.is_pivot.ensures c.if-not-is_pivot.true
 
 pub returns : goal.returns
 returns c = pivots_done c.loop-row.invariant.1 c.loop-row-test.false

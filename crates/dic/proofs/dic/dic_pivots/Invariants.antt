@@ -1,5 +1,5 @@
 use mathlib.Core.Path.{◌≡◌}
-use Prim.Native.Nat.{◌+◌, ◌-◌}
+use Prim.Native.Nat.{◌+◌}
 use lib.ListN.{length}
 use Rattle.store.specs.Region.{at}
 use Rattle.dic.proofs.dic.Dic.{Pivoting}
@@ -7,6 +7,3 @@ use Rattle.dic.proofs.dic.dic_pivots.Given as goal
 
 abbrev pub invariant-loop-row : goal.invariant-loop-row
 invariant-loop-row l = (length l.f ≡ length l.initial.f) × Pivoting l.level l.w l.s l.d l.row l.initial.f l.f × (l.pivot ≡ at l.f (l.d + l.row))
-
-abbrev pub decreases-loop-row : goal.decreases-loop-row
-decreases-loop-row l = l.s.rows - l.row

@@ -1,6 +1,5 @@
 -- `dic::invert` meets its contract. The loop's invariant: the reciprocals passed are written, and the answer so far is theirs.
 use mathlib.Core.Path.{refl}
-use Prim.Native.Nat.{◌-◌}
 use Rattle.dic.proofs.dic.Dic.{inverting_start, invert_on, inverted}
 use borrow.Author.Rules.{rules}
 use Rattle.dic.proofs.dic.invert.Goals as goal

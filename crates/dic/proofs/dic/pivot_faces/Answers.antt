@@ -1,5 +1,4 @@
 -- `dic::pivot_faces` meets its contract.
-use Prim.Native.Nat.{◌-◌}
 use Rattle.matrix.proofs.matrix.Turns.{neighbor_in}
 use Rattle.gauss_seidel.proofs.Turns.{scattering_start, scattering_on, scattering_end}
 use native.Mathlib.Omega.{arith}

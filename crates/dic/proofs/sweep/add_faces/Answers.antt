@@ -1,5 +1,4 @@
 -- `sweep::add_faces` meets its contract.
-use Prim.Native.Nat.{◌-◌}
 use Rattle.matrix.proofs.matrix.Turns.{neighbor_in}
 use Rattle.gauss_seidel.proofs.Turns.{gathering_start, gathering_on, gathering_end}
 use native.Mathlib.Omega.{arith}

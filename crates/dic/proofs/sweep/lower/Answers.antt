@@ -1,5 +1,4 @@
 -- `sweep::lower` meets its contract.
-use Prim.Native.Nat.{◌-◌}
 use Rattle.matrix.proofs.matrix.Turns.{vectors_resize}
 use Rattle.gauss_seidel.proofs.Turns.{sweeping_start, sweeping_on, sweeping_end}
 use borrow.Author.Rules.{rules}

@@ -7,10 +7,6 @@ use Rattle.faces.proofs.coupled.coupled_count.Goals.{then-is_coupled, else-is_co
 pub loop-row-init : goal.loop-row-init
 loop-row-init c = coupling_start
 
-pub is_coupled-requires : goal.is_coupled-requires
-is_coupled-requires c =
-    record { coupled_ok = c.requires; row_lt_rows = c.loop-row-test.true }
-
 pub overflow_add-count : goal.overflow_add-count
 overflow_add-count c = omega (arith, coupling_few c.loop-row.invariant, c.loop-row-test.true)
 

@@ -1,5 +1,5 @@
 -- `coupled::coupled_rows` meets its contract. The loop's invariant: the coupled rows before `row` have been pushed.
-use Rattle.faces.proofs.faces.Coupling.{listing_start, listing_size, listing_coupled, listing_room, listing_on, listing_done}
+use Rattle.faces.proofs.faces.Coupling.{listing_start, listing_coupled, listing_room, listing_on, listing_done}
 use Rattle.faces.proofs.coupled.coupled_rows.Goals as goal
 
 pub loop-row-init : goal.loop-row-init
@@ -17,9 +17,6 @@ pub loop-row-preserved : goal.loop-row-preserved
 loop-row-preserved c = listing_on c.loop-row.invariant
     c.loop-row-test.true c.is_coupled-coupled.ensures
     c.push_if-count.ensures
-
-pub shape_of-w : goal.shape_of-w
-shape_of-w c = listing_size c.loop-row.invariant
 
 pub returns : goal.returns
 returns c = listing_done c.loop-row.invariant c.loop-row-test.false

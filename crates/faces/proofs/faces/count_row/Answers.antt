@@ -1,5 +1,5 @@
 -- `faces::count_row` meets its contract. The loop's invariant: the entries before e are counted.
-use Rattle.faces.proofs.faces.Counting.{counting_start, counting_yes, counting_no, counting_done}
+use Rattle.faces.proofs.faces.Counting.{counting_start, counting_yes, counting_no}
 use Rattle.faces.proofs.faces.Standing.{column_near}
 use native.Mathlib.Omega.{arith}
 use Rattle.faces.proofs.faces.count_row.Goals as goal
@@ -7,7 +7,7 @@ use Rattle.faces.proofs.faces.count_row.Goals.{then-index_at-row, else-index_at-
 
 pub loop-e-init : goal.loop-e-init
 loop-e-init c = counting_start c.requires c.wide-end.ensures
-    c.wide-e.ensures
+    c.wide-start.ensures
 
 pub index_at-requires : goal.index_at-requires
 index_at-requires c =
@@ -23,15 +23,6 @@ index_at-requires c =
           (omega (arith, c.loop-e.invariant.few, c.loop-e-test.true));
     }
 
-pub overflow_add-count : goal.overflow_add-count
-overflow_add-count c = omega (
-  arith,
-  c.loop-e.invariant.less,
-  c.loop-e.invariant.few,
-  c.loop-e.invariant.standing.less,
-  c.loop-e-test.true,
-)
-
 pub loop-e-preserved : goal.loop-e-preserved
 loop-e-preserved c =
     elim c.if-index_at-row.branch [
@@ -40,6 +31,3 @@ loop-e-preserved c =
       | else-index_at-row v ↦ counting_no c.loop-e.invariant c.loop-e-test.true
           c.index_at.ensures.value v.if-index_at-row.false v.count-is
     ]
-
-pub returns : goal.returns
-returns c = counting_done c.loop-e.invariant c.loop-e-test.false

@@ -1,6 +1,5 @@
 -- `faces::face_offsets` meets its contract. The loop's invariant: the offsets of the rows before `row` are written.
-use lib.ListN.{length-set}
-use Rattle.faces.proofs.faces.Counting.{offsetting_start, offsetting_size, offsetting_count, offsetting_few, offsetting_on, offsetting_done}
+use Rattle.faces.proofs.faces.Counting.{offsetting_start, offsetting_count, offsetting_few, offsetting_on, offsetting_done}
 use native.Mathlib.Omega.{arith}
 use Rattle.faces.proofs.faces.face_offsets.Goals as goal
 
@@ -17,47 +16,11 @@ overflow_cast-w c = omega (
   c.loop-row.invariant.ok.standing.less,
 )
 
-pub overflow_add-w : goal.overflow_add-w
-overflow_add-w c = omega (
-  arith,
-  offsetting_size c.loop-row.invariant,
-  c.loop-row.invariant.ok.room,
-  c.loop-row-test.true,
-)
-
-pub offset_bounds-w-starts : goal.offset_bounds-w-starts
-offset_bounds-w-starts c = omega (
-  arith,
-  offsetting_size c.loop-row.invariant,
-  c.loop-row.invariant.ok.room,
-  c.loop-row-test.true,
-)
-
-pub bounds-w-starts : goal.bounds-w-starts
-bounds-w-starts c = omega (
-  arith,
-  offsetting_size c.loop-row.invariant,
-  c.loop-row.invariant.ok.room,
-  c.loop-row-test.true,
-)
-
 pub loop-row-preserved : goal.loop-row-preserved
 loop-row-preserved c = offsetting_on c.loop-row.invariant c.loop-row-test.true c.count_row-more.ensures
 
 pub overflow_cast-w-2 : goal.overflow_cast-w-2
 overflow_cast-w-2 c = omega (arith, offsetting_few c.loop-row.invariant, c.loop-row.invariant.ok.standing.less)
-
-pub overflow_add-w-2 : goal.overflow_add-w-2
-overflow_add-w-2 c = omega (arith, offsetting_size c.loop-row.invariant, c.loop-row.invariant.ok.room)
-
-pub offset_bounds-w-starts-2 : goal.offset_bounds-w-starts-2
-offset_bounds-w-starts-2 c = omega (arith, offsetting_size c.loop-row.invariant, c.loop-row.invariant.ok.room)
-
-pub bounds-w-starts-2 : goal.bounds-w-starts-2
-bounds-w-starts-2 c = omega (arith, offsetting_size c.loop-row.invariant, c.loop-row.invariant.ok.room)
-
-pub shape_of-w : goal.shape_of-w
-shape_of-w c = simp length-set (offsetting_size c.loop-row.invariant)
 
 pub returns : goal.returns
 returns c = offsetting_done c.loop-row.invariant c.loop-row-test.false

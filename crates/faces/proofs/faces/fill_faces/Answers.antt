@@ -29,8 +29,5 @@ loop-e-preserved c = filling_on c.loop-e.invariant c.loop-e-test.true c.row_from
     c.index_at-column.ensures.value
     c.push_if.ensures c.push_if-face.ensures
 
-pub shape_of-w : goal.shape_of-w
-shape_of-w c = c.loop-e.invariant.walking.kept.size
-
 pub returns : goal.returns
 returns c = filling_done c.loop-e.invariant c.loop-e-test.false

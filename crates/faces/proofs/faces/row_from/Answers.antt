@@ -18,30 +18,6 @@ bounds-w-s c = omega (arith, seek_near c.requires, c.requires.standing)
 pub loop-end-init : goal.loop-end-init
 loop-end-init c = seek_start c.requires c.wide-end.ensures
 
-pub overflow_add-row : goal.overflow_add-row
-overflow_add-row c = omega (arith, c.loop-end.invariant.near, c.loop-end.invariant.ok.standing)
-
-pub overflow_add-s-in-loop-end : goal.overflow_add-s-in-loop-end
-overflow_add-s-in-loop-end c = omega (
-  arith,
-  seek_near (seek_next c.loop-end.invariant c.loop-end-test.true),
-  c.loop-end.invariant.ok.standing,
-)
-
-pub overflow_add-s-in-loop-end-2 : goal.overflow_add-s-in-loop-end-2
-overflow_add-s-in-loop-end-2 c = omega (
-  arith,
-  seek_near (seek_next c.loop-end.invariant c.loop-end-test.true),
-  c.loop-end.invariant.ok.standing,
-)
-
-pub offset_bounds-w-s-in-loop-end : goal.offset_bounds-w-s-in-loop-end
-offset_bounds-w-s-in-loop-end c = omega (
-  arith,
-  seek_near (seek_next c.loop-end.invariant c.loop-end-test.true),
-  c.loop-end.invariant.ok.standing,
-)
-
 pub bounds-w-s-in-loop-end : goal.bounds-w-s-in-loop-end
 bounds-w-s-in-loop-end c = omega (
   arith,
@@ -49,9 +25,6 @@ bounds-w-s-in-loop-end c = omega (
       (seek_next c.loop-end.invariant c.loop-end-test.true),
   c.loop-end.invariant.ok.standing,
 )
-
-pub loop-end-smaller : goal.loop-end-smaller
-loop-end-smaller c = omega (arith, c.loop-end.invariant.near)
 
 pub loop-end-preserved : goal.loop-end-preserved
 loop-end-preserved c = seek_start (seek_next c.loop-end.invariant c.loop-end-test.true)

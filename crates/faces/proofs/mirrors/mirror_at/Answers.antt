@@ -7,6 +7,3 @@ returns-then-column-row c = mirror_own c.requires c.if-column-row.true
 
 pub entry_at-requires : goal.entry_at-requires
 entry_at-requires c = mirror_entry c.requires
-
-pub returns : goal.returns
-returns c = c.entry_at.ensures

@@ -14,8 +14,8 @@ index_at-column-requires c =
     c.loop-e-test.true in
     record { k_in_bounds = pair.0; k_bound = pair.1 }
 
-pub mirror_at-mirror-requires : goal.mirror_at-mirror-requires
-mirror_at-mirror-requires c = mirroring_entry c.loop-e.invariant
+pub mirror_at-requires : goal.mirror_at-requires
+mirror_at-requires c = mirroring_entry c.loop-e.invariant
     c.loop-e-test.true c.row_from-row.ensures
     c.index_at-column.ensures.value
 
@@ -23,26 +23,19 @@ pub push_if-face-requires : goal.push_if-face-requires
 push_if-face-requires c = mirroring_room c.loop-e.invariant
     c.loop-e-test.true
     c.row_from-row.ensures
-    c.index_at-column.ensures.value c.mirror_at-mirror.ensures c.if-mirror-entries.true
+    c.index_at-column.ensures.value c.in-Some.ensures
 
 pub loop-e-preserved : goal.loop-e-preserved
 loop-e-preserved c = mirroring_on c.loop-e.invariant c.loop-e-test.true
     c.row_from-row.ensures
     c.index_at-column.ensures.value
-    c.mirror_at-mirror.ensures c.if-mirror-entries.true
+    c.in-Some.ensures
     c.push_if-face.ensures
 
-pub shape_of-w-else-mirror-entries : goal.shape_of-w-else-mirror-entries
-shape_of-w-else-mirror-entries c = c.loop-e.invariant.walking.kept.size
-
-pub returns-else-mirror-entries : goal.returns-else-mirror-entries
-returns-else-mirror-entries c = mirroring_no c.loop-e.invariant
+pub returns-in_default : goal.returns-in_default
+returns-in_default c = mirroring_no c.loop-e.invariant
     c.loop-e-test.true
-    c.row_from-row.ensures c.index_at-column.ensures.value
-    c.mirror_at-mirror.ensures c.if-mirror-entries.false
-
-pub shape_of-w : goal.shape_of-w
-shape_of-w c = c.loop-e.invariant.walking.kept.size
+    c.row_from-row.ensures c.index_at-column.ensures.value c.in_default.ensures
 
 pub returns : goal.returns
 returns c = mirroring_done c.loop-e.invariant c.loop-e-test.false

@@ -3,8 +3,8 @@ use mathlib.Core.Bool.{true, false}
 use Rattle.float.proofs.float.Compare.{picked}
 use Rattle.float.proofs.float.max_num.Goals as goal
 
-pub returns-then-a-b : goal.returns-then-a-b
-returns-then-a-b c = picked c.args.a c.args.b true c.if-a-b.true
+pub returns-then-is_nan-a : goal.returns-then-is_nan-a
+returns-then-is_nan-a c = picked c.args.a c.args.b true c.is_nan.ensures.value c.if-is_nan-a.true
 
-pub returns-else-a-b : goal.returns-else-a-b
-returns-else-a-b c = picked c.args.a c.args.b false c.if-a-b.false
+pub returns-else-is_nan-a : goal.returns-else-is_nan-a
+returns-else-is_nan-a c = picked c.args.a c.args.b false c.is_nan.ensures.value c.if-is_nan-a.false

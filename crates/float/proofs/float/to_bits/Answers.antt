@@ -8,11 +8,8 @@ of_nan : 0x7ff8_0000_0000_0000 ≡ to_bits binary64 nan
 unfolding to_bits
 of_nan = refl
 
-pub returns-then-x : goal.returns-then-x
-returns-then-x c = of_nan ∙ sym (ap (to_bits binary64) (is_nan_lem c.args.x c.if-x.true))
-
-pub returns-else-x : goal.returns-else-x
-returns-else-x c = refl
+pub returns-then-is_nan : goal.returns-then-is_nan
+returns-then-is_nan c = of_nan ∙ sym (ap (to_bits binary64) (is_nan_lem c.args.x c.is_nan.ensures.value c.if-is_nan.true))
 
 pub float_to_bits-result : goal.float_to_bits-result
-float_to_bits-result c = no_nan c.args.x c.if-x.false
+float_to_bits-result c = no_nan c.args.x c.is_nan.ensures.value c.if-is_nan.false

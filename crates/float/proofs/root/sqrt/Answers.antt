@@ -22,18 +22,16 @@ pub returns-then-field-eq2047 : goal.returns-then-field-eq2047
 returns-then-field-eq2047 c = of_inf c.args.x (at_top c.args.x (subst T (sym c.well_formed.0.1) tt) (is_above c.args.x c.if-not-x.false) c.if-field-eq2047.true)
 
 -- A subnormal is shifted up.
-shift : (c : goal.Then-field-eq0) → Shift c.args.x (to_bits binary64 c.args.x % 2 ^ 52)
-shift c = at_sub c.args.x (subst T (sym c.well_formed.0.1) tt) (is_above c.args.x c.if-not-x.false) c.if-field-eq0.true
+shift : (c : goal.After-from-up) → Shift c.args.x (to_bits binary64 c.args.x % 2 ^ 52) c.from-up.result
+shift c = rw c.from-up.ensures (at_sub c.args.x (subst T (sym c.well_formed.0.1) tt) (is_above c.args.x c.if-not-x.false) c.if-field-eq0.true)
 
 pub packed-requires : goal.packed-requires
 packed-requires c = (shift c).split.packs
 
 pub returns-then-field-eq0 : goal.returns-then-field-eq0
 returns-then-field-eq0 c =
-    c.packed.ensures ∙ sym (split_root (at_sub c.args.x (subst T (sym c.well_formed.0.1) tt) (is_above c.args.x c.if-not-x.false) c.if-field-eq0.true).split)
-
-pub overflow_cast-up : goal.overflow_cast-up
-overflow_cast-up c = let h = (shift c).word in omega arith
+    let is = at_sub c.args.x (subst T (sym c.well_formed.0.1) tt) (is_above c.args.x c.if-not-x.false) c.if-field-eq0.true in
+    c.packed.ensures ∙ sym (split_root (rw c.from-up.ensures is.split))
 
 pub overflow_sub-up : goal.overflow_sub-up
 overflow_sub-up c = let h = (shift c).over in omega arith

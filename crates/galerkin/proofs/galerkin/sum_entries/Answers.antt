@@ -1,14 +1,10 @@
--- `galerkin::sum_entries` meets its contract.
-use Rattle.galerkin.proofs.galerkin.Turns.{sums_after, sums_done}
-use borrow.Author.Rules.{rules}
+-- `galerkin::sum_entries` meets its contract: the sums are those of the values in front.
+use Rattle.store.specs.Region.{part}
+use Rattle.galerkin.specs.Values.{sums_of}
+use Rattle.galerkin.proofs.galerkin.Region.{wrote_behind}
 use Rattle.galerkin.proofs.galerkin.sum_entries.Goals as goal
-
-pub add_entries-requires : goal.add_entries-requires
-add_entries-requires c = search (sums_after, rules)
 
 pub returns : goal.returns
 returns c =
-    let at-add = c in
-    let at_fill_lem = at-add in
-    let start = at_fill_lem in
-    sums_done start.requires at_fill_lem.fill.ensures at-add.add_entries.ensures
+    wrote_behind (sums_of c.args.total c.args.m (part c.args.positions c.args.m c.args.w.now)) _ c.args.values c.args.m
+    c.split_at_mut-fine.ensures.value c.split_at_mut-fine.ensures.front_len c.requires.below c.sum_given.ensures

@@ -1,7 +1,5 @@
 -- `galerkin::symmetrize` meets its contract. The loop's invariant: what is left of the faces gives the whole.
-use native.Mathlib.Omega.{arith}
 use borrow.Author.Rules.{rules}
-use lib.ListN.{length-set}
 use Rattle.galerkin.specs.Values.{symmetrize_of}
 use Rattle.galerkin.proofs.galerkin.Region.{going_start, going_end}
 use Rattle.galerkin.proofs.galerkin.Turns.{upper_near, lower_near, face_on}
@@ -17,16 +15,8 @@ index_at-i-requires c = search (upper_near, rules)
 pub index_at-j-requires : goal.index_at-j-requires
 index_at-j-requires c = search (lower_near, rules)
 
-pub bounds-f-values-in-loop-k-3 : goal.bounds-f-values-in-loop-k-3
-bounds-f-values-in-loop-k-3 c = simp length-set (omega arith)
-
 pub loop-k-preserved : goal.loop-k-preserved
-loop-k-preserved c =
-    let at-lower = c in
-    let at-upper = at-lower in
-    let at-loop = at-upper in
-    let start = at-loop in
-    face_on start.requires at-loop.loop-k.invariant at-upper.loop-k-test.true at-upper.index_at-i.ensures.value at-lower.index_at-j.ensures.value
+loop-k-preserved c = face_on c.requires c.loop-k.invariant c.loop-k-test.true c.index_at-i.ensures.value c.index_at-j.ensures.value
 
 pub returns : goal.returns
 returns c = search (going_end, rules)

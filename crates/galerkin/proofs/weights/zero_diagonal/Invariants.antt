@@ -1,9 +1,5 @@
-use Prim.Native.Nat.{◌-◌}
 use Rattle.galerkin.proofs.galerkin.Turns.{Clearing}
 use Rattle.galerkin.proofs.weights.zero_diagonal.Given as goal
 
 abbrev pub invariant-loop-row : goal.invariant-loop-row
 invariant-loop-row l = Clearing l.w l.count l.offsets l.columns l.total l.out l.row l.initial.f l.f
-
-abbrev pub decreases-loop-row : goal.decreases-loop-row
-decreases-loop-row l = l.count - l.row

@@ -1,9 +1,5 @@
-use Prim.Native.Nat.{◌-◌}
 use Rattle.galerkin.proofs.galerkin.Turns.{Zeroing}
 use Rattle.galerkin.proofs.weights.zero_entries.Given as goal
 
 abbrev pub invariant-loop-e : goal.invariant-loop-e
 invariant-loop-e l = Zeroing l.w l.row l.lo l.hi l.columns l.total l.out l.e l.initial.f l.f
-
-abbrev pub decreases-loop-e : goal.decreases-loop-e
-decreases-loop-e l = l.hi - l.e

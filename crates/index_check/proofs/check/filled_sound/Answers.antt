@@ -19,22 +19,22 @@ sizes_sound-requires c = check_sizes c.args.h
     c.args.records
     c.handle_sound.ensures
     c.if-not-handle_sound.false c.if-records-h.false
-    c.walk.ensures c.in-Sound.is
+    c.walk.ensures c.in-Ok.is
 
-pub returns-in-Sound : goal.returns-in-Sound
-returns-in-Sound c = check_told c.args.h
+pub returns-in-Ok : goal.returns-in-Ok
+returns-in-Ok c = check_told c.args.h
     c.args.w.now
     c.args.floats
     c.args.records
     c.handle_sound.ensures
     c.if-not-handle_sound.false c.if-records-h.false
-    c.walk.ensures c.in-Sound.is c.sizes_sound.ensures
+    c.walk.ensures c.in-Ok.is c.sizes_sound.ensures
 
-pub returns-in-Stopped : goal.returns-in-Stopped
-returns-in-Stopped c = check_stopped c.args.h
+pub returns-in-Err : goal.returns-in-Err
+returns-in-Err c = check_stopped c.args.h
     c.args.w.now
     c.args.floats
     c.args.records
     c.handle_sound.ensures
     c.if-not-handle_sound.false c.if-records-h.false
-    c.walk.ensures _ _ c.in-Stopped.is
+    c.walk.ensures _ c.in-Err.is

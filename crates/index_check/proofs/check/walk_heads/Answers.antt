@@ -1,6 +1,5 @@
 -- `check::walk_heads` meets its contract. The loop's invariant: what is left of the heads gives the answer of all.
 use mathlib.Core.Path.{◌∙◌}
-use Prim.Native.Nat.{◌-◌}
 use Rattle.index_check.proofs.check.Walking.{heads_start, heads_finish, heads_stop, heads_words, heads_next}
 use Rattle.index_check.proofs.check.walk_heads.Goals as goal
 

@@ -1,8 +1,6 @@
 -- `check::walk_rows` meets its contract. Its loops' invariants: what is left to walk gives the whole walk's answer, and the rows before this one passed.
 use mathlib.Core.Path.{refl, ◌∙◌}
-use Prim.Native.Nat.{◌-◌}
 use Rattle.store.proofs.store.Each.{passed_start, passed_on}
-use Rattle.index_check.specs.Sound.{row_sound}
 use Rattle.index_check.proofs.sound.Laws.{head_told}
 use Rattle.index_check.proofs.sound.Sizes.{place_zero}
 use Rattle.index_check.proofs.check.Walking.{start, finish, level_head, targets_ok, tables_ok, row_ok, hit, astray, next}
@@ -32,7 +30,7 @@ row_sound-requires c = row_ok c.walk.invariant.0
 
 pub loop-row-preserved : goal.loop-row-preserved
 loop-row-preserved c = passed_on c.loop-row.invariant c.loop-row-test.true c.row_sound.ensures
-    c.if-row_sound.true
+    c.if-not-row_sound.false
 
 pub words_end-a-requires : goal.words_end-a-requires
 words_end-a-requires c = (head_told _ _
@@ -44,14 +42,14 @@ walk-preserved c = (next c.walk.invariant.0 c.walk-test.true c.place_at-p.ensure
 pub returns-after-walk : goal.returns-after-walk
 returns-after-walk c = c.walk.invariant.1 ∙ finish c.walk.invariant.0 c.walk-test.false
 
-pub returns-else-row_sound : goal.returns-else-row_sound
-returns-else-row_sound c = c.stopped-at.ensures ∙ hit
+pub returns-then-not-row_sound : goal.returns-then-not-row_sound
+returns-then-not-row_sound c = c.stopped-at.ensures ∙ hit
     c.walk.invariant.0
     c.walk-test.true
     c.place_at-p.ensures
     c.targets_at-t.ensures
     c.loop-row.invariant c.loop-row-test.true c.row_sound.ensures
-    c.if-row_sound.false
+    c.if-not-row_sound.true
 
 pub returns-after-loop-row : goal.returns-after-loop-row
 returns-after-loop-row c = c.stopped-at-then-not-level_sound.ensures ∙ astray c.walk.invariant.0

@@ -1,7 +1,6 @@
+use Rattle.std.specs.Prelude.{Ok}
 use mathlib.Core.Path.{◌≡◌}
-use Prim.Native.Nat.{◌-◌}
 use Rattle.store.proofs.store.Each.{Passed}
-use Rattle.index_check.specs.declared.sound.Walk.{Walk}
 use Rattle.index_check.specs.Sound.{row_sound}
 use Rattle.index_check.specs.LevelContract.{shape_to}
 use Rattle.index_check.proofs.check.Walking.{Outer}
@@ -10,11 +9,5 @@ use Rattle.index_check.proofs.check.walk_rows.Given as goal
 abbrev pub invariant-loop-row : goal.invariant-loop-row
 invariant-loop-row l = Passed (row_sound l.t.rows l.t.entries (shape_to l.w l.p l.t)) l.p.rows l.row
 
-abbrev pub decreases-loop-row : goal.decreases-loop-row
-decreases-loop-row l = l.p.rows - l.row
-
 abbrev pub invariant-walk : goal.invariant-walk
-invariant-walk l = Outer l.w l.levels l.level l.a × (l.at ≡ Walk.Sound)
-
-abbrev pub decreases-walk : goal.decreases-walk
-decreases-walk l = l.levels - l.level
+invariant-walk l = Outer l.w l.levels l.level l.a × (l.at ≡ Ok tt)

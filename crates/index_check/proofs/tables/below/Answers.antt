@@ -1,6 +1,5 @@
 -- `tables::below` meets its contract. The loop's invariant: the answer so far is that of the numbers passed.
 use mathlib.Core.Path.{refl}
-use Prim.Native.Nat.{◌-◌}
 use Rattle.store.proofs.store.Each.{tested_start, tested_on}
 use Rattle.index_check.proofs.tables.Laws.{below_tested}
 use borrow.Author.Rules.{rules}

@@ -1,6 +1,5 @@
 -- `tables::faces_below` meets its contract. The loop's invariant: the answer so far is that of the faces passed.
 use mathlib.Core.Path.{refl}
-use Prim.Native.Nat.{◌-◌}
 use Rattle.store.proofs.store.Each.{tested_start, tested_on}
 use Rattle.index_check.proofs.tables.Laws.{faces_tested}
 use native.Mathlib.Omega.{arith}

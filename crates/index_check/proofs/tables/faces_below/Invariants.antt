@@ -1,10 +1,6 @@
-use Prim.Native.Nat.{◌-◌}
 use Rattle.store.proofs.store.Each.{Tested}
 use Rattle.index_check.proofs.tables.Laws.{face_at}
 use Rattle.index_check.proofs.tables.faces_below.Given as goal
 
 abbrev pub invariant-loop-k : goal.invariant-loop-k
 invariant-loop-k l = Tested (face_at l.w l.p l.rows l.entries) l.n l.k l.ok
-
-abbrev pub decreases-loop-k : goal.decreases-loop-k
-decreases-loop-k l = l.n - l.k

@@ -1,6 +1,5 @@
 -- `tables::two_below` meets its contract. The loop's invariant: the answer so far is that of the numbers passed of both.
 use mathlib.Core.Path.{refl}
-use Prim.Native.Nat.{◌-◌}
 use Rattle.store.proofs.store.Each.{tested_start, tested_on}
 use Rattle.index_check.proofs.tables.Laws.{two_tested}
 use borrow.Author.Rules.{rules}

@@ -1,5 +1,4 @@
 -- `tables::two_rise` meets its contract. The loop's invariant: the answer so far is that of the numbers passed of both.
-use Prim.Native.Nat.{◌-◌}
 use borrow.Author.Rules.{rules}
 use Rattle.store.proofs.store.Each.{tested_start, tested_on}
 use Rattle.index_check.proofs.tables.Laws.{rise_tested}

@@ -1,5 +1,5 @@
 -- `load::laying::entries_of` meets its contract. The loop's invariant: the entries of the cells passed are counted.
-use Rattle.std.proofs.Common.{◌-◌, arith}
+use Rattle.std.proofs.Common.{arith}
 use Rattle.load.proofs.Walk.{counting_done}
 use Rattle.load.proofs.Walk.{deep_is, counting_start, counting_on}
 use Rattle.load.proofs.laying.entries_of.Goals as goal

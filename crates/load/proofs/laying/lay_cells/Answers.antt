@@ -1,5 +1,5 @@
 -- `load::laying::lay_cells` meets its contract. The loop's invariant: the rows of the cells passed are laid.
-use Rattle.std.proofs.Common.{◌-◌, arith}
+use Rattle.std.proofs.Common.{arith}
 use Rattle.load.proofs.Walk.{laying_start, cell_ok, laying_on, laying_done}
 use Rattle.load.proofs.laying.lay_cells.Goals as goal
 

@@ -1,6 +1,5 @@
 -- `matrix::diagonal_product` meets its contract. The loop's invariant: what is left to do from here gives what the whole gives.
 use mathlib.Core.Path.{refl}
-use Prim.Native.Nat.{◌-◌}
 use Rattle.store.proofs.store.Loop.{left_start, left_on, left_end}
 use Rattle.matrix.specs.Turns.{product_turn}
 use borrow.Author.Rules.{rules}

@@ -1,7 +1,6 @@
 -- `residual::diagonal_residual` meets its contract. The loop's invariant: what is left to do from here gives what the whole gives.
 use mathlib.Core.Path.{refl}
-use Prim.Native.Nat.{◌-◌}
-use lib.ListN.{length, length-set}
+use lib.ListN.{length-set}
 use Rattle.store.proofs.store.Loop.{left_start, left_on, left_end}
 use Rattle.matrix.specs.Turns.{less_turn}
 use native.Mathlib.Omega.{arith}
@@ -13,8 +12,7 @@ loop-row-init c = (refl, left_start)
 pub loop-row-preserved : goal.loop-row-preserved
 unfolding less_turn
 loop-row-preserved c =
-    let at-loop = c in
-    (simp length-set (omega arith), left_on at-loop.loop-row.invariant.1 (omega arith) refl)
+    (simp length-set (omega arith), left_on c.loop-row.invariant.1 (omega arith) refl)
 
 pub returns : goal.returns
 returns c = search (left_end)

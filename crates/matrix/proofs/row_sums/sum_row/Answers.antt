@@ -4,11 +4,8 @@ use Rattle.matrix.proofs.row_sums.sum_row.Goals as goal
 
 pub sum_faces-requires : goal.sum_faces-requires
 sum_faces-requires c =
-    let start = c in
-    record { kernel_ok = start.requires.kernel_ok; rows_in_bounds = start.requires.rows_in_bounds; row_lt_rows = start.requires.row_lt_rows; hi_bound = row_faces_lem start.requires.kernel_ok start.requires.row_lt_rows c.wide-hi.ensures }
+    record { kernel_ok = c.requires.kernel_ok; rows_in_bounds = c.requires.rows_in_bounds; row_lt_rows = c.requires.row_lt_rows; hi_bound = row_faces_lem c.requires.kernel_ok c.requires.row_lt_rows c.wide-hi.ensures }
 
 pub returns : goal.returns
 returns c =
-    let at-wide2 = c in
-    let at_wide = at-wide2 in
-    sum_rowed at_wide.wide-lo.ensures at-wide2.wide-hi.ensures c.sum_faces.ensures
+    sum_rowed c.wide-lo.ensures c.wide-hi.ensures c.sum_faces.ensures

@@ -1,6 +1,5 @@
 -- `row_sums::sum_rows` meets its contract. The loop's invariant: what is left to do from here gives what the whole gives.
 use mathlib.Core.Path.{refl}
-use Prim.Native.Nat.{◌-◌}
 use Rattle.store.proofs.store.Loop.{left_start, left_on}
 use Rattle.matrix.proofs.matrix.Turns.{summed}
 use native.Mathlib.Omega.{arith}
@@ -16,9 +15,7 @@ sum_row-requires c =
 
 pub loop-row-preserved : goal.loop-row-preserved
 loop-row-preserved c =
-    let at-if1 = c in
-    let at-loop = at-if1 in
-    (search rules, left_on at-loop.loop-row.invariant.1 at-if1.loop-row-test.true c.sum_row.ensures.is)
+    (search rules, left_on c.loop-row.invariant.1 c.loop-row-test.true c.sum_row.ensures.is)
 
 pub returns : goal.returns
 returns c = summed c.loop-row.invariant.1 c.loop-row-test.false

@@ -1,5 +1,4 @@
 use mathlib.Core.Path.{◌≡◌}
-use Prim.Native.Nat.{◌-◌}
 use lib.ListN.{length}
 use Rattle.store.specs.Loop.{for}
 use Rattle.store.proofs.store.Loop.{Left}
@@ -8,6 +7,3 @@ use Rattle.matrix.proofs.row_sums.sum_rows.Given as goal
 
 abbrev pub invariant-loop-row : goal.invariant-loop-row
 invariant-loop-row l = (length l.f ≡ length l.initial.f) × Left (sum_row_turn l.w l.s l.sums) l.row l.s.rows l.f (for (sum_row_turn l.w l.s l.sums) 0 l.s.rows l.initial.f)
-
-abbrev pub decreases-loop-row : goal.decreases-loop-row
-decreases-loop-row l = l.s.rows - l.row

@@ -1,9 +1,14 @@
--- `matrix_market::entries::entry_in` meets its contract: by whether the line has three fields.
-use Rattle.matrix_market.proofs.Entry.{line_three, line_other}
+-- `matrix_market::entries::entry_in` meets its contract: what the entry with its places has, without them.
+use mathlib.Core.Path.{sym, ap, ◌∙◌}
+use Rattle.std.proofs.lemmas.Result.{err_from_is_err_and}
+use Rattle.std.specs.Prelude.{Err}
+use Rattle.matrix_market.proofs.Told.{forget, told_in}
 use Rattle.matrix_market.proofs.entries.entry_in.Goals as goal
 
-pub returns-then-t : goal.returns-then-t
-returns-then-t c = line_three c.args.symmetric c.args.rows c.args.line.now c.three_fields-t.ensures c.if-t.true c.entry_of.ensures
+pub returns-in_err-entry : goal.returns-in_err-entry
+returns-in_err-entry c =
+    let p = err_from_is_err_and c.from_residual.result c.from_residual.ensures.1 in
+    p.1 ∙ ap (λ e. Err e) p.2 ∙ ap forget (sym c.in_err-entry.was ∙ c.entry_in.ensures) ∙ told_in c.args.symmetric c.args.rows c.args.line.now
 
 pub returns : goal.returns
-returns c = line_other c.args.symmetric c.args.rows c.args.line.now c.three_fields-t.ensures c.if-t.false
+returns c = ap forget (sym c.in_ok-entry.was ∙ c.entry_in.ensures) ∙ told_in c.args.symmetric c.args.rows c.args.line.now

@@ -1,9 +1,7 @@
 -- `matrix_market::lines::line_at` meets its contract: up to the line feed, without the carriage return.
 use Rattle.matrix_market.proofs.Data.{line_is, stop_found, to_found}
-use lib.ListN.{length}
 use native.Mathlib.Omega.{arith}
-use Prim.Native.Nat.{ℕ, ◌+◌, min}
-use mathlib.Core.Path.{refl, ap, ◌∙◌}
+use mathlib.Core.Path.{refl}
 use Rattle.matrix_market.proofs.lines.line_at.Goals as goal
 
 pub overflow_add-stop : goal.overflow_add-stop
@@ -15,8 +13,5 @@ slice_bounds-return_length-end c = omega (arith, (stop_found c.args.text.now c.a
 pub overflow_add-to : goal.overflow_add-to
 overflow_add-to c = omega (arith, (stop_found c.args.text.now c.args.from c.requires c.find_either.ensures).1, (to_found c.args.text.now c.args.from c.requires c.find_either.ensures c.return_length.ensures).1)
 
-pub slice_bounds-is_data-end : goal.slice_bounds-is_data-end
-slice_bounds-is_data-end c = omega (arith, (stop_found c.args.text.now c.args.from c.requires c.find_either.ensures).1, (to_found c.args.text.now c.args.from c.requires c.find_either.ensures c.return_length.ensures).1)
-
 pub returns : goal.returns
-returns c = let t = c.args.text.now in let f = c.args.from in line_is t f _ c.requires refl (to_found t f c.requires c.find_either.ensures c.return_length.ensures).0 c.is_data-found.ensures (c.line_start-next.ensures ∙ ap (λ (k : ℕ). min (f + k + 1) (length t)) (stop_found t f c.requires c.find_either.ensures).0)
+returns c = let t = c.args.text.now in let f = c.args.from in line_is t f _ c.requires refl (to_found t f c.requires c.find_either.ensures c.return_length.ensures).0 (omega (arith, c.min-next.ensures, (stop_found t f c.requires c.find_either.ensures).0))

@@ -1,26 +1,24 @@
--- `matrix_reader::entries::read_line` meets its contract: by the three cases of the entry.
-use Rattle.matrix_reader.proofs.Lines.{stored_none, stored_bad, stored_entry}
-use Rattle.matrix_reader.proofs.Within.{entry_below, bad_below}
+-- `matrix_reader::entries::read_line` meets its contract: the places of an entry are below the rows, with a value and without.
+use mathlib.Core.Path.{◌≡◌}
 use native.Mathlib.Omega.{arith}
+use borrow.Author.Rules.{rules}
+use Rattle.std.specs.Prelude.{Err}
+use Rattle.matrix_market.specs.declared.placed.PlacedError.{PlacedError}
+use Rattle.matrix_reader.proofs.Within.{entry_below, bad_below}
 use Rattle.matrix_reader.proofs.entries.read_line.Goals as goal
 
 pub overflow_cast-row : goal.overflow_cast-row
-overflow_cast-row c = omega (arith, (bad_below c.args.line.now c.entry_in-p.ensures c.in-BadValue.is).row, c.requires.few)
+overflow_cast-row c =
+    let e : c.entry_in-p.result ≡ Err (PlacedError.BadValue c.in-Err-BadValue.row c.in-Err-BadValue.column) = search rules in
+    omega (arith, (bad_below c.args.line.now c.entry_in-p.ensures e).row, c.requires.few)
 
 pub overflow_cast-column : goal.overflow_cast-column
-overflow_cast-column c = omega (arith, (bad_below c.args.line.now c.entry_in-p.ensures c.in-BadValue.is).column, c.requires.few)
+overflow_cast-column c =
+    let e : c.entry_in-p.result ≡ Err (PlacedError.BadValue c.in-Err-BadValue.row c.in-Err-BadValue.column) = search rules in
+    omega (arith, (bad_below c.args.line.now c.entry_in-p.ensures e).column, c.requires.few)
 
-pub overflow_cast-row-in-Entry : goal.overflow_cast-row-in-Entry
-overflow_cast-row-in-Entry c = omega (arith, (entry_below c.args.line.now c.entry_in-p.ensures c.in-Entry.is).row, c.requires.few)
+pub overflow_cast-row-in-Ok : goal.overflow_cast-row-in-Ok
+overflow_cast-row-in-Ok c = omega (arith, (entry_below c.args.line.now c.entry_in-p.ensures c.in-Ok.is).row, c.requires.few)
 
-pub overflow_cast-column-in-Entry : goal.overflow_cast-column-in-Entry
-overflow_cast-column-in-Entry c = omega (arith, (entry_below c.args.line.now c.entry_in-p.ensures c.in-Entry.is).column, c.requires.few)
-
-pub returns-in-Malformed : goal.returns-in-Malformed
-returns-in-Malformed c = stored_none c.args.m c.args.rows.now c.args.columns.now c.args.values.now c.entry_in-p.ensures c.in-Malformed.is
-
-pub returns-in-BadValue : goal.returns-in-BadValue
-returns-in-BadValue c = stored_bad c.entry_in-p.ensures c.in-BadValue.is c.put_entry.ensures
-
-pub returns-in-Entry : goal.returns-in-Entry
-returns-in-Entry c = stored_entry c.entry_in-p.ensures c.in-Entry.is c.put_entry-in-Entry.ensures
+pub overflow_cast-column-in-Ok : goal.overflow_cast-column-in-Ok
+overflow_cast-column-in-Ok c = omega (arith, (entry_below c.args.line.now c.entry_in-p.ensures c.in-Ok.is).column, c.requires.few)

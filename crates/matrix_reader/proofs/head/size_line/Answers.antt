@@ -1,12 +1,10 @@
 -- `matrix_reader::head::size_line` meets its contract: by whether there is a line, and what it says.
-use Rattle.matrix_reader.proofs.Opening.{size_none, size_refused, size_read}
+use Rattle.refusal.proofs.Outcome.{passed_up}
+use Rattle.matrix_reader.proofs.Opening.{size_refused, size_read}
 use Rattle.matrix_reader.proofs.head.size_line.Goals as goal
 
-pub returns-in-Refused : goal.returns-in-Refused
-returns-in-Refused c = size_refused c.args.text.now c.args.symmetric c.next_line-l.ensures c.if-l.true c.sizes_of-s.ensures _ c.in-Refused.is
+pub returns-in_err-rows : goal.returns-in_err-rows
+returns-in_err-rows c = rw (passed_up _ c.from_residual.ensures.1) (size_refused c.args.text.now c.args.symmetric c.in-Some.ensures c.sizes_of.ensures _ c.in_err-rows.was)
 
-pub returns-in-Read : goal.returns-in-Read
-returns-in-Read c = size_read c.args.text.now c.args.symmetric c.next_line-l.ensures c.if-l.true c.sizes_of-s.ensures _ c.in-Read.is
-
-pub returns-else-l : goal.returns-else-l
-returns-else-l c = size_none c.args.text.now c.args.symmetric c.next_line-l.ensures c.if-l.false
+pub returns : goal.returns
+returns c = size_read c.args.text.now c.args.symmetric c.in-Some.ensures c.sizes_of.ensures _ c.in_ok-rows.was

@@ -1,5 +1,4 @@
 -- `matrix_reader::record::write_picked` meets its contract: the first k of them are written.
-use mathlib.Core.Path.{refl}
 use mathlib.Core.List.{map}
 use lib.ListN.{length-map}
 use Rattle.store.specs.Region.{idx}
@@ -25,7 +24,7 @@ pub put_u32-requires : goal.put_u32-requires
 put_u32-requires c = omega (arith, c.requires.room, c.loop-k.invariant.1.size)
 
 pub loop-k-preserved : goal.loop-k-preserved
-loop-k-preserved c = (omega arith, flat_on bytes4 0 4 _ (map (idx c.args.words.now) c.args.order.now) c.loop-k.invariant.1 (omega (arith, length-map c.args.order.now (idx c.args.words.now))) (picked bytes4 (idx c.args.words.now) 0 4 _ c.args.order.now c.loop-k.k (omega arith) c.wide-i.ensures refl c.put_u32.ensures))
+loop-k-preserved c = (omega arith, flat_on bytes4 0 4 _ (map (idx c.args.words.now) c.args.order.now) c.loop-k.invariant.1 (omega (arith, length-map c.args.order.now (idx c.args.words.now))) (picked bytes4 (idx c.args.words.now) 0 4 _ c.args.order.now c.loop-k.k (omega arith) c.wide-i.ensures c.from.ensures c.put_u32.ensures))
 
 pub shape_of-out : goal.shape_of-out
 shape_of-out c = c.loop-k.invariant.1.size

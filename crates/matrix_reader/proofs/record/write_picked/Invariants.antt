@@ -1,5 +1,5 @@
 use mathlib.Core.List.{map}
-use Prim.Native.Nat.{◌-◌, ◌*◌, ◌≤◌}
+use Prim.Native.Nat.{◌*◌, ◌≤◌}
 use lib.ListN.{length, take}
 use Rattle.store.specs.Region.{idx, Wrote}
 use Rattle.record_format.specs.Bytes.{bytes4, flat}
@@ -7,6 +7,3 @@ use Rattle.matrix_reader.proofs.record.write_picked.Given as goal
 
 abbrev pub invariant-loop-k : goal.invariant-loop-k
 invariant-loop-k l = (l.k ≤ length l.order) × Wrote l.to (4 * l.k) (flat bytes4 (take l.k (map (idx l.words) l.order))) l.initial.out l.out
-
-abbrev pub decreases-loop-k : goal.decreases-loop-k
-decreases-loop-k l = length l.order - l.k

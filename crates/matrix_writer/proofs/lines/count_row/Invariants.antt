@@ -2,11 +2,9 @@ use Prim.Native.Nat.{◌-◌}
 use Rattle.matrix_writer.proofs.Laying.{CountTo}
 use Rattle.matrix_writer.specs.Turns.{written_from}
 use Rattle.matrix_writer.specs.Text.{row_length}
+use Rattle.store.specs.Region.{idx}
 use Rattle.matrix_writer.specs.Contract.{sized_matrix}
 use Rattle.matrix_writer.proofs.lines.count_row.Given as goal
 
-abbrev pub invariant-loop-k : goal.invariant-loop-k
-invariant-loop-k l = CountTo (written_from l.symmetric (sized_matrix l.b l.rows l.entries) l.row) (row_length (sized_matrix l.b l.rows l.entries) l.row) l.k l.n
-
-abbrev pub decreases-loop-k : goal.decreases-loop-k
-decreases-loop-k l = l.last - l.first - l.k
+abbrev pub invariant-loop-e : goal.invariant-loop-e
+invariant-loop-e l = CountTo (written_from l.symmetric (sized_matrix l.b l.rows l.entries) l.row) (row_length (sized_matrix l.b l.rows l.entries) l.row) (l.e - idx (sized_matrix l.b l.rows l.entries).offsets l.row) l.n

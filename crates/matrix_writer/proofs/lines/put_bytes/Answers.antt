@@ -1,20 +1,20 @@
--- `matrix_writer::lines::put_bytes` meets its contract: the loop's invariant: the first k bytes are laid.
+-- `matrix_writer::lines::put_bytes` meets its contract: the loop's invariant: the bytes passed are laid.
 use mathlib.Core.Path.{refl, ◌∙◌}
 use native.Mathlib.Omega.{arith}
 use Rattle.matrix_writer.proofs.Laying.{bytes_start, laid_size, bytes_early, bytes_on, bytes_all}
 use Rattle.matrix_writer.proofs.lines.put_bytes.Goals as goal
 
-pub loop-k-init : goal.loop-k-init
-loop-k-init c = (refl, bytes_start)
+pub loop-byte-init : goal.loop-byte-init
+loop-byte-init c = (refl, bytes_start)
 
 pub put_byte-next-requires : goal.put_byte-next-requires
-put_byte-next-requires c = omega (arith, bytes_early c.loop-k.invariant.1)
+put_byte-next-requires c = omega (arith, bytes_early c.loop-byte.invariant.1)
 
-pub loop-k-preserved : goal.loop-k-preserved
-loop-k-preserved c = (laid_size c.put_byte-next.ensures ∙ c.loop-k.invariant.0, bytes_on c.loop-k.invariant.1 c.loop-k-test.true refl c.put_byte-next.ensures)
+pub loop-byte-preserved : goal.loop-byte-preserved
+loop-byte-preserved c = (laid_size c.put_byte-next.ensures ∙ c.loop-byte.invariant.0, bytes_on c.loop-byte.invariant.1 c.loop-byte-test.true refl c.put_byte-next.ensures)
 
 pub shape_of-out : goal.shape_of-out
-shape_of-out c = c.loop-k.invariant.0
+shape_of-out c = c.loop-byte.invariant.0
 
 pub returns : goal.returns
-returns c = bytes_all c.loop-k.invariant.1 c.loop-k-test.false
+returns c = bytes_all c.loop-byte.invariant.1 c.loop-byte-test.false

@@ -1,5 +1,4 @@
 use mathlib.Core.Path.{◌≡◌}
-use Prim.Native.Nat.{◌-◌}
 use lib.ListN.{length}
 use Rattle.matrix_writer.proofs.Laying.{LaidTo}
 use Rattle.matrix_writer.specs.Text.{row_triplets}
@@ -8,6 +7,3 @@ use Rattle.matrix_writer.proofs.lines.put_rows.Given as goal
 
 abbrev pub invariant-loop-row : goal.invariant-loop-row
 invariant-loop-row l = (length l.out ≡ length l.initial.out) × LaidTo (row_triplets l.symmetric (sized_matrix l.b l.rows l.entries)) l.rows l.row l.at l.initial.out l.out l.next
-
-abbrev pub decreases-loop-row : goal.decreases-loop-row
-decreases-loop-row l = l.rows - l.row

@@ -1,4 +1,3 @@
-use Prim.Native.Nat.{◌-◌}
 use Rattle.store.proofs.store.Each.{Passed}
 use Rattle.csr.specs.Turns.{row_at}
 use Rattle.matrix_writer.specs.Contract.{sized_matrix}
@@ -6,6 +5,3 @@ use Rattle.matrix_writer.proofs.questions.columns_rise.Given as goal
 
 abbrev pub invariant-loop-row : goal.invariant-loop-row
 invariant-loop-row l = Passed (row_at l.rows (sized_matrix l.b l.rows l.entries).offsets (sized_matrix l.b l.rows l.entries).columns) l.rows l.row
-
-abbrev pub decreases-loop-row : goal.decreases-loop-row
-decreases-loop-row l = l.rows - l.row

@@ -1,4 +1,3 @@
-use Prim.Native.Nat.{◌-◌}
 use Rattle.matrix_writer.proofs.Asking.{Asking}
 use Rattle.matrix_writer.specs.Writing.{row_asked}
 use Rattle.matrix_writer.specs.Contract.{sized_matrix}
@@ -6,6 +5,3 @@ use Rattle.matrix_writer.proofs.questions.entries_verdict.Given as goal
 
 abbrev pub invariant-loop-row : goal.invariant-loop-row
 invariant-loop-row l = Asking (row_asked l.symmetric (sized_matrix l.b l.rows l.entries)) l.rows l.row
-
-abbrev pub decreases-loop-row : goal.decreases-loop-row
-decreases-loop-row l = l.rows - l.row

@@ -11,8 +11,8 @@ loop-row-init c = passed_start _ _
 pub loop-row-preserved : goal.loop-row-preserved
 loop-row-preserved c = search (fall_on)
 
-pub returns-else-first-last : goal.returns-else-first-last
-returns-else-first-last c = search (fall_no)
+pub returns-then-first-last : goal.returns-then-first-last
+returns-then-first-last c = search (fall_no)
 
 pub returns : goal.returns
 unfolding never_fall step_ok

@@ -1,20 +1,18 @@
--- `matrix_writer::questions::row_rises` meets its contract: the loop's invariant: each entry of the row that was passed fits.
-use Rattle.store.proofs.store.Each.{passed_start, passed_on, passed_no, passed_yes}
-use Rattle.csr.specs.Questions.{row_ok}
-use Rattle.csr.specs.Turns.{entry_from}
+-- `matrix_writer::questions::row_rises` meets its contract: the test of its chain is that of each entry of the row.
+use mathlib.Core.Path.{◌≡◌, refl}
+use mathlib.Core.Bool.{true, false}
+use borrow.Author.Tests.{tests}
+use Rattle.std.proofs.Common.{rules}
+use Rattle.std.proofs.lemmas.Iterator.{cases_from_all, YieldsList-from_range}
+use Rattle.csr.specs.Questions.{row_ok, entry_ok}
+use Rattle.csr.proofs.csr.Chains.{each_from}
+use Rattle.matrix_writer.specs.Contract.{sized_matrix}
 use Rattle.matrix_writer.proofs.questions.row_rises.Goals as goal
 
-pub loop-k-init : goal.loop-k-init
-loop-k-init c = passed_start _ _
-
-pub loop-k-preserved : goal.loop-k-preserved
-unfolding entry_from
-loop-k-preserved c = search (passed_on)
-
-pub returns-else-entry_fits : goal.returns-else-entry_fits
-unfolding row_ok entry_from
-returns-else-entry_fits c = search (passed_no)
-
 pub returns : goal.returns
-unfolding row_ok entry_from
-returns c = search (passed_yes)
+unfolding row_ok
+returns c =
+    let test = entry_ok c.args.rows (sized_matrix c.args.b.now c.args.rows c.args.entries).columns c.args.last in
+    let by_call = cases_from_all _ _ _ (λ x. test x ≡ true) (λ x. test x ≡ false) c.all.ensures.ran (YieldsList-from_range _ _ _ refl refl)
+    (λ x q k. search (rules, tests)) (λ x q k. search (rules, tests)) in
+    each_from test _ _ _ _ (λ k. refl) by_call

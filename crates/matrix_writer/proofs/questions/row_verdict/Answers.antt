@@ -1,31 +1,28 @@
 -- `matrix_writer::questions::row_verdict` meets its contract: the loop's invariant: what is left to ask answers as the whole.
-use native.Mathlib.Omega.{arith}
-use Rattle.matrix_writer.proofs.Record.{stands_at_lem, row_go, row_stop, row_end}
-use Rattle.matrix_writer.proofs.Asking.{asking_start}
+use Rattle.std.proofs.Common.{◌≡◌, Ok}
+use Rattle.refusal.proofs.Outcome.{passed_up}
+use Rattle.matrix_writer.proofs.Record.{stands_at_lem, row_begin, row_go, row_stop, row_end}
 use Rattle.matrix_writer.proofs.questions.row_verdict.Goals as goal
 
-pub range_at-range-requires : goal.range_at-range-requires
-range_at-range-requires c =
+pub range_at-first-requires : goal.range_at-first-requires
+range_at-first-requires c =
     record { sizes_fit = c.requires.sizes_fit; rows_in = c.requires.sound.rows_in; row_lt_rows = c.requires.row_lt_rows }
 
-pub overflow_sub-count : goal.overflow_sub-count
-overflow_sub-count c = c.range_at-range.ensures.order
+pub loop-e-init : goal.loop-e-init
+loop-e-init c = row_begin _ _ _ c.range_at-first.ensures
 
-pub loop-k-init : goal.loop-k-init
-loop-k-init c = asking_start _ _
+pub entry_verdict-requires : goal.entry_verdict-requires
+entry_verdict-requires c =
+    record { sizes_fit = c.requires.sizes_fit; sound = c.requires.sound; stands_in = stands_at_lem c.requires.row_lt_rows c.range_at-first.ensures c.loop-e.auto.e c.loop-e-test.true }
 
-pub overflow_add-first : goal.overflow_add-first
-overflow_add-first c = omega (arith, c.range_at-range.ensures.within)
+pub returns-in_err-entry_verdict : goal.returns-in_err-entry_verdict
+returns-in_err-entry_verdict c =
+    rw (passed_up _ c.from_residual.ensures.1) (row_stop _ _ _ c.range_at-first.ensures c.loop-e.invariant c.loop-e.auto.e c.loop-e-test.true c.entry_verdict.ensures c.in_err-entry_verdict.was)
 
-pub entry_verdict-v-requires : goal.entry_verdict-v-requires
-entry_verdict-v-requires c =
-    record { sizes_fit = c.requires.sizes_fit; sound = c.requires.sound; stands_in = stands_at_lem c.requires.row_lt_rows c.range_at-range.ensures c.loop-k-test.true }
-
-pub returns-in-Refused : goal.returns-in-Refused
-returns-in-Refused c = row_stop _ _ _ c.range_at-range.ensures c.loop-k.invariant c.loop-k-test.true c.entry_verdict-v.ensures c.in-Refused.is
-
-pub loop-k-preserved : goal.loop-k-preserved
-loop-k-preserved c = row_go _ _ _ c.range_at-range.ensures c.loop-k.invariant c.loop-k-test.true c.entry_verdict-v.ensures c.in-Passed.is
+pub loop-e-preserved : goal.loop-e-preserved
+loop-e-preserved c =
+    let passed : c.entry_verdict.result ≡ Ok tt = c.in_ok-entry_verdict.was in
+    row_go _ _ _ c.range_at-first.ensures c.loop-e.invariant c.loop-e.auto.e c.loop-e-test.true c.entry_verdict.ensures passed
 
 pub returns : goal.returns
-returns c = row_end _ _ _ c.range_at-range.ensures c.loop-k.invariant c.loop-k-test.false
+returns c = row_end _ _ _ c.range_at-first.ensures c.loop-e.invariant c.loop-e-test.false

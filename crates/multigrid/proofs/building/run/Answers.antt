@@ -4,10 +4,10 @@ use Rattle.multigrid.proofs.building.Builds.{cells_ok, ran_made, ran_refused}
 use Rattle.multigrid.proofs.building.run.Goals as goal
 
 pub cells-table-requires : goal.cells-table-requires
-cells-table-requires c = cells_ok c.build.ensures c.in-Made.is
+cells-table-requires c = cells_ok c.build.ensures c.in-Ok.is
 
-pub returns-in-Made : goal.returns-in-Made
-returns-in-Made c = ran_made c.build.ensures c.in-Made.is c.cells-table.ensures
+pub returns-in-Ok : goal.returns-in-Ok
+returns-in-Ok c = ran_made c.build.ensures c.in-Ok.is c.cells-table.ensures
 
-pub returns-in-Refused : goal.returns-in-Refused
-returns-in-Refused c = ran_refused c.build.ensures c.in-Refused.is refl
+pub returns-in-Err : goal.returns-in-Err
+returns-in-Err c = ran_refused c.build.ensures c.in-Err.is refl

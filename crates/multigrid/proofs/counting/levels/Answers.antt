@@ -5,5 +5,5 @@ use Rattle.multigrid.proofs.counting.levels.Goals as goal
 pub returns-then-check : goal.returns-then-check
 returns-then-check c = rw (sym c.check.ensures ∙ c.if-check.true)
 
-pub returns : goal.returns
-returns c = rw (sym c.check.ensures ∙ c.if-check.false)
+pub returns-else-check : goal.returns-else-check
+returns-else-check c = rw (sym c.check.ensures ∙ c.if-check.false)

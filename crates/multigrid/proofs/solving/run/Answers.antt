@@ -9,5 +9,5 @@ solve-requires c = solve_opened _ (sym c.check.ensures ∙ c.if-check.true)
 pub returns-then-check : goal.returns-then-check
 returns-then-check c = ran_sound (sym c.check.ensures ∙ c.if-check.true) c.solve.ensures
 
-pub returns : goal.returns
-returns c = ran_unsound (sym c.check.ensures ∙ c.if-check.false) c.refused.ensures
+pub returns-else-check : goal.returns-else-check
+returns-else-check c = ran_unsound (sym c.check.ensures ∙ c.if-check.false) c.refused.ensures

@@ -10,5 +10,5 @@ update-requires c = update_ready _ _ _ _ (sym c.check.ensures ∙ c.if-check.tru
 pub returns-then-check : goal.returns-then-check
 returns-then-check c = update_sound (sym c.check.ensures ∙ c.if-check.true) c.update.ensures
 
-pub returns : goal.returns
-returns c = update_unsound (sym c.check.ensures ∙ c.if-check.false)
+pub returns-else-check : goal.returns-else-check
+returns-else-check c = update_unsound (sym c.check.ensures ∙ c.if-check.false)

@@ -4,15 +4,9 @@ use Rattle.pattern.proofs.gathering.gather.Goals as goal
 
 pub gather_rows-requires : goal.gather_rows-requires
 gather_rows-requires c = (rows_start c.requires
-    c.fill_words.ensures).state
-
-pub shape_of-w : goal.shape_of-w
-shape_of-w c = (gathered_on
-    (rows_start c.requires
-    c.fill_words.ensures)
-    c.gather_rows.ensures).kept.size
+    c.fill.ensures).state
 
 pub returns : goal.returns
 returns c = gathered_on (rows_start
     c.requires
-    c.fill_words.ensures) c.gather_rows.ensures
+    c.fill.ensures) c.gather_rows.ensures

@@ -4,9 +4,9 @@ use Rattle.pattern.proofs.pattern.chain.Goals as goal
 
 pub link-requires : goal.link-requires
 link-requires c = (links_start c.requires
-    c.fill_words.ensures).state
+    c.fill.ensures).state
 
 pub returns : goal.returns
 returns c = links_then (links_start
     c.requires
-    c.fill_words.ensures) c.link.ensures
+    c.fill.ensures) c.link.ensures

@@ -1,10 +1,7 @@
 -- `pattern::compose` meets its contract. The loop's invariant: what is left to do from here gives what the whole gives.
-use Rattle.pattern.proofs.pattern.Composing.{compose_start, compose_index, compose_on, compose_end}
+use Rattle.pattern.proofs.pattern.Composing.{compose_index, compose_on, compose_end}
 use native.Mathlib.Omega.{arith}
 use Rattle.pattern.proofs.pattern.compose.Goals as goal
-
-pub loop-i-init : goal.loop-i-init
-loop-i-init c = compose_start
 
 pub index_at-a-requires : goal.index_at-a-requires
 index_at-a-requires c =
@@ -16,9 +13,6 @@ pub loop-i-preserved : goal.loop-i-preserved
 loop-i-preserved c = compose_on c.requires
     c.loop-i.invariant c.loop-i-test.true
     c.index_at-a.ensures.value
-
-pub shape_of-w : goal.shape_of-w
-shape_of-w c = c.loop-i.invariant.size
 
 pub returns : goal.returns
 returns c = compose_end c.requires c.loop-i.invariant (omega arith)

@@ -2,10 +2,10 @@
 use mathlib.Core.Path.{refl}
 use Rattle.probe.proofs.corrections.counted.Goals as goal
 
-pub returns-in-Used : goal.returns-in-Used
-returns-in-Used c =
-    rw c.in-Used.is (record { is = refl; count = refl })
+pub returns-in-Ok : goal.returns-in-Ok
+returns-in-Ok c =
+    rw c.in-Ok.is (record { is = refl; count = refl })
 
-pub returns-in-Refused : goal.returns-in-Refused
-returns-in-Refused c =
-    rw c.in-Refused.is (record { is = refl; count = refl })
+pub returns-in-Err : goal.returns-in-Err
+returns-in-Err c =
+    rw c.in-Err.is (record { is = refl; count = refl })

@@ -1,5 +1,5 @@
 use mathlib.Core.Path.{◌≡◌}
-use Prim.Native.Nat.{◌-◌, ◌+◌, ◌*◌}
+use Prim.Native.Nat.{◌+◌, ◌*◌}
 use lib.ListN.{length}
 use Rattle.store.specs.Loop.{for}
 use Rattle.store.proofs.store.Loop.{Left}
@@ -9,6 +9,3 @@ use Rattle.record_format.proofs.bytes.read_floats.Given as goal
 
 abbrev pub invariant-loop-k : goal.invariant-loop-k
 invariant-loop-k l = let k = l.k in (length l.out ≡ length l.initial.out) × Left (tab_turn (λ k. float_at l.b (l.at + 8 * k))) k l.n l.out (for (tab_turn (λ k. float_at l.b (l.at + 8 * k))) 0 l.n l.initial.out)
-
-abbrev pub decreases-loop-k : goal.decreases-loop-k
-decreases-loop-k l = l.n - l.k

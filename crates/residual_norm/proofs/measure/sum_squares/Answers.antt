@@ -1,17 +1,13 @@
--- `measure::sum_squares` meets its contract. The loop's invariant: what is left to do from here gives the whole sum.
-use Rattle.std.proofs.Common.{◌-◌, rules}
-use Rattle.store.proofs.store.Loop.{left_start, left_on, left_end}
-use Rattle.residual_norm.specs.Measure.{sum_of}
-use Rattle.residual_norm.specs.Turns.{sum_turn, squares_of}
-use Rattle.residual_norm.proofs.measure.Laws.{square_on}
+-- `measure::sum_squares` meets its contract: each term is the definition's of its row.
+use Rattle.std.proofs.Common.{◌≡◌, ◌+◌, ◌∙◌, rules}
+use Rattle.float.specs.Float.{mul64}
+use Rattle.store.specs.Region.{at}
+use Rattle.residual_norm.specs.Turns.{squares_of}
+use Rattle.residual_norm.proofs.measure.Laws.{square_row}
 use Rattle.residual_norm.proofs.measure.sum_squares.Goals as goal
 
-pub loop-row-init : goal.loop-row-init
-unfolding squares_of sum_of sum_turn
-loop-row-init c = left_start
-
-pub loop-row-preserved : goal.loop-row-preserved
-loop-row-preserved c = search (left_on, square_on, rules)
-
 pub returns : goal.returns
-returns c = search (left_end)
+unfolding squares_of
+returns c =
+    let F = c.args.f.now in
+    c.sum_rows.ensures _ (λ row r h p. let e : r ≡ mul64 (at F (c.args.x + row)) (at F (c.args.x + row)) = search rules in e ∙ square_row F _ row h _)

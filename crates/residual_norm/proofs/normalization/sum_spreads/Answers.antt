@@ -1,17 +1,12 @@
--- `normalization::sum_spreads` meets its contract. The loop's invariant: what is left to do from here gives the whole sum.
-use Rattle.std.proofs.Common.{◌-◌, rules}
-use Rattle.store.proofs.store.Loop.{left_start, left_on, left_end}
-use Rattle.residual_norm.specs.Measure.{sum_of}
-use Rattle.residual_norm.specs.Turns.{sum_turn, spreads_of}
-use Rattle.residual_norm.proofs.normalization.Laws.{spread_on}
+-- `normalization::sum_spreads` meets its contract: each term is the definition's of its row.
+use Rattle.std.proofs.Common.{◌≡◌, ◌+◌, ◌∙◌, rules}
+use Rattle.store.specs.Region.{at}
+use Rattle.residual_norm.specs.Turns.{spread_of, spreads_of}
+use Rattle.residual_norm.proofs.normalization.Laws.{spread_row}
 use Rattle.residual_norm.proofs.normalization.sum_spreads.Goals as goal
 
-pub loop-row-init : goal.loop-row-init
-unfolding spreads_of sum_of sum_turn
-loop-row-init c = left_start
-
-pub loop-row-preserved : goal.loop-row-preserved
-loop-row-preserved c = search (left_on, spread_on, rules)
-
 pub returns : goal.returns
-returns c = search (left_end)
+unfolding spreads_of
+returns c =
+    let F = c.args.f.now in
+    c.sum_rows.ensures _ (λ row r h p. let e : r ≡ spread_of (at F (c.args.rhs + row)) (at F (c.args.product + row)) (at F (c.args.rowsums + row)) c.args.mean = search rules in e ∙ spread_row F _ row h _ _ _ _)

@@ -1,6 +1,5 @@
 -- `copies::copy_out` meets its contract. The loop's invariant: what is left to copy gives the whole.
 use mathlib.Core.Path.{refl}
-use Prim.Native.Nat.{◌-◌}
 use native.Mathlib.Omega.{arith}
 use lib.ListN.{length, length-set}
 use lib.Ieee.{nan}

@@ -1,9 +1,9 @@
 -- `held::float_at` meets its contract: past the end there is a NaN.
 use lib.Ieee.{div, of_bits}
 use borrow.Author.Rules.{rules}
-use Rattle.store.proofs.held.Single.{past_end}
+use Rattle.std.proofs.lemmas.Option.{unwrap_or-slice_get}
 use Rattle.store.proofs.held.float_at.Goals as goal
 
-pub returns-else-i-f : goal.returns-else-i-f
+pub returns : goal.returns
 unfolding div of_bits
-returns-else-i-f c = search (past_end, rules)
+returns c = search (unwrap_or-slice_get, rules)

@@ -1,14 +1,10 @@
 use mathlib.Core.Path.{◌≡◌}
-use Prim.Native.Nat.{◌-◌}
 use lib.ListN.{length}
-use lib.Ieee.{nan}
 use Rattle.store.specs.Loop.{for}
 use Rattle.store.proofs.store.Loop.{Left}
 use Rattle.store.proofs.store.Turns.{copy_turn}
 use Rattle.store.proofs.store.copy.Given as goal
 
 abbrev pub invariant-loop-k : goal.invariant-loop-k
-invariant-loop-k l = (length l.f ≡ length l.initial.f) × Left (copy_turn nan l.from l.to) l.k l.n l.f (for (copy_turn nan l.from l.to) 0 l.n l.initial.f)
-
-abbrev pub decreases-loop-k : goal.decreases-loop-k
-decreases-loop-k l = l.n - l.k
+invariant-loop-k g l =
+    (length l.s ≡ length l.initial.s) × ((d : _) → Left (copy_turn d l.from l.to) l.k l.n l.s (for (copy_turn d l.from l.to) 0 l.n l.initial.s)) × (l.k ≡ 0 → l.s ≡ l.initial.s)

@@ -1,17 +1,20 @@
 -- `store::load` meets its contract. The loop's invariant: what is left to do from here gives what the whole gives.
-use mathlib.Core.Path.{refl}
-use Prim.Native.Nat.{◌-◌}
-use borrow.Author.Rules.{rules}
-use Rattle.store.proofs.store.Loop.{left_start, left_on}
-use Rattle.store.proofs.store.Turns.{load_turn, load_done}
+use mathlib.Core.Path.{ap, ◌∙◌}
+use Prim.Native.Nat.{◌+◌}
+use native.Mathlib.Omega.{arith}
+use lib.ListN.{set, length-set}
+use Rattle.std.proofs.lemmas.List.{get_or_default}
+use Rattle.store.proofs.store.Loop.{left_on}
+use Rattle.store.proofs.store.Turns.{load_turn, loaded_turns}
 use Rattle.store.proofs.store.load.Goals as goal
-
-pub loop-k-init : goal.loop-k-init
-loop-k-init c = (refl, left_start)
 
 pub loop-k-preserved : goal.loop-k-preserved
 unfolding load_turn
-loop-k-preserved c = search (left_on, rules)
+loop-k-preserved g c = (
+  simp length-set (omega arith),
+  λ d. left_on (c.loop-k.invariant.1 d) (omega arith) (ap (set c.loop-k.s (c.args.to + c.loop-k.k)) (c.index-from-k.is ∙ get_or_default c.args.from.now c.loop-k.k _ d (omega arith))),
+  λ e. absurd (omega arith),
+)
 
 pub returns : goal.returns
-returns c = search (load_done)
+returns g c = loaded_turns _ _ _ _ c.loop-k.k c.loop-k.invariant.1 c.loop-k.invariant.2 (omega arith) (omega arith)

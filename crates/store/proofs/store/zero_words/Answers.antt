@@ -4,4 +4,4 @@ use Rattle.store.proofs.store.Region.{wrote_whole}
 use Rattle.store.proofs.store.zero_words.Goals as goal
 
 pub returns : goal.returns
-returns c = wrote_whole c.fill_words.ensures refl
+returns c = wrote_whole c.fill.ensures refl

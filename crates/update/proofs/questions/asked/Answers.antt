@@ -13,30 +13,30 @@ take_faces-requires c =
     let at_same = c in
     let start = at_same in
     let pair = mirrors_ready start.args.f.now start.args.offsets.now start.args.columns.now start.args.values.now start.requires
-    at_same.place_at-p.ensures at_same.same_pattern.ensures c.if-same_pattern.true in
+    at_same.place_at-p.ensures at_same.same_pattern.ensures c.if-not-same_pattern.false in
     record { mirrors_ok = pair.0; faces_in_bounds = pair.1 }
 
-pub returns-then-take_faces : goal.returns-then-take_faces
-returns-then-take_faces c =
+pub returns : goal.returns
+returns c =
     let at_take = c in
     let at_same = at_take in
     let start = at_same in
     asked_passed start.args.f.now start.args.offsets.now start.args.columns.now start.args.values.now start.requires
-    at_same.place_at-p.ensures at_same.same_pattern.ensures at_take.if-same_pattern.true
-    at_take.take_faces.ensures c.if-take_faces.true
+    at_same.place_at-p.ensures at_same.same_pattern.ensures at_take.if-not-same_pattern.false
+    at_take.take_faces.ensures c.if-not-take_faces.false
 
-pub returns-then-same_pattern : goal.returns-then-same_pattern
-returns-then-same_pattern c =
+pub returns-then-not-take_faces : goal.returns-then-not-take_faces
+returns-then-not-take_faces c =
     let at_take = c in
     let at_same = at_take in
     let start = at_same in
     asked_asymmetric start.args.f.now start.args.offsets.now start.args.columns.now start.args.values.now start.requires
-    at_same.place_at-p.ensures at_same.same_pattern.ensures at_take.if-same_pattern.true
-    at_take.take_faces.ensures c.if-take_faces.false
+    at_same.place_at-p.ensures at_same.same_pattern.ensures at_take.if-not-same_pattern.false
+    at_take.take_faces.ensures c.if-not-take_faces.true
 
-pub returns : goal.returns
-returns c =
+pub returns-then-not-same_pattern : goal.returns-then-not-same_pattern
+returns-then-not-same_pattern c =
     let at_same = c in
     let start = at_same in
     asked_other start.args.f.now start.args.offsets.now start.args.columns.now start.args.values.now start.requires
-    at_same.place_at-p.ensures at_same.same_pattern.ensures c.if-same_pattern.false
+    at_same.place_at-p.ensures at_same.same_pattern.ensures c.if-not-same_pattern.true

@@ -5,5 +5,5 @@ use Rattle.update.proofs.questions.asked_empty.Goals as goal
 pub returns-then-empty_pattern : goal.returns-then-empty_pattern
 returns-then-empty_pattern c = empty_passed _ _ _ c.empty_pattern.ensures c.if-empty_pattern.true
 
-pub returns : goal.returns
-returns c = empty_refused _ _ _ c.empty_pattern.ensures c.if-empty_pattern.false
+pub returns-else-empty_pattern : goal.returns-else-empty_pattern
+returns-else-empty_pattern c = empty_refused _ _ _ c.empty_pattern.ensures c.if-empty_pattern.false

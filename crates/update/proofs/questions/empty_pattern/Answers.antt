@@ -6,4 +6,4 @@ pub returns-then-offsets-ne1 : goal.returns-then-offsets-ne1
 returns-then-offsets-ne1 c = empty_other _ _ _ c.if-offsets-ne1.true
 
 pub returns : goal.returns
-returns c = empty_same _ _ _ c.if-offsets-ne1.false
+returns c = rw (c.is_empty.ensures, c.is_empty-2.ensures) (empty_same _ _ _ c.if-offsets-ne1.false)

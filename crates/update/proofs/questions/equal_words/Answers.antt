@@ -1,5 +1,4 @@
 -- `questions::equal_words` meets its contract. The loop's invariant: the answer so far is that of the words passed.
-use Prim.Native.Nat.{◌-◌}
 use Rattle.update.proofs.questions.Questions.{gathered_start, gathered_on, gathered_end}
 use Rattle.update.proofs.questions.equal_words.Goals as goal
 

@@ -1,6 +1,5 @@
 -- `refresh::commit` meets its contract. The loop's invariant: once the levels left are those of the shadow, all are. The measure is the number
 -- of levels left.
-use Prim.Native.Nat.{◌-◌}
 use Rattle.update.proofs.refresh.Copying.{commit_place, commit_sums, copying_start, copying_few, copying_fits, copying_copy, copying_words, copying_next, copying_on, last_fits, last_copy, committed}
 use native.Mathlib.Omega.{arith}
 use borrow.Author.Rules.{rules}

@@ -4,13 +4,12 @@ use native.Mathlib.Omega.{arith}
 use Rattle.update.proofs.refresh.update.Goals as goal
 
 pub returns-then-h-eq0 : goal.returns-then-h-eq0
-returns-then-h-eq0 c = update_empty _ _ _ _ _ _ c.if-h-eq0.true c.asked_empty.ensures c.told.ensures
+returns-then-h-eq0 c = update_empty _ _ _ _ _ _ c.if-h-eq0.true c.asked_empty.ensures
 
-pub attempt-answer-requires : goal.attempt-answer-requires
-attempt-answer-requires c = attempt_ready c.requires c.if-h-eq0.false (omega arith)
+pub attempt-requires : goal.attempt-requires
+attempt-requires c = attempt_ready c.requires c.if-h-eq0.false (omega arith)
 
 pub returns : goal.returns
 returns c =
     let start = c in
-    update_done start.args.h start.args.offsets.now start.args.columns.now start.args.values.now c.attempt-answer.ensures
-    c.told-2.ensures
+    update_done start.args.h start.args.offsets.now start.args.columns.now start.args.values.now c.attempt.ensures

@@ -1,5 +1,4 @@
 -- `diagonals::all_stand` meets its contract. The loop's invariant: the answer so far is that of the rows passed.
-use Prim.Native.Nat.{◌-◌}
 use Rattle.update_levels.proofs.diagonals.Standing.{gathered_start, gathered_row, gathered_on, gathered_end}
 use Rattle.update_levels.proofs.diagonals.all_stand.Goals as goal
 

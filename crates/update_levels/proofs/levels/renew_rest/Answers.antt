@@ -1,6 +1,6 @@
 -- `levels::renew_rest` meets its contract. The loop's invariant: the levels left make all of them. The measure is the number of levels left.
-use mathlib.Core.Path.{sym, ◌∙◌}
-use Prim.Native.Nat.{◌-◌}
+use Rattle.refusal.proofs.Outcome.{passed_up}
+use mathlib.Core.Path.{refl, sym, ◌∙◌}
 use Rattle.update_levels.proofs.levels.Renewing.{underway_start, underway_few, underway_header, underway_words, underway_next, underway_turn, underway_no, underway_on, underway_last, underway_end}
 use native.Mathlib.Omega.{arith}
 use borrow.Author.Rules.{rules}
@@ -18,15 +18,16 @@ words_end-a-requires c = underway_words c.loop-level.invariant c.loop-level-test
 pub place_at-t-requires : goal.place_at-t-requires
 place_at-t-requires c = underway_next c.loop-level.invariant c.loop-level-test.true c.words_end-a.ensures
 
-pub turn-answer-requires : goal.turn-answer-requires
-turn-answer-requires c =
+pub turn-requires : goal.turn-requires
+turn-requires c =
     underway_turn c.loop-level.invariant c.loop-level-test.true c.words_end-a.ensures c.place_at-t.ensures
 
-pub returns-then-refused : goal.returns-then-refused
-returns-then-refused c =
+pub returns-in_err-turn : goal.returns-in_err-turn
+returns-in_err-turn c =
     let gone = c in
-    underway_no gone.loop-level.invariant gone.loop-level-test.true gone.words_end-a.ensures gone.place_at-t.ensures
-    gone.turn-answer.ensures (sym c.refused.ensures ∙ c.if-refused.true)
+    rw (passed_up _ c.from_residual.ensures.1 ∙ sym c.in_err-turn.was)
+    (underway_no gone.loop-level.invariant gone.loop-level-test.true gone.words_end-a.ensures gone.place_at-t.ensures
+    gone.turn.ensures (rw c.in_err-turn.was refl))
 
 pub overflow_add-level-in-loop-level : goal.overflow_add-level-in-loop-level
 overflow_add-level-in-loop-level c = omega (arith, underway_few c.loop-level.invariant)
@@ -35,7 +36,7 @@ pub loop-level-preserved : goal.loop-level-preserved
 loop-level-preserved c =
     let gone = c in
     underway_on gone.loop-level.invariant gone.loop-level-test.true gone.words_end-a.ensures gone.place_at-t.ensures
-    gone.turn-answer.ensures (sym c.refused.ensures ∙ c.if-refused.false) gone.turn-answer.auto.f
+    gone.turn.ensures (rw c.in_ok-turn.was refl) gone.turn.auto.f
 
 pub overflow_add-a : goal.overflow_add-a
 overflow_add-a c = omega (arith, underway_header c.loop-level.invariant)

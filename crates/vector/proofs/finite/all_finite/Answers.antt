@@ -1,5 +1,4 @@
 -- `finite::all_finite` meets its contract. The loop's invariant: the answer so far is that of the elements passed.
-use Prim.Native.Nat.{◌-◌}
 use Rattle.vector.proofs.finite.Laws.{finites_start, finites_on, finites_done}
 use Rattle.vector.proofs.finite.all_finite.Goals as goal
 

@@ -1,5 +1,4 @@
 -- `vector::dot_pairs` meets its contract. The loop's invariant: what is left to do from here gives the pairs' sum.
-use Prim.Native.Nat.{◌-◌}
 use native.Mathlib.Omega.{arith}
 use Rattle.store.proofs.store.Loop.{left_start}
 use Rattle.vector.proofs.vector.Laws.{pair_on, pairs_end}

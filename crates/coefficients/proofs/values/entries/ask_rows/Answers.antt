@@ -8,11 +8,11 @@ loop-row-init c = asking_start _ _ _ _
 pub loop-row-preserved : goal.loop-row-preserved
 loop-row-preserved c = search (row_on)
 
-pub returns-else-is_finite : goal.returns-else-is_finite
-returns-else-is_finite c = search (row_bad_reciprocal)
+pub returns-then-not-is_positive : goal.returns-then-not-is_positive
+returns-then-not-is_positive c = search (row_bad)
 
-pub returns-else-is_positive : goal.returns-else-is_positive
-returns-else-is_positive c = search (row_bad)
+pub returns-then-not-is_finite : goal.returns-then-not-is_finite
+returns-then-not-is_finite c = search (row_bad_reciprocal)
 
 pub returns : goal.returns
 returns c = search (asking_done)

@@ -8,14 +8,10 @@ pub loop-row-init : goal.loop-row-init
 loop-row-init c = (refl, inverting_start _ _ _ _)
 
 pub loop-row-preserved : goal.loop-row-preserved
-loop-row-preserved c =
-    let at-positive = c in
-    let at_test = at-positive in
-    let at-loop = at_test in
-    let start = at-loop in (
-      simp length-set at-loop.loop-row.invariant.0,
-      invert_on _ _ _ _ start.requires.rows_bound at-loop.loop-row.invariant.1 at_test.loop-row-test.true at-positive.is_positive.ensures c.is_finite.ensures,
-    )
+loop-row-preserved c = (
+  simp length-set c.loop-row.invariant.0,
+  invert_on _ _ _ _ c.requires.rows_bound c.loop-row.invariant.1 c.loop-row-test.true c.is_positive.ensures c.is_finite.ensures,
+)
 
 pub returns : goal.returns
 returns c = search (inverted)

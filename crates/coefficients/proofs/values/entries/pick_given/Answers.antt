@@ -13,12 +13,10 @@ pub index_at-entry-requires : goal.index_at-entry-requires
 index_at-entry-requires c = search (given_of, rules)
 
 pub loop-k-preserved : goal.loop-k-preserved
-loop-k-preserved c =
-    let at-index = c in
-    let at-loop = at-index in (
-      simp length-set at-loop.loop-k.invariant.0,
-      left_on at-loop.loop-k.invariant.1 at-index.loop-k-test.true (given_on _ _ _ _ _ _ _ at-index.index_at-entry.ensures.value),
-    )
+loop-k-preserved c = (
+  simp length-set c.loop-k.invariant.0,
+  left_on c.loop-k.invariant.1 c.loop-k-test.true (given_on _ _ _ _ _ _ _ c.index_at-entry.ensures.value),
+)
 
 pub returns : goal.returns
 returns c = search (given_picked)

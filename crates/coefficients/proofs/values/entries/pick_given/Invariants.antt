@@ -1,5 +1,4 @@
 use mathlib.Core.Path.{◌≡◌}
-use Prim.Native.Nat.{◌-◌}
 use lib.ListN.{length}
 use Rattle.store.specs.Loop.{for}
 use Rattle.store.proofs.store.Loop.{Left}
@@ -11,6 +10,3 @@ invariant-loop-k l =
     (length l.f ≡ length l.initial.f)
     × Left (give_turn l.w l.places l.given l.to) l.k l.n l.f
     (for (give_turn l.w l.places l.given l.to) 0 l.n l.initial.f)
-
-abbrev pub decreases-loop-k : goal.decreases-loop-k
-decreases-loop-k l = l.n - l.k

@@ -4,12 +4,8 @@ use Rattle.coefficients.proofs.values.entries.settle.Goals as goal
 
 pub returns-then-invert : goal.returns-then-invert
 returns-then-invert c =
-    let at-invert = c in
-    let start = at-invert in
-    rows_good start.requires.rows_bound at-invert.invert.ensures _ c.if-invert.true
+    rows_good c.requires.rows_bound c.invert.ensures _ c.if-invert.true
 
-pub returns : goal.returns
-returns c =
-    let at-invert = c in
-    let start = at-invert in
-    rows_asked start.requires.rows_bound at-invert.invert.ensures c.ask_rows.ensures
+pub returns-else-invert : goal.returns-else-invert
+returns-else-invert c =
+    rows_asked c.requires.rows_bound c.invert.ensures c.ask_rows.ensures

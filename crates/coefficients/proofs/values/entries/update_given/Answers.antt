@@ -5,8 +5,7 @@ use Rattle.coefficients.proofs.values.entries.update_given.Goals as goal
 
 pub pick_given-requires : goal.pick_given-requires
 pick_given-requires c =
-    let start = c in
-    rows_given start.requires.update_ok start.requires.entries_in_bounds (omega arith)
+    rows_given c.requires.update_ok c.requires.entries_in_bounds (omega arith)
 
 pub returns : goal.returns
 returns c = search (given_told)

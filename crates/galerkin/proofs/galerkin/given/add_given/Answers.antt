@@ -11,11 +11,7 @@ pub index_at-i-requires : goal.index_at-i-requires
 index_at-i-requires c = search (given_near, rules)
 
 pub loop-e-preserved : goal.loop-e-preserved
-loop-e-preserved c =
-    let at-index = c in
-    let at-loop = at-index in
-    let start = at-loop in
-    given_on _ start.requires at-loop.loop-e.invariant at-index.loop-e-test.true at-index.index_at-i.ensures.value
+loop-e-preserved c = given_on _ c.requires c.loop-e.invariant c.loop-e-test.true c.index_at-i.ensures.value
 
 pub returns : goal.returns
 returns c = search (going_end, rules)

@@ -1,5 +1,4 @@
 -- `sound::scratch::image_end` meets its contract. The loop's invariant: the floats of the levels that are left end where all do.
-use Prim.Native.Nat.{◌-◌}
 use Rattle.index_check.proofs.sound.Sizes.{imaging, imaging_ok, going_words, imaging_on, imaging_end}
 use Rattle.index_check.proofs.sound.scratch.image_end.Goals as goal
 

@@ -1,6 +1,5 @@
 -- `sound::scratch::scratch_end` meets its contract. The loop's invariant: the scratch of the levels that are left ends where all does.
 use mathlib.Core.Path.{refl}
-use Prim.Native.Nat.{◌-◌}
 use Rattle.index_check.proofs.sound.Laws.{head_sizes}
 use Rattle.index_check.proofs.sound.Sizes.{scratching, scratching_few, going_words, scratching_on, scratching_end}
 use native.Mathlib.Omega.{arith}

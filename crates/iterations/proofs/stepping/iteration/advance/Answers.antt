@@ -1,4 +1,5 @@
 -- `stepping::iteration::advance` meets its contract: the solution moved, its residual, and the norm.
+use Rattle.refusal.proofs.Outcome.{passed_up}
 use Rattle.iterations.proofs.stepping.Placing.{move_ok}
 use Rattle.iterations.proofs.stepping.Advancing.{renew_ok, measure_ok, advance_yes, advance_bad, advance_no}
 use Rattle.iterations.proofs.stepping.iteration.advance.Goals as goal
@@ -12,11 +13,12 @@ renew-requires c = renew_ok c.requires c.move_solution.ensures.floats.size
 pub measure-requires : goal.measure-requires
 measure-requires c = measure_ok c.requires c.move_solution.ensures.floats.size c.renew.ensures.floats.size
 
-pub returns-in-Finite : goal.returns-in-Finite
-returns-in-Finite c = advance_yes _ c.requires c.move_solution.ensures c.in-Used.is c.renew.ensures c.measure.ensures c.in-Finite.is
+pub returns-in-Some : goal.returns-in-Some
+returns-in-Some c = advance_yes _ c.requires c.move_solution.ensures c.in_ok-stored.was c.renew.ensures c.measure.ensures c.in-Some.is
 
-pub returns-in-NotFinite : goal.returns-in-NotFinite
-returns-in-NotFinite c = advance_bad _ c.requires c.move_solution.ensures c.in-Used.is c.renew.ensures c.measure.ensures c.in-NotFinite.is
+pub returns-in-None : goal.returns-in-None
+returns-in-None c = advance_bad _ c.requires c.move_solution.ensures c.in_ok-stored.was c.renew.ensures c.measure.ensures c.in-None.is
 
-pub returns-in-Refused : goal.returns-in-Refused
-returns-in-Refused c = advance_no _ c.requires c.move_solution.ensures c.in-Refused.is
+pub returns-in_err-stored : goal.returns-in_err-stored
+returns-in_err-stored c =
+    rw (passed_up _ c.from_residual.ensures.1) (advance_no _ c.requires c.move_solution.ensures c.in_err-stored.was)

@@ -2,8 +2,8 @@
 use Rattle.press_run.proofs.Taking.{controls_kept, controls_over}
 use Rattle.press_run.proofs.run.Run.take_controls.Goals as goal
 
-pub returns-in-Read : goal.returns-in-Read
-returns-in-Read c = search (controls_kept)
+pub returns-in-Ok : goal.returns-in-Ok
+returns-in-Ok c = search (controls_kept)
 
-pub returns-in-Refused : goal.returns-in-Refused
-returns-in-Refused c = search (controls_over)
+pub returns-in-Err : goal.returns-in-Err
+returns-in-Err c = search (controls_over)

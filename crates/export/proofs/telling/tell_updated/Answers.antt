@@ -1,8 +1,0 @@
--- `tell_updated` says that it is done, or gives the refusal.
-use Rattle.export.proofs.telling.tell_updated.Goals as goal
-
-pub returns-in-Done : goal.returns-in-Done
-returns-in-Done c = rw c.in-Done.is
-
-pub returns-in-Refused : goal.returns-in-Refused
-returns-in-Refused c = rw (c.in-Refused.is, c.refused.ensures)

@@ -1,9 +1,0 @@
--- `matrix_market::entries::valued` meets its contract: by the two cases of the value.
-use Rattle.matrix_market.proofs.Entry.{valued_bad, valued_some}
-use Rattle.matrix_market.proofs.entries.valued.Goals as goal
-
-pub returns-in-Outside : goal.returns-in-Outside
-returns-in-Outside c = valued_bad c.args.row c.args.column c.args.s.now c.value_in-v.ensures c.in-Outside.is
-
-pub returns-in-Value : goal.returns-in-Value
-returns-in-Value c = valued_some c.args.row c.args.column c.args.s.now c.value_in-v.ensures c.in-Value.is
