@@ -1,3 +1,4 @@
+pub mod Workspace
 pub mod Directions
 pub mod DirectionsContract
 pub mod Normal

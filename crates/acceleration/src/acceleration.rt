@@ -9,26 +9,25 @@ ghost use Rattle.acceleration.specs.AccelerationContract.{Restarted, CorrectOk, 
 use crate::advance::advance;
 use crate::directions::pass;
 use crate::normalize::normalize;
+use crate::workspace::{GcrWorkspace, PairPlace};
 use refusal::Refusal;
 
 // Reorthogonalised modified Gram-Schmidt: two passes keep the small history reliable where consecutive V-cycles give
 // nearly parallel images.
 fn orthogonalize(
     f: &mut [f64],
-    n: usize,
+    g: GcrWorkspace,
     used: usize,
-    directions: usize,
-    images: usize,
-    direction: usize,
-    image: usize,
+    pair: PairPlace,
 ) -> Result<(), Refusal>
-    requires { PassOk (length f.old) n used directions images direction image }
-    ensures { Stepped n direction image
-        (twice_of n (memory_at used n directions images f.old) (pair_at n direction image f.old))
+    requires { PassOk (length f.old) g.rows used g.directions g.images pair.direction pair.image }
+    ensures { Stepped g.rows pair.direction pair.image
+        (twice_of g.rows (memory_at used g.rows g.directions g.images f.old)
+        (pair_at g.rows pair.direction pair.image f.old))
         f.old f.new result }
 {
-    pass(f, n, used, directions, images, direction, image)?;
-    pass(f, n, used, directions, images, direction, image)
+    pass(f, g, used, pair)?;
+    pass(f, g, used, pair)
 }
 
 // How many pairs stay: none where the memory is full.
@@ -40,31 +39,27 @@ fn restarted(krylov: usize, used: usize) -> usize
     if used == krylov { 0 } else { used }
 }
 
-// The V-cycle's correction at `direction`, its image beside it, made orthogonal to the stored pairs, stored as the next,
-// and the solution moved along it.
+// The V-cycle's correction and its image made orthogonal to the stored pairs, stored as the next, and the solution moved along it.
 pub fn correct(
     f: &mut [f64],
-    n: usize,
-    krylov: usize,
+    g: GcrWorkspace,
     used: usize,
     solution: usize,
-    directions: usize,
-    images: usize,
     residual: usize,
-    direction: usize,
-    image: usize,
+    pair: PairPlace,
 ) -> Result<usize, Refusal>
-    requires { CorrectOk (length f.old) n krylov used solution directions images residual direction image }
-    ensures { CorrectedBy n krylov solution directions images direction image
-        (correct_of n krylov (memory_at used n directions images f.old)
-        (pair_at n direction image f.old) (part residual n f.old) (part solution n f.old))
+    requires { CorrectOk (length f.old) g.rows g.krylov used solution g.directions g.images residual
+        pair.direction pair.image }
+    ensures { CorrectedBy g.rows g.krylov solution g.directions g.images pair.direction pair.image
+        (correct_of g.rows g.krylov (memory_at used g.rows g.directions g.images f.old)
+        (pair_at g.rows pair.direction pair.image f.old) (part residual g.rows f.old)
+        (part solution g.rows f.old))
         f.old f.new result }
 {
-    let kept = restarted(krylov, used);
-    orthogonalize(f, n, kept, directions, images, direction, image)?;
-    let p = directions + kept * n;
-    let q = images + kept * n;
-    normalize(f, n, p, q, direction, image)?;
-    advance(f, n, solution, p, q, residual)?;
+    let kept = restarted(g.krylov, used);
+    orthogonalize(f, g, kept, pair)?;
+    let stored = g.pair(kept);
+    normalize(f, g.rows, stored, pair)?;
+    advance(f, g.rows, solution, stored, residual)?;
     Ok(kept + 1)
 }

@@ -4,6 +4,7 @@ ghost use Rattle.store.specs.Region.{part, Wrote};
 ghost use Rattle.acceleration.specs.Directions.{less_of, orthogonal_to, pass_of};
 ghost use Rattle.acceleration.specs.DirectionsContract.{pair_at, memory_at, AxpyOk, StepOk, Stepped, PassOk};
 
+use crate::workspace::{GcrWorkspace, PairPlace};
 use refusal::Refusal;
 
 // y -= a * x
@@ -17,47 +18,30 @@ fn lessen(f: &mut [f64], n: usize, a: f64, x: usize, y: usize)
     }
 }
 
-// The stored pair at p and q out of the new one, refused where their product is not finite.
-fn step(
-    f: &mut [f64],
-    n: usize,
-    p: usize,
-    q: usize,
-    direction: usize,
-    image: usize,
-) -> Result<(), Refusal>
-    requires { StepOk (length f.old) n p q direction image }
-    ensures { Stepped n direction image
-        (orthogonal_to n (pair_at n p q f.old) (pair_at n direction image f.old)) f.old
-        f.new result }
+// A stored pair out of the new one, refused where their product is not finite.
+fn step(f: &mut [f64], n: usize, stored: PairPlace, pair: PairPlace) -> Result<(), Refusal>
+    requires { StepOk (length f.old) n stored.direction stored.image pair.direction pair.image }
+    ensures { Stepped n pair.direction pair.image
+        (orthogonal_to n (pair_at n stored.direction stored.image f.old)
+        (pair_at n pair.direction pair.image f.old))
+        f.old f.new result }
 {
-    let beta = vector::dot(f, image, q, n).ok_or(refusal::BAD_DOT_PRODUCT)?;
-    lessen(f, n, beta, q, image);
-    lessen(f, n, beta, p, direction);
+    let beta = vector::dot(f, pair.image, stored.image, n).ok_or(refusal::BAD_DOT_PRODUCT)?;
+    lessen(f, n, beta, stored.image, pair.image);
+    lessen(f, n, beta, stored.direction, pair.direction);
     Ok(())
 }
 
 // One pass over the stored pairs.
-pub fn pass(
-    f: &mut [f64],
-    n: usize,
-    used: usize,
-    directions: usize,
-    images: usize,
-    direction: usize,
-    image: usize,
-) -> Result<(), Refusal>
-    requires { PassOk (length f.old) n used directions images direction image }
-    ensures { Stepped n direction image
-        (pass_of n (memory_at used n directions images f.old) (pair_at n direction image f.old))
+pub fn pass(f: &mut [f64], g: GcrWorkspace, used: usize, pair: PairPlace) -> Result<(), Refusal>
+    requires { PassOk (length f.old) g.rows used g.directions g.images pair.direction pair.image }
+    ensures { Stepped g.rows pair.direction pair.image
+        (pass_of g.rows (memory_at used g.rows g.directions g.images f.old)
+        (pair_at g.rows pair.direction pair.image f.old))
         f.old f.new result }
 {
-    let mut p = directions;
-    let mut q = images;
-    for _index in 0..used {
-        step(f, n, p, q, direction, image)?;
-        p += n;
-        q += n;
+    for index in 0..used {
+        step(f, g.rows, g.pair(index), pair)?;
     }
     Ok(())
 }

@@ -5,5 +5,7 @@ pub mod acceleration;
 pub mod advance;
 pub mod directions;
 pub mod normalize;
+pub mod workspace;
 
 pub use acceleration::correct;
+pub use workspace::{GcrWorkspace, PairPlace};

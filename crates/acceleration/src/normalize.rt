@@ -6,6 +6,7 @@ ghost use Rattle.acceleration.specs.DirectionsContract.{pair_at, AxpyOk};
 ghost use Rattle.acceleration.specs.Normal.{over_of, normal_of};
 ghost use Rattle.acceleration.specs.NormalizeContract.{NormalOk, Normal};
 
+use crate::workspace::PairPlace;
 use refusal::Refusal;
 
 // y = x / a
@@ -18,36 +19,30 @@ fn over(f: &mut [f64], n: usize, a: f64, x: usize, y: usize)
     }
 }
 
-// The new pair over the norm of its image, stored at p and q. The source tests row by row; question 30 names no row.
-pub fn normalize(
-    f: &mut [f64],
-    n: usize,
-    p: usize,
-    q: usize,
-    direction: usize,
-    image: usize,
-) -> Result<(), Refusal>
-    requires { NormalOk (length f.old) n p q direction image }
-    ensures { Normal n p q (normal_of n (pair_at n direction image f.old)) f.old f.new result }
+// The new pair over the norm of its image, stored. The source tests row by row; question 30 names no row.
+pub fn normalize(f: &mut [f64], n: usize, stored: PairPlace, pair: PairPlace) -> Result<(), Refusal>
+    requires { NormalOk (length f.old) n stored.direction stored.image pair.direction pair.image }
+    ensures { Normal n stored.direction stored.image
+        (normal_of n (pair_at n pair.direction pair.image f.old)) f.old f.new result }
 {
-    let norm = vector::norm_l2(f, image, n).ok_or(refusal::BAD_DOT_PRODUCT)?;
+    let norm = vector::norm_l2(f, pair.image, n).ok_or(refusal::BAD_DOT_PRODUCT)?;
     if norm == 0.0 {
         return Err(refusal::ZERO_IMAGE);
     }
-    over(f, n, norm, direction, p);
-    over(f, n, norm, image, q);
-    if both_finite(f, n, p, q) {
+    over(f, n, norm, pair.direction, stored.direction);
+    over(f, n, norm, pair.image, stored.image);
+    if both_finite(f, n, stored) {
         Ok(())
     } else {
         Err(refusal::BAD_DIRECTION)
     }
 }
 
-// Whether both regions of n elements are finite.
-fn both_finite(f: &[f64], n: usize, p: usize, q: usize) -> bool
-    requires n_in_bounds { p + n ≤ length f.now }
-    requires n_in_bounds_2 { q + n ≤ length f.now }
-    ensures { result ≡ all_finite n (part p n f.now) && all_finite n (part q n f.now) }
+// Whether a stored pair is finite.
+fn both_finite(f: &[f64], n: usize, stored: PairPlace) -> bool
+    requires n_in_bounds { stored.direction + n ≤ length f.now }
+    requires n_in_bounds_2 { stored.image + n ≤ length f.now }
+    ensures { result ≡ all_finite n (part stored.direction n f.now) && all_finite n (part stored.image n f.now) }
 {
-    vector::all_finite(f, n, p) && vector::all_finite(f, n, q)
+    vector::all_finite(f, n, stored.direction) && vector::all_finite(f, n, stored.image)
 }

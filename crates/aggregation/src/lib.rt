@@ -9,8 +9,8 @@ ghost use Rattle.aggregation.specs.Layout.{map_at, weighted_at, GraphOk, ChoiceO
 
 // Where a matrix stands in the stores: row offsets (rows + 1 words), columns (`entries` words) and the map to be written
 // (`rows` words, above both, and as many behind it for the sizes of the aggregates); the weights (`entries` floats), or, where
-// `absolute` is set, the matrix's values. An aggregate of `cap` rows is full; a cap of 0 is none, and no Option: `Weighted` of
-// specs/Pairs.antt and the options of the C interface have it so.
+// `absolute` is set, the matrix's values: a flag of the weights, as `strengths_of` has it. An aggregate of `cap` rows is full; a cap of 0
+// is none, and no Option: `Weighted` of specs/Pairs.antt and the options of the C interface have it so.
 #[derive(Clone, Copy)]
 pub struct Graph {
     pub rows: usize,

@@ -3,11 +3,11 @@
 
 ghost use Rattle.std.specs.Prelude.{◌≡◌, length};
 ghost use Rattle.build.specs.Built.{BuildDone};
-ghost use Rattle.build.specs.Asking.{input_of, input_in};
+ghost use Rattle.build.specs.Asking.{input_in};
 ghost use Rattle.build.specs.AskingContract.{Fitting};
 ghost use Rattle.build.specs.Steps.{LevelsOk, LevelsDone, empty_made, Begun, Attempted, Cleared};
 
-use coarsening::Workspace;
+use coarsening::Setup;
 use finest::loading;
 use options::{Handle, MultigridOptions};
 use questions::space;
@@ -17,30 +17,24 @@ pub mod finest;
 pub mod questions;
 
 // What is built from: a matrix in compressed rows, the weight of each entry where weights are given, and the controls.
-// `given` stands beside `weights`, and is no Option: `build` is called so, and `BuildDone` speaks of both.
 #[derive(Clone, Copy)]
 pub struct Source<'a> {
     pub rows: usize,
     pub offsets: &'a [u32],
     pub columns: &'a [u32],
     pub values: &'a [f64],
-    pub given: bool,
-    pub weights: &'a [f64],
+    pub weights: Option<&'a [f64]>,
     pub options: MultigridOptions,
 }
 
 // The levels of the matrix in the temporaries, and behind them the row sums of the finest.
-fn levels(
-    w: &mut [u32],
-    f: &mut [f64],
-    o: MultigridOptions,
-    given: bool,
-    t: Workspace,
-) -> Result<Handle, Refusal>
-    requires { LevelsOk w.old (length f.old) o t }
-    ensures { LevelsDone w.old w.new f.old f.new o given t result }
+fn levels(w: &mut [u32], f: &mut [f64], x: Setup) -> Result<Handle, Refusal>
+    requires { LevelsOk w.old (length f.old) x.options x.workspace }
+    ensures { LevelsDone w.old w.new f.old f.new x.options x.given x.workspace result }
 {
-    let grown = build_levels::grow(w, f, o, given, t, finest::frontier(o, t))?;
+    let o = x.options;
+    let t = x.workspace;
+    let grown = build_levels::grow(w, f, x, finest::frontier(o, t))?;
     finest::sums(w, f, o, grown.end, t.rows, t.entries);
     Ok(Handle {
         options: o,
@@ -66,7 +60,12 @@ fn begin(x: Source, w: &mut [u32], f: &mut [f64]) -> Result<Handle, Refusal>
     if !finest::symmetric(w, x.values, t) {
         return Err(refusal::NOT_SYMMETRIC);
     }
-    levels(w, f, x.options, x.given, t)
+    let setup = Setup {
+        options: x.options,
+        workspace: t,
+        given: x.weights.is_some(),
+    };
+    levels(w, f, setup)
 }
 
 // The handle of a matrix of no rows, which has no levels.
@@ -102,29 +101,9 @@ fn clear(w: &mut [u32], f: &mut [f64])
 
 // The hierarchy of a matrix in compressed rows, with the weight of each entry where weights are given, in two stores whatever these
 // held; refused, both hold zeros.
-pub fn build(
-    rows: usize,
-    offsets: &[u32],
-    columns: &[u32],
-    values: &[f64],
-    given: bool,
-    weights: &[f64],
-    o: MultigridOptions,
-    records: usize,
-    w: &mut [u32],
-    f: &mut [f64],
-) -> Result<Handle, Refusal>
-    ensures { BuildDone w.old w.new f.old f.new (input_of rows offsets.now columns.now values.now given weights.now o) records result }
+pub fn build(x: Source, records: usize, w: &mut [u32], f: &mut [f64]) -> Result<Handle, Refusal>
+    ensures { BuildDone w.old w.new f.old f.new (input_in x.entry) records result }
 {
-    let x = Source {
-        rows,
-        offsets,
-        columns,
-        values,
-        given,
-        weights,
-        options: o,
-    };
     // A match, no `?`: a refusal clears the stores before it is passed on.
     match attempt(x, records, w, f) {
         Ok(h) => Ok(h),

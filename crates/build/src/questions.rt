@@ -1,6 +1,6 @@
 // Questions 1 to 9 of a build, in order, of the arrays and the stores' sizes.
-ghost use Rattle.std.specs.Prelude.{length};
-ghost use Rattle.build.specs.Asking.{input_in};
+ghost use Rattle.std.specs.Prelude.{is_some, length};
+ghost use Rattle.build.specs.Asking.{weights_in, input_in};
 ghost use Rattle.build.specs.AskingContract.{lending, WeightsAsked, ArraysAsked, ChargeOk, RoomAsked, Asked};
 
 use crate::Source;
@@ -11,10 +11,10 @@ pub mod space;
 
 // Questions 4 to 7, once the matrix has passed.
 fn weights_asked(x: Source) -> Result<(), Refusal>
-    ensures { WeightsAsked (length x.entry.columns.now) x.entry.given x.entry.weights.now x.entry.options result }
+    ensures { WeightsAsked (length x.entry.columns.now) (is_some x.entry.weights) (weights_in x.entry) x.entry.options result }
 {
-    if x.given {
-        csr::check_weights(x.weights, x.columns.len())?;
+    if let Some(weights) = x.weights {
+        csr::check_weights(weights, x.columns.len())?;
     }
     options::check_controls(x.options)
 }

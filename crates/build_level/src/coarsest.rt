@@ -7,9 +7,8 @@ ghost use Rattle.build_level.specs.Steps.{MarkOk, Marked, ListOk, Listed};
 ghost use Rattle.build_level.specs.CoarsestContract.{LastOk, Ended};
 
 use crate::laying::Frontier;
-use coarsening::Workspace;
+use coarsening::Setup;
 use layout::Place;
-use options::MultigridOptions;
 use refusal::Refusal;
 
 // The levels made, and where the floats of the last one end.
@@ -52,17 +51,15 @@ fn list_coupled(w: &mut [u32], a: usize, p: Place, coupled: usize)
 pub fn last(
     w: &mut [u32],
     f: &mut [f64],
-    o: MultigridOptions,
-    given: bool,
-    t: Workspace,
+    x: Setup,
     s: Frontier,
     p: Place,
 ) -> Result<Growth, Refusal>
-    requires { LastOk w.old (length f.old) o t s p }
-    ensures { Ended w.old w.new f.old f.new o given t s p result }
+    requires { LastOk w.old (length f.old) x.options x.workspace s p }
+    ensures { Ended w.old w.new f.old f.new x.options x.given x.workspace s p result }
 {
     let coupled = coupled_in(w, p);
-    if coupled as u64 > o.coarsest_cells {
+    if coupled as u64 > x.options.coarsest_cells {
         return Err(refusal::TOO_MANY_COUPLED);
     }
     list_coupled(w, s.a, p, coupled);

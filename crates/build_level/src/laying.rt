@@ -1,15 +1,14 @@
 // A level of `build` of hierarchy.rs is laid at its place: pattern, faces, values and coefficients (`SymmetricMatrix::new`), and its
 // aggregates are chosen.
-ghost use Rattle.std.specs.Prelude.{◌≡◌, cond, ◌||◌, [], ◌∷◌, ◌+◌, ◌≤◌, eqb, leb, length};
+ghost use Rattle.std.specs.Prelude.{◌≡◌, ◌||◌, [], ◌∷◌, ◌+◌, ◌≤◌, eqb, leb, length};
 ghost use Rattle.store.specs.Region.{Wrote};
 ghost use Rattle.build_level.specs.LayingContract.{FrontierOk, Laid, ChooseOk, Chosen};
 ghost use Rattle.build_level.specs.Inner.{WordsOk, PatternLaid, WordsLaid, FacesOk, FacesLaid, ValuesOk, ValuesLaid, graph_in};
 
 use aggregation::Graph;
-use coarsening::Workspace;
+use coarsening::{Setup, Workspace};
 use faces::{diagonals, mirrors};
 use layout::Place;
-use options::MultigridOptions;
 use refusal::Refusal;
 
 // Where the build has come to: the level to be laid, of so many rows and entries, its matrix in the temporaries; where its words and
@@ -83,17 +82,11 @@ fn lay_values(w: &[u32], f: &mut [f64], p: Place, from: usize, level: u64) -> Re
 }
 
 // The level at the frontier, out of the temporaries: questions 11, 12 and 13. Where one refuses, some of it may have been written.
-pub fn lay(
-    w: &mut [u32],
-    f: &mut [f64],
-    o: MultigridOptions,
-    given: bool,
-    t: Workspace,
-    s: Frontier,
-) -> Result<usize, Refusal>
-    requires { FrontierOk w.old (length f.old) o t s }
-    ensures { Laid w.old w.new f.old f.new given t s result }
+pub fn lay(w: &mut [u32], f: &mut [f64], x: Setup, s: Frontier) -> Result<usize, Refusal>
+    requires { FrontierOk w.old (length f.old) x.options x.workspace s }
+    ensures { Laid w.old w.new f.old f.new x.given x.workspace s result }
 {
+    let t = x.workspace;
     let faces = lay_words(w, t, s);
     let p = layout::place_of(s.a, s.b, s.rows, s.entries, faces);
     lay_faces(w, p, s.level)?;
@@ -108,48 +101,36 @@ fn ends_at(coupled: usize, coarsest: u64, faces: usize, more: u64) -> bool
     (coupled as u64 <= coarsest) | (faces == 0) | (more == 0)
 }
 
-// Where the strengths of the entries stand: the weights, or, where none are given, the values.
-fn strengths_at(given: bool, weights: usize, values: usize) -> usize
-    ensures { result ≡ cond given weights values }
+// The matrix of the level as `pairs` takes it: its weights, or its values where no weights are given, and the cap.
+fn graph_in(x: Setup, p: Place) -> Graph
+    ensures { result ≡ graph_in x.given x.workspace p x.options.max_aggregate_cells }
 {
-    if given { weights } else { values }
-}
-
-// The matrix of the level as `pairs` takes it, with the cap.
-fn graph_in(given: bool, t: Workspace, p: Place, cap: u64) -> Graph
-    ensures { result ≡ graph_in given t p cap }
-{
-    let strengths = strengths_at(given, t.weights, p.values);
     Graph {
         rows: p.rows,
         entries: p.entries,
         offsets: p.offsets,
         columns: p.columns,
         map: p.links,
-        weights: strengths,
-        absolute: !given,
-        cap,
+        weights: if x.given {
+            x.workspace.weights
+        } else {
+            p.values
+        },
+        absolute: !x.given,
+        cap: x.options.max_aggregate_cells,
     }
 }
 
 // The aggregates of the level that stands at p, in alternating direction, unless it is the last: then as many as rows.
-pub fn choose(
-    w: &mut [u32],
-    f: &[f64],
-    o: MultigridOptions,
-    given: bool,
-    t: Workspace,
-    s: Frontier,
-    p: Place,
-) -> usize
-    requires { ChooseOk w.old (length f.now) o t s p }
-    ensures { Chosen w.old w.new f.now o given t s p result }
+pub fn choose(w: &mut [u32], f: &[f64], x: Setup, s: Frontier, p: Place) -> usize
+    requires { ChooseOk w.old (length f.now) x.options x.workspace s p }
+    ensures { Chosen w.old w.new f.now x.options x.given x.workspace s p result }
 {
     let level = layout::faces_in(p);
     let coupled = faces::coupled_count(w, level);
-    if ends_at(coupled, o.coarsest_cells, p.faces, s.more) {
+    if ends_at(coupled, x.options.coarsest_cells, p.faces, s.more) {
         return p.rows;
     }
-    let g = graph_in(given, t, p, o.max_aggregate_cells);
+    let g = graph_in(x, p);
     aggregation::pairs(w, f, g, s.stage % 2 == 0)
 }

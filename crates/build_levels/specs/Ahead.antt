@@ -1,5 +1,7 @@
 -- One level of the build and the frontier ahead of it: what the functions of a level require and ensure. Definitions only.
 use Rattle.std.specs.Prelude.{◌≡◌, Bool, true, false, cond, List, ◌∷◌, ℕ, ◌+◌, ◌-◌, ◌*◌, ◌≤◌, eqb, length, Float, Result, Ok, Err}
+use Rattle.std.specs.declared.ops.ControlFlow.{ControlFlow}
+use Rattle.std.specs.declared.ops.ControlFlow.TheVariants.{Continue, Break}
 use Rattle.store.specs.Region.{Kept}
 use Rattle.options.specs.declared.options.MultigridOptions.{MultigridOptions}
 use Rattle.refusal.specs.Refusal.{store_too_small}
@@ -19,7 +21,6 @@ use Rattle.build_level.specs.declared.laying.Frontier.{Frontier}
 use Rattle.build_level.specs.LayingContract.{level_in, ControlsOk, FrontierOk, ChooseOk}
 use Rattle.build_level.specs.declared.coarsest.Growth.{Growth}
 use Rattle.build_level.specs.CoarsestContract.{Levels}
-use Rattle.build_levels.specs.declared.growing.Onward.{Onward}
 use Rattle.build_levels.specs.GrowingContract.{grow_at}
 
 -- the end of `levelStep`: a level with its coefficients is the last, or it is paired, and the last if that joins nothing
@@ -54,11 +55,15 @@ pub record Ahead (w z : List ℕ) (F G : List Float) (o : MultigridOptions) (giv
   pub words : Kept s.a w z
   pub floats : Kept s.b F G
 
+-- where a level leads: the levels end with it, or there is a next one
+abbrev pub Onward : Type 0
+Onward = ControlFlow Growth Frontier
+
 -- What a level whose outcome is `out` ensures: the levels end with it, or it is refused, or the next frontier lies ahead.
 pub record Advanced (w z : List ℕ) (F G : List Float) (o : MultigridOptions) (given : Bool) (t : Workspace) (s : Frontier) (out : Outcome (List Level)) (r : Result Onward Refusal) : Type 0 where
-  pub ended : (g : Growth) → r ≡ Ok (Onward.Ended g) → Levels w z F G t s.level s.a s.b out (Ok g)
+  pub ended : (g : Growth) → r ≡ Ok (Break g) → Levels w z F G t s.level s.a s.b out (Ok g)
   pub refusal : (q : Refusal) → r ≡ Err q → Levels w z F G t s.level s.a s.b out (Err q)
-  pub next : (n : Frontier) → r ≡ Ok (Onward.Next n) → Ahead w z F G o given t s out n
+  pub next : (n : Frontier) → r ≡ Ok (Continue n) → Ahead w z F G o given t s out n
 
 -- What the choice between the last level and the way down requires: the controls, a level that stands at p, and small enough counts.
 pub record LeadOk (w : List ℕ) (size : ℕ) (o : MultigridOptions) (t : Workspace) (s : Frontier) (p : Place) : Type 0 where

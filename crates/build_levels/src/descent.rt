@@ -6,9 +6,8 @@ ghost use Rattle.build_levels.specs.DescentContract.{DescendOk, Descended};
 ghost use Rattle.build_levels.specs.Steps.{StepsDone};
 
 use build_level::Frontier;
-use coarsening::{Held, Merging, Workspace};
+use coarsening::{Held, Merging, Setup, Workspace};
 use layout::Place;
-use options::MultigridOptions;
 use refusal::Refusal;
 
 // The level's matrix at its place, with its weights in the temporaries.
@@ -29,33 +28,32 @@ fn level_in(t: Workspace, p: Place) -> Held
 fn first_steps(
     w: &mut [u32],
     f: &mut [f64],
-    o: MultigridOptions,
-    given: bool,
-    t: Workspace,
+    x: Setup,
     s: Frontier,
     p: Place,
     count: usize,
 ) -> Result<Merging, Refusal>
-    requires { DescendOk w.old (length f.old) o t s p count }
-    ensures { StepsDone w.old w.new f.old f.new o given t s p count result }
+    requires { DescendOk w.old (length f.old) x.options x.workspace s p count }
+    ensures { StepsDone w.old w.new f.old f.new x.options x.given x.workspace s p count result }
 {
-    let m = level_in(t, p);
-    let first = coarsening::step(w, f, m, p.links, count, t, given);
+    let m = level_in(x.workspace, p);
+    let first = coarsening::step(w, f, x, m, p.links, count);
     if !first.finite {
         return Err(refusal::BAD_COARSE_VALUE);
     }
+    let last = Merging {
+        count,
+        entries: first.entries,
+        stage: s.stage + 1,
+    };
     coarsening::merge(
         w,
         f,
-        o,
-        given,
-        t,
+        x,
         p.rows,
         p.links,
-        count,
-        first.entries,
-        s.stage + 1,
-        o.merge_levels - 1,
+        last,
+        x.options.merge_levels - 1,
         s.level + 1,
     )
 }
@@ -65,27 +63,24 @@ fn first_steps(
 pub fn descend(
     w: &mut [u32],
     f: &mut [f64],
-    o: MultigridOptions,
-    given: bool,
-    t: Workspace,
+    x: Setup,
     s: Frontier,
     p: Place,
     count: usize,
 ) -> Result<Merging, Refusal>
-    requires { DescendOk w.old (length f.old) o t s p count }
-    ensures { Descended w.old w.new f.old f.new o given t s p count result }
+    requires { DescendOk w.old (length f.old) x.options x.workspace s p count }
+    ensures { Descended w.old w.new f.old f.new x.options x.given x.workspace s p count result }
 {
     store::fill(w, s.a + 1, 2, 0);
-    layout::smoother_data(w, f, options::needs_dic(o.smoother), p, s.level)?;
-    let merged = first_steps(w, f, o, given, t, s, p, count)?;
-    let m = level_in(t, p);
-    let next = coarsening::repair(w, f, m, p.links, merged.count, t, p.positions, given);
+    layout::smoother_data(w, f, options::needs_dic(x.options.smoother), p, s.level)?;
+    let merged = first_steps(w, f, x, s, p, count)?;
+    let m = level_in(x.workspace, p);
+    let next = coarsening::repair(w, f, x, m, p.links, merged.count, p.positions);
     if !next.finite {
         return Err(refusal::BAD_COARSE_VALUE);
     }
     Ok(Merging {
-        count: merged.count,
         entries: next.entries,
-        stage: merged.stage,
+        ..merged
     })
 }

@@ -6,17 +6,10 @@ ghost use Rattle.build_levels.specs.Ahead.{paired_at, Advanced, LeadOk, next_aft
 
 use crate::descent;
 use build_level::{Frontier, Growth};
-use coarsening::{Merging, Workspace};
+use coarsening::{Merging, Setup};
 use layout::Place;
-use options::MultigridOptions;
 use refusal::Refusal;
-
-// Where a level leads: the levels end with it, or there is a next one.
-#[derive(Clone, Copy)]
-pub enum Onward {
-    Ended(Growth),
-    Next(Frontier),
-}
+use std::ops::ControlFlow;
 
 // Question 9 of the next level: its charge is added up and asked by differences, so that no sum wraps.
 fn charged(
@@ -50,63 +43,52 @@ fn charged(
     })
 }
 
-// A level that stands at p is the last, or its aggregates lead to the next.
+// A level that stands at p is the last, at which the levels break off, or its aggregates lead to the next.
 fn lead(
     w: &mut [u32],
     f: &mut [f64],
-    o: MultigridOptions,
-    given: bool,
-    t: Workspace,
+    x: Setup,
     s: Frontier,
     p: Place,
-) -> Result<Onward, Refusal>
-    requires { LeadOk w.old (length f.old) o t s p }
-    ensures { Advanced w.old w.new f.old f.new o given t s (paired_at o given w.old f.old t s p) result }
+) -> Result<ControlFlow<Growth, Frontier>, Refusal>
+    requires { LeadOk w.old (length f.old) x.options x.workspace s p }
+    ensures { Advanced w.old w.new f.old f.new x.options x.given x.workspace s (paired_at x.options x.given w.old f.old x.workspace s p) result }
 {
-    let count = build_level::choose(w, f, o, given, t, s, p);
+    let count = build_level::choose(w, f, x, s, p);
     if count == s.rows {
-        let g = build_level::last(w, f, o, given, t, s, p)?;
-        return Ok(Onward::Ended(g));
+        let g = build_level::last(w, f, x, s, p)?;
+        return Ok(ControlFlow::Break(g));
     }
-    let down = descent::descend(w, f, o, given, t, s, p, count)?;
+    let down = descent::descend(w, f, x, s, p, count)?;
     let next = charged(w.len(), f.len(), s, p, down)?;
-    Ok(Onward::Next(next))
+    Ok(ControlFlow::Continue(next))
 }
 
 // The level at the frontier.
 fn advance(
     w: &mut [u32],
     f: &mut [f64],
-    o: MultigridOptions,
-    given: bool,
-    t: Workspace,
+    x: Setup,
     s: Frontier,
-) -> Result<Onward, Refusal>
-    requires { FrontierOk w.old (length f.old) o t s }
-    ensures { Advanced w.old w.new f.old f.new o given t s (grow_at o given w.old f.old t s) result }
+) -> Result<ControlFlow<Growth, Frontier>, Refusal>
+    requires { FrontierOk w.old (length f.old) x.options x.workspace s }
+    ensures { Advanced w.old w.new f.old f.new x.options x.given x.workspace s (grow_at x.options x.given w.old f.old x.workspace s) result }
 {
-    let faces = build_level::lay(w, f, o, given, t, s)?;
+    let faces = build_level::lay(w, f, x, s)?;
     let p = layout::place_of(s.a, s.b, s.rows, s.entries, faces);
-    lead(w, f, o, given, t, s, p)
+    lead(w, f, x, s, p)
 }
 
 // The levels from the frontier on.
-pub fn grow(
-    w: &mut [u32],
-    f: &mut [f64],
-    o: MultigridOptions,
-    given: bool,
-    t: Workspace,
-    s: Frontier,
-) -> Result<Growth, Refusal>
-    requires { FrontierOk w.old (length f.old) o t s }
-    ensures { Grown w.old w.new f.old f.new o given t s result }
+pub fn grow(w: &mut [u32], f: &mut [f64], x: Setup, s: Frontier) -> Result<Growth, Refusal>
+    requires { FrontierOk w.old (length f.old) x.options x.workspace s }
+    ensures { Grown w.old w.new f.old f.new x.options x.given x.workspace s result }
 {
     let mut at = s;
     loop {
-        match advance(w, f, o, given, t, at)? {
-            Onward::Ended(g) => return Ok(g),
-            Onward::Next(n) => at = n,
+        match advance(w, f, x, at)? {
+            ControlFlow::Break(g) => return Ok(g),
+            ControlFlow::Continue(n) => at = n,
         }
     }
 }

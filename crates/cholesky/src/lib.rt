@@ -20,6 +20,8 @@ pub use packed::triangle;
 pub use triangular::solve_factor;
 
 // The terminal level in the stores: its matrix of `rows` rows and `entries` entries, its `size` coupled rows, the factor.
+// Places alone: that they lie in the stores, and that the words there are in range, is `TerminalOk`, which `entry` to `cholesky` ask.
+// No invariant could say so of a value that holds no store.
 #[derive(Clone, Copy)]
 pub struct Terminal {
     pub rows: usize,
@@ -60,6 +62,8 @@ fn entry(w: &[u32], f: &[f64], t: Terminal, row: usize, column: usize) -> f64
 }
 
 // The elements below the diagonal of a row, which starts at `start`.
+// Row and start stay two numbers here, in `pivot` and in `one_row`: `RowAt` bounds them by the triangle's rows, which a pair of them
+// would have to hold too.
 fn columns(w: &[u32], f: &mut [f64], t: Terminal, row: usize, start: usize)
     requires terminal_ok { TerminalOk w.now (length f.old) t }
     requires row_at { RowAt t.size row start }

@@ -8,6 +8,9 @@ ghost use Rattle.cholesky.specs.TriangularContract.{SolveOk, Lowered, High, Rais
 
 use crate::packed;
 
+// `SolveOk`, which each function here asks, tells that factor and x lie apart in the store that is lent: of places alone, with the rows as
+// a struct, no invariant could say so.
+
 // Forward substitution in place. It returns where the factor ends.
 fn lower_solve(f: &mut [f64], n: usize, l: usize, x: usize) -> usize
     requires { SolveOk (length f.old) n l x }

@@ -21,26 +21,28 @@ fn diagonal(f: &mut [f64], n: usize, inverse: usize, rhs: usize, x: usize)
 }
 
 // The right-hand side of the coupled rows, to u.
-fn gather(w: &[u32], f: &mut [f64], n: usize, count: usize, coupled: usize, rhs: usize, u: usize)
-    requires { SpreadOk w.now (length f.old) n count coupled rhs u }
-    ensures { Wrote u count (gather_of count (part coupled count w.now) (part rhs n f.old))
+fn gather(w: &[u32], f: &mut [f64], t: Terminal, rhs: usize, u: usize)
+    requires { SpreadOk w.now (length f.old) t.rows t.size t.coupled rhs u }
+    ensures { Wrote u t.size
+        (gather_of t.size (part t.coupled t.size w.now) (part rhs t.rows f.old))
         f.old f.new }
 {
-    for k in 0..count {
-        let row = store::index_at(w, coupled, k, n);
+    for k in 0..t.size {
+        let row = store::index_at(w, t.coupled, k, t.rows);
         f[u + k] = f[rhs + row];
     }
 }
 
 // The compact solution at u, into the coupled rows of x. It is no twin of `gather`: what it writes may go to any row of x.
-fn scatter(w: &[u32], f: &mut [f64], n: usize, count: usize, coupled: usize, u: usize, x: usize)
-    requires { SpreadOk w.now (length f.old) n count coupled x u }
-    ensures { Wrote x n
-        (scatter_of count (part coupled count w.now) (part u count f.old) (part x n f.old))
+fn scatter(w: &[u32], f: &mut [f64], t: Terminal, u: usize, x: usize)
+    requires { SpreadOk w.now (length f.old) t.rows t.size t.coupled x u }
+    ensures { Wrote x t.rows
+        (scatter_of t.size (part t.coupled t.size w.now) (part u t.size f.old)
+        (part x t.rows f.old))
         f.old f.new }
 {
-    for k in 0..count {
-        let row = store::index_at(w, coupled, k, n);
+    for k in 0..t.size {
+        let row = store::index_at(w, t.coupled, k, t.rows);
         f[x + row] = f[u + k];
     }
 }
@@ -51,9 +53,9 @@ fn solve_coupled(w: &[u32], f: &mut [f64], t: Terminal, rhs: usize, x: usize, wo
     ensures { CoupledSolved t w.now rhs x work f.old f.new }
 {
     let solution = work + t.size;
-    gather(w, f, t.rows, t.size, t.coupled, rhs, work);
+    gather(w, f, t, rhs, work);
     solve_factor(f, t.size, t.factor, work, solution);
-    scatter(w, f, t.rows, t.size, t.coupled, solution, x);
+    scatter(w, f, t, solution, x);
 }
 
 // The terminal level: every row by its diagonal, the coupled ones by the factor, and question 24 over all of x.

@@ -7,7 +7,8 @@ ghost use Rattle.coarsening.specs.CoarsenContract.{SettleOk, Settled, FloatsOk, 
 
 use faces::mirrors::mirrors;
 use faces::{Faces, face_offsets, fill_faces};
-use galerkin::{restrict_weights, sum_entries, symmetrize};
+use galerkin::{CoarseRows, restrict_weights, sum_entries, symmetrize};
+use options::MultigridOptions;
 use pattern::{Coarsening, coarse_pattern};
 use store::copy;
 use vector::all_finite;
@@ -49,6 +50,15 @@ pub struct Workspace {
     pub merged_weights: usize,
     pub coarse_values: usize,
     pub coarse_weights: usize,
+}
+
+// What the setup of a hierarchy works with: the controls, the temporaries, and whether weights are given, by which it then pairs.
+// No Option of a place: weights have theirs in the temporaries either way, and `mesh_at` and `coarsened` go by the flag.
+#[derive(Clone, Copy)]
+pub struct Setup {
+    pub options: MultigridOptions,
+    pub workspace: Workspace,
+    pub given: bool,
 }
 
 // The entries of a coarse matrix, and whether all its values are finite: question 18.
@@ -126,23 +136,19 @@ fn form(w: &mut [u32], f: &mut [f64], m: Held, map: usize, count: usize, t: Work
 }
 
 // Its weights, where weights are given.
-fn weigh(w: &[u32], f: &mut [f64], m: Held, count: usize, t: Workspace, entries: usize, given: bool)
-    requires { WeighOk w.now (length f.old) m count t entries }
-    ensures { Weighed w.now f.old f.new m count t entries given }
+fn weigh(w: &[u32], f: &mut [f64], x: Setup, m: Held, count: usize, entries: usize)
+    requires { WeighOk w.now (length f.old) m count x.workspace entries }
+    ensures { Weighed w.now f.old f.new m count x.workspace entries x.given }
 {
-    if given {
-        restrict_weights(
-            w,
-            f,
+    if x.given {
+        let t = x.workspace;
+        let s = CoarseRows {
             count,
-            m.entries,
-            t.positions,
-            t.coarse_offsets,
-            t.coarse_columns,
-            m.weights,
             entries,
-            t.coarse_weights,
-        );
+            offsets: t.coarse_offsets,
+            columns: t.coarse_columns,
+        };
+        restrict_weights(w, f, m.entries, t.positions, m.weights, s, t.coarse_weights);
     }
 }
 
@@ -162,7 +168,8 @@ fn settle_words(
     copy(w, entries, t.coarse_columns, columns);
 }
 
-// n values and, where they are given, n weights, copied to where they are to stand.
+// n values and, where they are given, n weights, copied to where they are to stand. A flag and no Option of places: weights have theirs
+// either way, and `Floats` says by the flag what is copied.
 fn settle_floats(
     f: &mut [f64],
     n: usize,
@@ -181,21 +188,15 @@ fn settle_floats(
     }
 }
 
-// A merged step: the coarse matrix of m, with its weights, goes to where merged steps keep theirs.
-pub fn step(
-    w: &mut [u32],
-    f: &mut [f64],
-    m: Held,
-    map: usize,
-    count: usize,
-    t: Workspace,
-    given: bool,
-) -> Formation
-    requires { StepOk w.old (length f.old) m map count t }
-    ensures { Stepped w.old w.new f.old f.new given m map count t result }
+// A merged step: the coarse matrix of m, with its weights, goes to where merged steps keep theirs. No one function with `repair`, which keeps
+// the positions and takes the weights that merged steps made: what each leaves, `Stepped` and `Repaired` say apart.
+pub fn step(w: &mut [u32], f: &mut [f64], x: Setup, m: Held, map: usize, count: usize) -> Formation
+    requires { StepOk w.old (length f.old) m map count x.workspace }
+    ensures { Stepped w.old w.new f.old f.new x.given m map count x.workspace result }
 {
+    let t = x.workspace;
     let r = form(w, f, m, map, count, t);
-    weigh(w, f, m, count, t, r.entries, given);
+    weigh(w, f, x, m, count, r.entries);
     settle_words(w, count, r.entries, t, t.merged_offsets, t.merged_columns);
     settle_floats(
         f,
@@ -204,7 +205,7 @@ pub fn step(
         t.coarse_weights,
         t.merged_values,
         t.merged_weights,
-        given,
+        x.given,
     );
     r
 }
@@ -214,16 +215,16 @@ pub fn step(
 pub fn repair(
     w: &mut [u32],
     f: &mut [f64],
+    x: Setup,
     m: Held,
     map: usize,
     count: usize,
-    t: Workspace,
     to: usize,
-    given: bool,
 ) -> Formation
-    requires { RepairOk w.old (length f.old) m map count t to }
-    ensures { Repaired w.old w.new f.old f.new given m map count t to result }
+    requires { RepairOk w.old (length f.old) m map count x.workspace to }
+    ensures { Repaired w.old w.new f.old f.new x.given m map count x.workspace to result }
 {
+    let t = x.workspace;
     let r = form(w, f, m, map, count, t);
     copy(w, m.entries, t.positions, to);
     settle_words(w, count, r.entries, t, t.offsets, t.columns);
@@ -234,7 +235,7 @@ pub fn repair(
         t.merged_weights,
         t.values,
         t.weights,
-        given,
+        x.given,
     );
     r
 }

@@ -4,5 +4,5 @@
 pub mod coarsen;
 pub mod merging;
 
-pub use coarsen::{Held, Workspace, repair, step};
+pub use coarsen::{Held, Setup, Workspace, repair, step};
 pub use merging::{Merging, merge};

@@ -7,10 +7,9 @@ ghost use Rattle.coarsening.specs.MergingContract.{MergeOk, MergeDone};
 ghost use Rattle.coarsening.specs.Steps.{faces_in, graph_in, RowsOk, RowsAsked, PairOk, PairDone, JoinOk, JoinDone};
 
 use crate::coarsen;
-use crate::coarsen::{Formation, Held, Workspace};
+use crate::coarsen::{Formation, Held, Setup, Workspace};
 use aggregation::Graph;
 use faces::{Faces, diagonals};
-use options::MultigridOptions;
 use refusal::Refusal;
 
 // What merged steps end with: the rows and entries of their matrix, and the pairings made so far.
@@ -22,12 +21,12 @@ pub struct Merging {
 }
 
 // The matrix that merged steps made last, in the temporaries.
-fn merged_in(t: Workspace, rows: usize, entries: usize) -> Held
-    ensures { result ≡ merged_in t rows entries }
+fn merged_in(t: Workspace, last: Merging) -> Held
+    ensures { result ≡ merged_in t last.count last.entries }
 {
     Held {
-        rows,
-        entries,
+        rows: last.count,
+        entries: last.entries,
         offsets: t.merged_offsets,
         columns: t.merged_columns,
         values: t.merged_values,
@@ -36,12 +35,12 @@ fn merged_in(t: Workspace, rows: usize, entries: usize) -> Held
 }
 
 // Its pattern, with room for the diagonal entries.
-fn faces_in(t: Workspace, rows: usize, entries: usize) -> Faces
-    ensures { result ≡ faces_in t rows entries }
+fn faces_in(t: Workspace, last: Merging) -> Faces
+    ensures { result ≡ faces_in t last.count last.entries }
 {
     Faces {
-        rows,
-        entries,
+        rows: last.count,
+        entries: last.entries,
         faces: 0,
         offsets: t.merged_offsets,
         columns: t.merged_columns,
@@ -54,22 +53,23 @@ fn faces_in(t: Workspace, rows: usize, entries: usize) -> Faces
 }
 
 // The same for `pairs`: its weights, or its values where no weights are given, and the cap.
-fn graph_in(t: Workspace, rows: usize, entries: usize, given: bool, cap: u64) -> Graph
-    ensures { result ≡ graph_in t rows entries given cap }
+fn graph_in(x: Setup, last: Merging) -> Graph
+    ensures { result ≡ graph_in x.workspace last.count last.entries x.given x.options.max_aggregate_cells }
 {
+    let t = x.workspace;
     Graph {
-        rows,
-        entries,
+        rows: last.count,
+        entries: last.entries,
         offsets: t.merged_offsets,
         columns: t.merged_columns,
         map: t.map,
-        weights: if given {
+        weights: if x.given {
             t.merged_weights
         } else {
             t.merged_values
         },
-        absolute: !given,
-        cap,
+        absolute: !x.given,
+        cap: x.options.max_aggregate_cells,
     }
 }
 
@@ -118,27 +118,33 @@ fn check_rows(
 fn pair(
     w: &mut [u32],
     f: &[f64],
-    o: MultigridOptions,
-    given: bool,
-    t: Workspace,
-    count: usize,
-    entries: usize,
-    stage: u64,
+    x: Setup,
+    last: Merging,
     level: u64,
 ) -> Result<Option<usize>, Refusal>
-    requires { PairOk w.old (length f.now) t count entries }
-    ensures { PairDone o given w.old w.new f.now t count entries stage level result }
+    requires { PairOk w.old (length f.now) x.workspace last.count last.entries }
+    ensures { PairDone x.options x.given w.old w.new f.now
+        x.workspace last.count last.entries last.stage level result }
 {
-    let s = faces_in(t, count, entries);
+    let t = x.workspace;
+    let s = faces_in(t, last);
     // The answer is known: a merged matrix has every diagonal entry.
     let _ = diagonals::diagonals(w, s, level);
-    check_rows(w, f, count, entries, t.diagonals, t.merged_values, level)?;
+    check_rows(
+        w,
+        f,
+        last.count,
+        last.entries,
+        t.diagonals,
+        t.merged_values,
+        level,
+    )?;
     let coupled = faces::coupled_count(w, s);
-    if coupled as u64 <= o.coarsest_cells {
+    if coupled as u64 <= x.options.coarsest_cells {
         return Ok(None);
     }
-    let g = graph_in(t, count, entries, given, o.max_aggregate_cells);
-    let joined = aggregation::pairs(w, f, g, stage % 2 == 0);
+    let g = graph_in(x, last);
+    let joined = aggregation::pairs(w, f, g, last.stage % 2 == 0);
     Ok(Some(joined))
 }
 
@@ -146,79 +152,58 @@ fn pair(
 fn join(
     w: &mut [u32],
     f: &mut [f64],
-    given: bool,
-    t: Workspace,
+    x: Setup,
     rows: usize,
     map: usize,
-    count: usize,
-    entries: usize,
+    last: Merging,
     joined: usize,
 ) -> Formation
-    requires { JoinOk w.old (length f.old) t rows map count entries joined }
-    ensures { JoinDone given w.old w.new f.old f.new t rows map count entries joined result }
+    requires { JoinOk w.old (length f.old) x.workspace rows map last.count last.entries joined }
+    ensures { JoinDone x.given w.old w.new f.old f.new
+        x.workspace rows map last.count last.entries joined result }
 {
-    pattern::compose(w, rows, map, t.map, count);
-    let m = merged_in(t, count, entries);
-    coarsen::step(w, f, m, t.map, joined, t, given)
+    let t = x.workspace;
+    pattern::compose(w, rows, map, t.map, last.count);
+    let m = merged_in(t, last);
+    coarsen::step(w, f, x, m, t.map, joined)
 }
 
-// At most so many merged steps, at the level being formed.
+// At most so many merged steps from the matrix made last, at the level being formed.
 pub fn merge(
     w: &mut [u32],
     f: &mut [f64],
-    o: MultigridOptions,
-    given: bool,
-    t: Workspace,
+    x: Setup,
     rows: usize,
     map: usize,
-    count: usize,
-    entries: usize,
-    stage: u64,
+    last: Merging,
     steps: u64,
     level: u64,
 ) -> Result<Merging, Refusal>
-    requires { MergeOk w.old (length f.old) t rows map count entries stage steps }
-    ensures { MergeDone o given w.old w.new f.old f.new
-        t rows map count entries stage steps level result }
+    requires { MergeOk w.old (length f.old) x.workspace rows map last.count last.entries last.stage steps }
+    ensures { MergeDone x.options x.given w.old w.new f.old f.new
+        x.workspace rows map last.count last.entries last.stage steps level result }
 {
     if steps == 0 {
-        return Ok(Merging {
-            count,
-            entries,
-            stage,
-        });
+        return Ok(last);
     }
-    let found = pair(w, f, o, given, t, count, entries, stage, level)?;
+    let found = pair(w, f, x, last, level)?;
     let Some(joined) = found else {
-        return Ok(Merging {
-            count,
-            entries,
-            stage,
-        });
+        return Ok(last);
     };
-    if joined == count {
+    if joined == last.count {
         return Ok(Merging {
-            count,
-            entries,
-            stage: stage + 1,
+            stage: last.stage + 1,
+            ..last
         });
     }
-    let made = join(w, f, given, t, rows, map, count, entries, joined);
+    let made = join(w, f, x, rows, map, last, joined);
     if !made.finite {
         return Err(refusal::BAD_COARSE_VALUE);
     }
-    merge(
-        w,
-        f,
-        o,
-        given,
-        t,
-        rows,
-        map,
-        joined,
-        made.entries,
-        stage + 1,
-        steps - 1,
-        level,
-    )
+    let next = Merging {
+        count: joined,
+        entries: made.entries,
+        stage: last.stage + 1,
+    };
+    merge(w, f, x, rows, map, next, steps - 1, level)
 }

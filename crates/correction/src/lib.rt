@@ -9,4 +9,4 @@ pub mod transfer;
 pub use correction::{add_plain, subtract};
 pub use scaled::add_scaled;
 pub use scaling::correction_factor;
-pub use transfer::{add_prolonged, prolong, restrict};
+pub use transfer::{Aggregates, add_prolonged, prolong, restrict};

@@ -1,4 +1,5 @@
-// Document 01's questions 1 to 3, of the arrays that a caller lends: nothing is asked of them beforehand.
+// Document 01's questions 1 to 3, of the arrays that a caller lends: nothing is asked of them beforehand. Rows, offsets, columns and values are parameters
+// and no struct, as `SymmetricMatrix::new` of the Rust takes them: each question, and its definition, reads some of the four and not the others.
 ghost use Rattle.std.specs.Prelude.{◌≡◌, ◌+◌, ◌<◌, ◌≤◌, length};
 ghost use Rattle.refusal.specs.Outcome.{verdict_of};
 ghost use Rattle.csr.specs.Questions.{size_ok, never_fall, offsets_ok, entry_ok, row_ok, columns_ok, matrix_asked};

@@ -10,9 +10,14 @@ use Rattle.refusal.specs.Outcome.{Outcome, accepted, verdict_of, ◌>>=◌}
 use Rattle.matrix.specs.Kernel.{Kernel, KernelOk, kernel_at}
 use Rattle.smoother.specs.declared.LevelScratch.{LevelScratch}
 use Rattle.smoother.specs.Smooth.{smooth_of}
+use Rattle.correction.specs.declared.transfer.Aggregates.{Aggregates}
 use Rattle.correction.specs.Transfer.{restrict_of, prolong_of}
 use Rattle.cycle.specs.declared.visit.Inner.{Inner}
 use Rattle.cycle.specs.Cycle.{residual_after, scaled_correction, corrected}
+
+-- the map of a level's rows to those of the next level
+abbrev pub aggregates_of : Inner → Aggregates
+aggregates_of g = record { rows = g.matrix.rows; count = g.next; map = g.links }
 
 -- ---- a level's vectors in the store
 

@@ -1,12 +1,16 @@
 // cycle.rs: what a cycle does on a level before and after the coarser ones. Behind a level's vectors come those of the next level.
 ghost use Rattle.std.specs.Prelude.{◌≡◌, length};
 ghost use Rattle.cycle.specs.Visit.{residual_place, smoothed_at, scaled_at, corrected_at, raised_at};
-ghost use Rattle.cycle.specs.Visit.{InnerOk, Moved, Resided, Restricted, Downed};
+ghost use Rattle.cycle.specs.Visit.{aggregates_of, InnerOk, Moved, Resided, Restricted, Downed};
 
+use correction::Aggregates;
 use matrix::SymmetricMatrix;
 use options::MultigridSmoother;
 use refusal::Refusal;
 use smoother::LevelScratch;
+
+// `InnerOk`, which the functions of a visit ask, tells where a level lies in the two stores of the call, and what words stand
+// there. `Inner` holds neither store, so that no invariant of it could say so.
 
 // A level that is not the last: its matrix, its DIC reciprocals, the aggregate of each row, its vectors, and those of the next level with
 // its rows.
@@ -18,6 +22,19 @@ pub struct Inner {
     pub vectors: LevelScratch,
     pub below: LevelScratch,
     pub next: usize,
+}
+
+impl Inner {
+    // The map of its rows to those of the next level.
+    fn aggregates(self) -> Aggregates
+        ensures { result ≡ aggregates_of self }
+    {
+        Aggregates {
+            rows: self.matrix.rows,
+            count: self.next,
+            map: self.links,
+        }
+    }
 }
 
 // So many sweeps on a level.
@@ -60,12 +77,11 @@ fn restrict(w: &[u32], f: &mut [f64], g: Inner, sweeps: u64)
     requires { InnerOk w.now (length f.old) g }
     ensures { Restricted w.now f.old f.new g sweeps }
 {
-    let n = g.matrix.rows;
-    let next = g.next;
     residual(w, f, g, sweeps);
     let from = residual_at(g.vectors, sweeps);
-    correction::restrict(w, f, n, next, g.links, from, g.below.rhs);
-    store::fill(f, g.below.x, next, 0.0);
+    let map = g.aggregates();
+    correction::restrict(w, f, map, from, g.below.rhs);
+    store::fill(f, g.below.x, g.next, 0.0);
 }
 
 // The way down: sweeps, and the next level's right-hand side.
@@ -105,12 +121,12 @@ fn correct(w: &[u32], f: &mut [f64], g: Inner, scale: bool, sweeps: u64) -> Resu
     requires { InnerOk w.now (length f.old) g }
     ensures { Moved g.vectors.x g.matrix.rows (corrected_at w.now f.old g scale sweeps) f.old f.new result }
 {
-    let n = g.matrix.rows;
+    let map = g.aggregates();
     if scale {
-        correction::prolong(w, f, n, g.next, g.links, g.below.x, g.vectors.correction);
+        correction::prolong(w, f, map, g.below.x, g.vectors.correction);
         return correct_scaled(w, f, g, sweeps);
     }
-    correction::add_prolonged(w, f, n, g.next, g.links, g.below.x, g.vectors.x);
+    correction::add_prolonged(w, f, map, g.below.x, g.vectors.x);
     Ok(())
 }
 

@@ -11,6 +11,9 @@ const POWERS: [f64; 23] = [
     1e17, 1e18, 1e19, 1e20, 1e21, 1e22,
 ];
 
+// A power of ten is a number whose bound stands in the contracts, and no type of its own: `read`, `find` and `read_signed` are called with
+// the number that a field or a loop has, so each of them would make the type anew for the functions below it.
+
 // 10^k, which is a f64 for each k up to 22.
 fn power_of(k: u64) -> f64
     requires { k ≤ 22 }
@@ -36,6 +39,7 @@ fn reach(v: f64, negative: bool, power: u64) -> u64
 {
     let mut low: u64 = 0;
     let mut high: u64 = 1_000_000_000_000_000;
+    // A while: the numbers that are left are halved each time, so there is no range to walk.
     while low < high {
         let middle = low + (high - low) / 2;
         if read(middle, negative, power) < v {
@@ -60,7 +64,8 @@ pub fn find(v: f64, negative: bool, power: u64) -> Option<u64>
     }
 }
 
-// v with the power 10^power, or else 10^-power: the digits, whether the power of ten is below zero, and its size.
+// v with the power 10^power, or else 10^-power: the digits, whether the power of ten is below zero, and its size. The three stay a tuple,
+// since `write_of` of the theorems has them so.
 fn attempt(v: f64, power: u64) -> Option<(u64, bool, u64)>
     requires { power ≤ 22 }
     ensures { result ≡ attempt_of v power }

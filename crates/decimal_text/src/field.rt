@@ -190,7 +190,8 @@ fn last_digit(s: &[u8], n: usize) -> u8
     if n == 0 { 0 } else { s[n - 1] - b'0' }
 }
 
-// Whether two digit strings write the same number, whatever their length and their leading zeros: digit by digit, from the last.
+// Whether two digit strings write the same number, whatever their length and their leading zeros: digit by digit, from the last. No `==` of
+// the two fields, which asks for the same digits.
 pub fn same_number(a: &[u8], b: &[u8]) -> bool
     requires { (all_digits a.now ≡ true) × (all_digits b.now ≡ true) }
     ensures { result ≡ eqb (number_of a.now) (number_of b.now) }

@@ -1,5 +1,6 @@
 // Writing: bytes, numbers and values one after the other into a lent slice. What goes past its end is not written, but counted, so that a caller sees
-// from the last place whether there was room.
+// from the last place whether there was room. The output and the place are two arguments, since `put_value`, which
+// docs/ARCHITECTURE.md names, is called so.
 ghost use Rattle.std.specs.Prelude.{◌≡◌, ◌∷◌, [], ◌+◌, ◌≤◌, ◌<◌, ◌^◌};
 ghost use Rattle.decimal_text.specs.Figures.{figures, sign_text, power_text, number_text};
 ghost use Rattle.decimal_text.specs.Contract.{Laid, PlacedValue};

@@ -1,4 +1,5 @@
-// `update_dic_diagonal` of smoother.rs: the diagonal of the incomplete factor.
+// `update_dic_diagonal` of smoother.rs: the diagonal of the incomplete factor. `DicOk` and `row < s.rows` stand in each contract that reads the matrix: they
+// tie the words, the floats' length and d to s, and a struct that carried them would have to borrow the stores.
 ghost use Rattle.std.specs.Prelude.{◌≡◌, ◌+◌, ◌<◌, ◌≤◌, length};
 ghost use Rattle.store.specs.Region.{part};
 ghost use Rattle.store.specs.Held.{Held};
@@ -46,7 +47,7 @@ fn pivot_faces(
     held
 }
 
-// The faces of one row. The answer is the pivot of the next.
+// The faces of one row. The answer is the pivot of the next. `near` comes alone: what is held is read here, once the place is known.
 fn pivot_row(
     w: &[u32],
     f: &mut [f64],

@@ -1,4 +1,5 @@
-// smoother.rs: one DIC sweep over regions of the store.
+// smoother.rs: one DIC sweep over regions of the store. `VectorsOk` and `row < s.rows` stand in each contract of a substitution and its rows: where dic and
+// correction lie is a fact of the words and the floats' length too, which no value but the lent stores has.
 ghost use Rattle.std.specs.Prelude.{◌≡◌, ◌+◌, ◌<◌, ◌≤◌, length};
 ghost use Rattle.float.specs.Float.{add64, zero64};
 ghost use Rattle.store.specs.Region.{at, part};
@@ -48,7 +49,7 @@ fn scale(f: &mut [f64], dic: usize, correction: usize, row: usize, start: f64) -
     value
 }
 
-// A row of the forward substitution. The answer is the correction of the next row so far.
+// A row of the forward substitution. The answer is the correction of the next row so far. `near` comes alone, as in `pivot_row`.
 fn lower_row(
     w: &[u32],
     f: &mut [f64],

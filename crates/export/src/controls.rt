@@ -1,4 +1,6 @@
-// Controls as numbers, as they cross to C.
+// Controls as numbers, as they cross to C. A number past an enum's last stands for the last, so that these functions refuse none: where
+// it is a fault, `reading::in_range` has asked, or the record's own question. They are no `From<u64>`, which would have to stand beside
+// the enums, in a crate that knows nothing of C's numbers.
 ghost use Rattle.std.specs.Prelude.{◌≡◌};
 ghost use Rattle.export.specs.Flat.{smoother_of, residual_norm_of, coarse_solver_of, options_of};
 

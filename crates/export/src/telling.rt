@@ -7,20 +7,25 @@ use options::Handle;
 use refusal::Refusal;
 use solver::{LinearSolveReport, LinearSolverStatus};
 
-// Nothing is refused.
-const DONE: AnswerForC = AnswerForC {
-    question: 0,
-    level: 0,
-    row: 0,
-};
+impl AnswerForC {
+    // Nothing is refused.
+    pub const DONE: AnswerForC = AnswerForC {
+        question: 0,
+        level: 0,
+        row: 0,
+    };
+}
 
-fn refused(q: Refusal) -> AnswerForC
-    ensures { result ≡ refused_by q }
-{
-    AnswerForC {
-        question: q.number,
-        level: q.level,
-        row: q.row,
+// A refusal: its number, and where.
+impl From<Refusal> for AnswerForC {
+    ghost from_gives = { λ q a. a ≡ refused_by q };
+
+    fn from(q: Refusal) -> AnswerForC {
+        AnswerForC {
+            question: q.number,
+            level: q.level,
+            row: q.row,
+        }
     }
 }
 
@@ -55,7 +60,7 @@ pub fn tell_built(options: OptionsForC, built: Result<Handle, Refusal>) -> Built
 {
     match built {
         Ok(handle) => BuiltForC {
-            answer: DONE,
+            answer: AnswerForC::DONE,
             hierarchy: HierarchyForC {
                 options,
                 levels: handle.levels,
@@ -64,7 +69,7 @@ pub fn tell_built(options: OptionsForC, built: Result<Handle, Refusal>) -> Built
             },
         },
         Err(refusal) => BuiltForC {
-            answer: refused(refusal),
+            answer: AnswerForC::from(refusal),
             hierarchy: HierarchyForC {
                 options,
                 levels: 0,
@@ -80,8 +85,8 @@ pub fn tell_updated(updated: Result<(), Refusal>) -> AnswerForC
     ensures { result ≡ updated_struct updated }
 {
     match updated {
-        Ok(()) => DONE,
-        Err(refusal) => refused(refusal),
+        Ok(()) => AnswerForC::DONE,
+        Err(refusal) => AnswerForC::from(refusal),
     }
 }
 
@@ -102,7 +107,7 @@ pub fn tell_solved(solved: Result<LinearSolveReport, Refusal>) -> ReportForC
         Ok(report) => {
             let status = report.status;
             ReportForC {
-                answer: DONE,
+                answer: AnswerForC::DONE,
                 converged: converged_number(status),
                 iterations: report.iterations,
                 initial_residual: report.initial_residual,
@@ -111,7 +116,7 @@ pub fn tell_solved(solved: Result<LinearSolveReport, Refusal>) -> ReportForC
             }
         }
         Err(refusal) => ReportForC {
-            answer: refused(refusal),
+            answer: AnswerForC::from(refusal),
             converged: 0,
             iterations: 0,
             initial_residual: 0.0,
@@ -127,11 +132,11 @@ pub fn tell_counted(counted: Result<u64, Refusal>) -> CountForC
 {
     match counted {
         Ok(levels) => CountForC {
-            answer: DONE,
+            answer: AnswerForC::DONE,
             levels,
         },
         Err(refusal) => CountForC {
-            answer: refused(refusal),
+            answer: AnswerForC::from(refusal),
             levels: 0,
         },
     }

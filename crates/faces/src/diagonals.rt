@@ -16,7 +16,7 @@ pub fn diagonals(w: &mut [u32], s: Faces, level: u64) -> Result<(), Refusal>
         } else {
             return Err(Refusal {
                 number: refusal::MISSING_DIAGONAL,
-                level: level,
+                level,
                 row: row as u64,
             });
         }

@@ -42,6 +42,8 @@ fn mirror_at(w: &[u32], s: Faces, row: usize, column: usize, e: usize) -> Option
 }
 
 // `transpose_entries`: the mirror of each face. False where some entry, on either side of the diagonal, has no mirror: question 10.
+// Not one walk with `fill_faces`, which goes over the same entries: this one searches each entry's mirror and can stop at it, that one cannot fail and
+// writes two numbers a face. A walk over a closure would be a function more, and each loop's body would stand in a closure as it does here.
 pub fn mirrors(w: &mut [u32], s: Faces) -> bool
     requires { MirrorsOk w.old s }
     ensures { MirrorsDone w.old w.new s result }

@@ -11,12 +11,9 @@ use store::wide;
 
 // The whole number that a float is: no entry of a row with six faces is above 6,145.
 fn magnitude(x: f64) -> u64 {
-    for n in 0..8192u32 {
-        if x <= f64::from(n) {
-            return u64::from(n);
-        }
-    }
-    8192
+    (0..8192u32)
+        .find(|&n| x <= f64::from(n))
+        .map_or(8192, u64::from)
 }
 
 // A value with a blank before it, and its sign where it is below zero.
@@ -28,62 +25,54 @@ fn value(rt: &impl Print, x: f64) -> io::Result<()> {
     }
 }
 
-// The column and the value of an entry.
-fn entry(rt: &impl Print, columns: &[u32], values: &[f64], at: usize) -> io::Result<()> {
-    if let Some(column) = columns.get(at) {
-        print!(rt; " {column}")?;
-    }
-    if let Some(&x) = values.get(at) {
-        value(rt, x)?;
-    }
-    Ok(())
+// A matrix in compressed rows, as a load writes one: the offsets of its rows, and a column and a value for each entry.
+#[derive(Clone, Copy)]
+struct Matrix<'a> {
+    offsets: &'a [u32],
+    columns: &'a [u32],
+    values: &'a [f64],
 }
 
-// The entries of a row, from one place to another.
-fn entries(
-    rt: &impl Print,
-    columns: &[u32],
-    values: &[f64],
-    from: usize,
-    to: usize,
-) -> io::Result<()> {
-    for at in from..to {
-        if at > from {
-            print!(rt; ",")?;
+impl Matrix<'_> {
+    // The column and the value of an entry.
+    fn entry(&self, rt: &impl Print, at: usize) -> io::Result<()> {
+        if let Some(column) = self.columns.get(at) {
+            print!(rt; " {column}")?;
         }
-        entry(rt, columns, values, at)?;
+        if let Some(&x) = self.values.get(at) {
+            value(rt, x)?;
+        }
+        Ok(())
     }
-    Ok(())
-}
 
-// The line of a row.
-fn row(
-    rt: &impl Print,
-    offsets: &[u32],
-    columns: &[u32],
-    values: &[f64],
-    i: usize,
-) -> io::Result<()> {
-    if i < 65536 && i + 1 < offsets.len() {
-        print!(rt; "row {i}:")?;
-        entries(rt, columns, values, wide(offsets[i]), wide(offsets[i + 1]))?;
-        println!(rt; "")?;
+    // The entries of a row, from one place to another.
+    fn entries(&self, rt: &impl Print, from: usize, to: usize) -> io::Result<()> {
+        for at in from..to {
+            if at > from {
+                print!(rt; ",")?;
+            }
+            self.entry(rt, at)?;
+        }
+        Ok(())
     }
-    Ok(())
-}
 
-// The lines of so many rows, but eight at most.
-fn rows(
-    rt: &impl Print,
-    offsets: &[u32],
-    columns: &[u32],
-    values: &[f64],
-    count: u64,
-) -> io::Result<()> {
-    for i in 0..count.min(8) {
-        row(rt, offsets, columns, values, i as usize)?;
+    // The line of a row.
+    fn row(&self, rt: &impl Print, i: usize) -> io::Result<()> {
+        if i < 65536 && i + 1 < self.offsets.len() {
+            print!(rt; "row {i}:")?;
+            self.entries(rt, wide(self.offsets[i]), wide(self.offsets[i + 1]))?;
+            println!(rt; "")?;
+        }
+        Ok(())
     }
-    Ok(())
+
+    // The lines of so many rows, but eight at most.
+    fn rows(&self, rt: &impl Print, count: u64) -> io::Result<()> {
+        for i in 0..count.min(8) {
+            self.row(rt, i as usize)?;
+        }
+        Ok(())
+    }
 }
 
 // What was asked for.
@@ -113,20 +102,22 @@ fn show(rt: &impl Print, seed: u64, width: u64, height: u64, depth: u64) -> io::
     ) {
         Ok(s) => {
             size(rt, s)?;
-            rows(rt, &offsets, &columns, &values, s.rows)
+            let matrix = Matrix {
+                offsets: &offsets,
+                columns: &columns,
+                values: &values,
+            };
+            matrix.rows(rt, s.rows)
         }
         Err(q) => println!(rt; " refused {}", q.number),
     }
 }
 
 // The number that decimal digits write; 0 where there is anything else, or one of the last few below 2^64 or above.
-fn decimal(text: &[u8], length: usize) -> u64 {
-    if length > text.len() {
-        return 0;
-    }
+fn decimal(digits: &[u8]) -> u64 {
     let mut n: u64 = 0;
-    for &c in &text[..length] {
-        if c < b'0' || c > b'9' || n > 1844674407370955160 {
+    for &c in digits {
+        if !c.is_ascii_digit() || n > 1844674407370955160 {
             return 0;
         }
         n = n * 10 + u64::from(c - b'0');
@@ -138,7 +129,7 @@ fn decimal(text: &[u8], length: usize) -> u64 {
 fn argument(rt: &impl Env, i: usize) -> u64 {
     let mut text = [0u8; 20];
     match rt.arg(i, &mut text) {
-        Ok(length) => decimal(&text, length),
+        Ok(length) => text.get(..length).map_or(0, decimal),
         Err(_) => 0,
     }
 }

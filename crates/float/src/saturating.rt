@@ -1,4 +1,5 @@
-// The methods of u64 that the solver calls, as functions. None asks anything of its arguments.
+// The saturating sum and product of u64 as functions of their own, though each is one call of the library: docs/PROMISES.md names them with what they
+// promise, and the comparison with the Rust calls them. None asks anything of its arguments.
 ghost use Rattle.std.specs.Prelude.{◌≡◌, ◌*◌, min};
 ghost use Rattle.float.specs.Saturating.{saturating_sum};
 

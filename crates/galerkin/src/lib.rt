@@ -6,4 +6,4 @@ pub mod galerkin;
 pub mod weights;
 
 pub use galerkin::{sum_entries, sum_given, symmetrize};
-pub use weights::restrict_weights;
+pub use weights::{CoarseRows, restrict_weights};

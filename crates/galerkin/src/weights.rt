@@ -8,70 +8,67 @@ ghost use Rattle.galerkin.specs.Contract.{restrict_weights_of, EntriesOk, RowsOk
 use crate::galerkin::sum_entries;
 use store::wide;
 
+// The rows of the coarse matrix: how many, how many entries they have, and where their offsets and columns stand in the words.
+#[derive(Clone, Copy)]
+pub struct CoarseRows {
+    pub count: usize,
+    pub entries: usize,
+    pub offsets: usize,
+    pub columns: usize,
+}
+
 // The diagonal entry among those from lo to hi, which are the row's, becomes zero.
 fn zero_entries(
     w: &[u32],
     f: &mut [f64],
+    s: CoarseRows,
     row: usize,
     lo: usize,
     hi: usize,
-    columns: usize,
-    total: usize,
     out: usize,
 )
-    requires { EntriesOk w.now (length f.old) hi columns total out }
-    ensures { Wrote out total
-        (zero_entries (part columns total w.now) row lo hi (part out total f.old))
+    requires { EntriesOk w.now (length f.old) hi s.columns s.entries out }
+    ensures { Wrote out s.entries
+        (zero_entries (part s.columns s.entries w.now) row lo hi (part out s.entries f.old))
         f.old f.new }
 {
     for e in lo..hi {
-        if wide(w[columns + e]) == row {
+        if wide(w[s.columns + e]) == row {
             f[out + e] = 0.0;
         }
     }
 }
 
 // The diagonal entries of all rows become zero.
-fn zero_diagonal(
-    w: &[u32],
-    f: &mut [f64],
-    count: usize,
-    offsets: usize,
-    columns: usize,
-    total: usize,
-    out: usize,
-)
-    requires { RowsOk w.now (length f.old) count offsets columns total out }
-    ensures { Wrote out total
-        (zero_diagonal_of count (part offsets (count + 1) w.now) (part columns total w.now) (part out total f.old))
+fn zero_diagonal(w: &[u32], f: &mut [f64], s: CoarseRows, out: usize)
+    requires { RowsOk w.now (length f.old) s.count s.offsets s.columns s.entries out }
+    ensures { Wrote out s.entries
+        (zero_diagonal_of s.count (part s.offsets (s.count + 1) w.now) (part s.columns s.entries w.now) (part out s.entries f.old))
         f.old f.new }
 {
-    for row in 0..count {
-        let lo = wide(w[offsets + row]);
-        let hi = wide(w[offsets + row + 1]);
-        zero_entries(w, f, row, lo, hi, columns, total, out);
+    for row in 0..s.count {
+        let lo = wide(w[s.offsets + row]);
+        let hi = wide(w[s.offsets + row + 1]);
+        zero_entries(w, f, s, row, lo, hi, out);
     }
 }
 
-// The weights of the coarse entries: those of the fine entries, summed by position, and zero on the diagonal.
+// The weights of the coarse entries: those of the m fine entries, summed by position, and zero on the diagonal.
 pub fn restrict_weights(
     w: &[u32],
     f: &mut [f64],
-    count: usize,
     m: usize,
     positions: usize,
-    offsets: usize,
-    columns: usize,
     weights: usize,
-    total: usize,
+    s: CoarseRows,
     out: usize,
 )
-    requires { WeightsOk w.now (length f.old) count m positions offsets columns weights total out }
-    ensures { Wrote out total
-        (restrict_weights_of total m (part positions m w.now) (part weights m f.old)
-        count (part offsets (count + 1) w.now) (part columns total w.now))
+    requires { WeightsOk w.now (length f.old) s.count m positions s.offsets s.columns weights s.entries out }
+    ensures { Wrote out s.entries
+        (restrict_weights_of s.entries m (part positions m w.now) (part weights m f.old)
+        s.count (part s.offsets (s.count + 1) w.now) (part s.columns s.entries w.now))
         f.old f.new }
 {
-    sum_entries(w, f, m, positions, weights, total, out);
-    zero_diagonal(w, f, count, offsets, columns, total, out);
+    sum_entries(w, f, m, positions, weights, s.entries, out);
+    zero_diagonal(w, f, s, out);
 }

@@ -1,4 +1,5 @@
-// smoother.rs: one Gauss-Seidel sweep over regions of the store.
+// smoother.rs: one Gauss-Seidel sweep over regions of the store. `VectorsOk` stands in each contract of a sweep and its rows: that x and work lie in the
+// floats is a fact of the floats' length, the words and three places, of which no one value has all.
 #![tactic(auto)]
 
 ghost use Rattle.std.specs.Prelude.{◌≡◌, ◌+◌, ◌/◌, ◌<◌, ◌≤◌, leb, length};
@@ -13,7 +14,8 @@ ghost use Rattle.gauss_seidel.specs.Turns.{Stored, Watched, Handed, cast_turn, f
 
 use matrix::SymmetricMatrix;
 
-// What a sweep carries over to the next row in a register: a sweep that is near holds what stands at `watched`.
+// What a sweep carries over to the next row in a register: a sweep that is near holds what stands at `watched`. A flag beside the float and no Option: the
+// flag is one for all rows (`few_faces`) where the float changes with each face, and `Held`, `Put` and `Watched` name flag, place and float.
 #[derive(Clone, Copy)]
 pub struct Carried {
     pub near: bool,
@@ -104,7 +106,7 @@ fn fresh(
     value * f[s.inverse + row]
 }
 
-// A row of the forward sweep. The answer is what stands in work for the next row.
+// A row of the forward sweep. The answer is what stands in work for the next row. `near` comes alone: what is held is read here, once the place is known.
 fn forward_row(
     w: &[u32],
     f: &mut [f64],
@@ -147,7 +149,7 @@ fn forward(w: &[u32], f: &mut [f64], s: SymmetricMatrix, x: usize, work: usize)
     }
 }
 
-// The rows downward, with no casting.
+// The rows downward, with no casting. No `rev`: `backward_turn` speaks of the count of the rows done.
 fn backward(w: &[u32], f: &mut [f64], s: SymmetricMatrix, x: usize, work: usize)
     requires { VectorsOk w.now (length f.old) s x work }
     ensures { Stored (backward_turn w.now s x work) 0 s.rows f.old f.new }

@@ -1,4 +1,5 @@
-// One row of a level: where it stands, its entries, its faces and its link.
+// One row of a level: where it stands, its entries, its faces and its link. `RowOk` stands in the contracts of the row's tests: it is `LevelOk` and a row
+// that the walk has come to, facts of the words' length and three values together.
 ghost use Rattle.std.specs.Prelude.{◌≡◌, length};
 ghost use Rattle.index_check.specs.Sound.{row_placed, entries_sound, faces_sound, link_sound, row_sound};
 ghost use Rattle.index_check.specs.LevelContract.{RowOk, RunOk, shape_to};

@@ -1,4 +1,5 @@
-// The tables of a level all at once: whether any of its rows fails, which the walk asks before it goes row by row.
+// The tables of a level all at once: whether any of its rows fails, which the walk asks before it goes row by row. `LevelOk` stands in each contract: that
+// the tables lie in the words is a fact of their length, a place and its targets, none of which holds the others.
 ghost use Rattle.std.specs.Prelude.{◌≡◌, ◌&&◌, ◌+◌, ◌≤◌, length};
 ghost use Rattle.store.specs.Region.{part};
 ghost use Rattle.store.specs.Vector.{each};
@@ -9,7 +10,7 @@ use crate::sound;
 use layout::Place;
 
 // What the links and positions of a level are asked against: whether it is the last, how many links it has, and the rows and entries
-// that they lead to.
+// that they lead to. `last` stands beside them and `entries` is 0 there, no Option: `arrays_sound` and `shape_at` take a number, and `links` counts on each level.
 #[derive(Clone, Copy)]
 pub struct Targets {
     pub last: bool,
@@ -28,7 +29,7 @@ pub fn targets_at(w: &[u32], a: usize, more: u64) -> Targets
         return Targets {
             last: true,
             links: sound::coupled_at(w, a),
-            rows: rows,
+            rows,
             entries: 0,
         };
     }

@@ -4,5 +4,5 @@
 pub mod iterating;
 pub mod stepping;
 
-pub use iterating::iterate;
+pub use iterating::{Limits, iterate};
 pub use stepping::{Regions, iteration, places};

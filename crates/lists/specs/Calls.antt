@@ -2,14 +2,21 @@
 -- their numbers. Definitions only.
 use Rattle.solver.specs.declared.solver.LinearSolveReport.{LinearSolveReport}
 use Rattle.refusal.specs.declared.Refusal.{Refusal}
-use Rattle.std.specs.Prelude.{◌≡◌, ℕ, List, ◌++◌, take, drop, Float, Result}
+use Rattle.std.specs.Prelude.{◌≡◌, ℕ, List, [], ◌++◌, take, drop, Float, Result, is_some, unwrap_or, option_copied}
 use Rattle.options.specs.declared.options.Handle.{Handle}
 use Rattle.hierarchy.specs.Build.{Input}
+use Rattle.build.specs.Steps.{input_of}
 use Rattle.solver.specs.declared.solver.LinearSolverOptions.{LinearSolverOptions}
 use Rattle.solver.specs.declared.statistics.MultigridLevelStatistics.{MultigridLevelStatistics}
 use Rattle.multigrid.specs.New.{NewDone}
 use Rattle.multigrid.specs.SolvingCall.{SolveCall}
+use Rattle.lists.specs.declared.source.Source.{Source}
 use Rattle.lists.specs.Numbers.{records_in, records_lent, with_records}
+
+-- what is built: with the weights where there are any
+abbrev pub source_in : Source → Input
+source_in s =
+    input_of s.rows s.matrix.offsets.now s.matrix.columns.now s.matrix.values.now (is_some s.weights) (unwrap_or (option_copied s.weights) []) s.options
 
 -- A build that is lent the first records of a table: the call's own contract, and the table with what it left in the numbers.
 pub record BuildLent (w z : List ℕ) (F G : List Float) (table : List MultigridLevelStatistics) (lent : ℕ) (S S' : List ℕ) (x : Input) (r : Result Handle Refusal) : Type 0 where

@@ -3,8 +3,9 @@ ghost use Rattle.std.specs.Prelude.{◌<◌};
 
 use std::io;
 
-// What a call answers: zero or the number of the question that refuses, its level and row, and the levels built.
-#[derive(Clone, Copy)]
+// What a call answers: zero or the number of the question that refuses, its level and row, and the levels built. Numbers and no Result, as
+// the list has them: an answer that is due can be any four.
+#[derive(Clone, Copy, PartialEq)]
 pub struct Answer {
     pub number: u64,
     pub level: u64,
@@ -12,23 +13,25 @@ pub struct Answer {
     pub levels: u64,
 }
 
-// Accepted builds by their levels, up to 128; then two kinds to each question: refused on the finest level or below it. Kinds are numbers,
-// the places of the counters and the order of the lines: an enum would be made into this number for each use.
-fn kind_of(a: Answer) -> usize
-    ensures { result < 193 }
-{
-    if a.number == 0 {
-        (a.levels % 129) as usize
-    } else if a.level == 0 {
-        129 + 2 * (a.number % 32) as usize
-    } else {
-        130 + 2 * (a.number % 32) as usize
+impl Answer {
+    // Accepted builds by their levels, up to 128; then two kinds to each question: refused on the finest level or below it. Kinds are
+    // numbers, the places of the counters and the order of the lines: an enum would be made into this number for each use.
+    fn kind(self) -> usize
+        ensures { result < 193 }
+    {
+        if self.number == 0 {
+            (self.levels % 129) as usize
+        } else if self.level == 0 {
+            129 + 2 * (self.number % 32) as usize
+        } else {
+            130 + 2 * (self.number % 32) as usize
+        }
     }
 }
 
 // One more of the kind of this answer.
 pub fn count(kinds: &mut [u64; 193], a: Answer) {
-    let k = kind_of(a);
+    let k = a.kind();
     kinds[k] = kinds[k].saturating_add(1);
 }
 

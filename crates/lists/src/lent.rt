@@ -1,12 +1,13 @@
 // The calls with a table of records by value, so many of which are lent: what a program with plain numbers cannot lend itself. Where a
 // call changes the records, they go into the numbers that a list has for them.
-ghost use Rattle.std.specs.Prelude.{◌≡◌, ◌≤◌, true, false, []};
-ghost use Rattle.build.specs.Steps.{input_of};
+ghost use Rattle.std.specs.Prelude.{◌≡◌, ◌≤◌};
+ghost use Rattle.multigrid.specs.New.{NewDone};
 ghost use Rattle.multigrid.specs.UpdatingCall.{UpdateCall};
-ghost use Rattle.lists.specs.Numbers.{record_at, records_in, Put, with_record, with_records};
-ghost use Rattle.lists.specs.Calls.{BuildLent, SolveLent};
+ghost use Rattle.lists.specs.Numbers.{record_at, records_in, records_lent, Put, with_record, with_records};
+ghost use Rattle.lists.specs.Calls.{source_in, BuildLent, SolveLent};
 
-use options::{Handle, MultigridOptions};
+use crate::source::{Matrix, Source};
+use options::Handle;
 use refusal::Refusal;
 use solver::{LinearSolveReport, LinearSolverOptions, MultigridLevelStatistics};
 
@@ -36,6 +37,27 @@ pub fn records_of(numbers: &[u64]) -> [MultigridLevelStatistics; 128]
         records[k] = record(numbers, 5 * k);
     }
     records
+}
+
+// A table of records, and how many of them a call is lent, the first ones.
+#[derive(Clone, Copy)]
+pub struct Lent {
+    pub table: [MultigridLevelStatistics; 128],
+    pub count: usize,
+    pub ghost within: { count ≤ 128 },
+}
+
+impl Lent {
+    // The records that stand in numbers: the whole ones are lent, 128 at most.
+    pub fn of(numbers: &[u64]) -> Lent
+        ensures table { result.table ≡ records_in numbers.now }
+        ensures count { result.count ≡ records_lent numbers.now }
+    {
+        Lent {
+            table: records_of(numbers),
+            count: (numbers.len() / 5).min(128),
+        }
+    }
 }
 
 // A number to its place; none outside of them.
@@ -69,64 +91,41 @@ fn write_back(records: [MultigridLevelStatistics; 128], numbers: &mut [u64])
     }
 }
 
-pub fn new(
-    rows: usize,
-    offsets: &[u32],
-    columns: &[u32],
-    values: &[f64],
-    options: MultigridOptions,
+// The build that pairs by the weights where there are any, else the one that pairs by the values.
+fn build(
+    source: Source,
     words: &mut [u32],
     floats: &mut [f64],
-    table: [MultigridLevelStatistics; 128],
-    lent: usize,
-    numbers: &mut [u64],
+    records: &mut [MultigridLevelStatistics],
 ) -> Result<Handle, Refusal>
-    requires { lent ≤ 128 }
-    ensures { BuildLent words.old words.new floats.old floats.new table lent numbers.old numbers.new (input_of rows offsets.now columns.now values.now false [] options) result }
+    ensures { NewDone words.old words.new floats.old floats.new records.old records.new (source_in source.entry) result }
 {
-    let mut records = table;
-    let answer = multigrid::new(
-        rows,
+    let rows = source.rows;
+    let Matrix {
         offsets,
         columns,
         values,
-        options,
-        words,
-        floats,
-        &mut records[..lent],
-    );
-    write_back(records, numbers);
-    answer
+    } = source.matrix;
+    let o = source.options;
+    match source.weights {
+        Some(weights) => multigrid::new_with_face_weights(
+            rows, offsets, columns, values, weights, o, words, floats, records,
+        ),
+        None => multigrid::new(rows, offsets, columns, values, o, words, floats, records),
+    }
 }
 
-pub fn new_with_face_weights(
-    rows: usize,
-    offsets: &[u32],
-    columns: &[u32],
-    values: &[f64],
-    face_weights: &[f64],
-    options: MultigridOptions,
+pub fn new(
+    source: Source,
     words: &mut [u32],
     floats: &mut [f64],
-    table: [MultigridLevelStatistics; 128],
-    lent: usize,
+    lent: Lent,
     numbers: &mut [u64],
 ) -> Result<Handle, Refusal>
-    requires { lent ≤ 128 }
-    ensures { BuildLent words.old words.new floats.old floats.new table lent numbers.old numbers.new (input_of rows offsets.now columns.now values.now true face_weights.now options) result }
+    ensures { BuildLent words.old words.new floats.old floats.new lent.table lent.count numbers.old numbers.new (source_in source.entry) result }
 {
-    let mut records = table;
-    let answer = multigrid::new_with_face_weights(
-        rows,
-        offsets,
-        columns,
-        values,
-        face_weights,
-        options,
-        words,
-        floats,
-        &mut records[..lent],
-    );
+    let mut records = lent.table;
+    let answer = build(source, words, floats, &mut records[..lent.count]);
     write_back(records, numbers);
     answer
 }
@@ -135,44 +134,46 @@ pub fn solve(
     handle: Handle,
     words: &[u32],
     floats: &mut [f64],
-    table: [MultigridLevelStatistics; 128],
-    lent: usize,
+    lent: Lent,
     numbers: &mut [u64],
     rhs: &[f64],
     x: &mut [f64],
     options: LinearSolverOptions,
 ) -> Result<LinearSolveReport, Refusal>
-    requires { lent ≤ 128 }
-    ensures { SolveLent handle words.now floats.old floats.new table lent numbers.old numbers.new rhs.now x.old x.new options result }
+    ensures { SolveLent handle words.now floats.old floats.new lent.table lent.count numbers.old numbers.new rhs.now x.old x.new options result }
 {
-    let mut records = table;
-    let answer = multigrid::solve(handle, words, floats, &mut records[..lent], rhs, x, options);
+    let mut records = lent.table;
+    let answer = multigrid::solve(
+        handle,
+        words,
+        floats,
+        &mut records[..lent.count],
+        rhs,
+        x,
+        options,
+    );
     write_back(records, numbers);
     answer
 }
 
 pub fn update_values(
     handle: Handle,
-    offsets: &[u32],
-    columns: &[u32],
-    values: &[f64],
+    matrix: Matrix,
     words: &[u32],
     floats: &mut [f64],
-    table: [MultigridLevelStatistics; 128],
-    lent: usize,
+    lent: Lent,
 ) -> Result<(), Refusal>
-    requires { lent ≤ 128 }
-    ensures { UpdateCall handle words.now floats.old floats.new lent offsets.now columns.now values.now result }
+    ensures { UpdateCall handle words.now floats.old floats.new lent.count matrix.entry.offsets.now matrix.entry.columns.now matrix.entry.values.now result }
 {
-    let records = table;
+    let records = lent.table;
     multigrid::update_values(
         handle,
-        offsets,
-        columns,
-        values,
+        matrix.offsets,
+        matrix.columns,
+        matrix.values,
         words,
         floats,
-        &records[..lent],
+        &records[..lent.count],
     )
 }
 
@@ -180,11 +181,8 @@ pub fn statistics(
     handle: Handle,
     words: &[u32],
     floats: &[f64],
-    table: [MultigridLevelStatistics; 128],
-    lent: usize,
-) -> Result<u64, Refusal>
-    requires { lent ≤ 128 }
-{
-    let records = table;
-    multigrid::statistics(handle, words, floats, &records[..lent])
+    lent: Lent,
+) -> Result<u64, Refusal> {
+    let records = lent.table;
+    multigrid::statistics(handle, words, floats, &records[..lent.count])
 }

@@ -2,21 +2,24 @@
 // calls leave in the stores.
 #![tactic(auto)]
 
-ghost use Rattle.std.specs.Prelude.{◌≡◌, ◌≤◌, min};
+ghost use Rattle.std.specs.Prelude.{◌≡◌, take};
 
 pub mod calls;
 pub mod kinds;
 pub mod lent;
 pub mod reading;
 pub mod rebuild;
+pub mod source;
 pub mod stores;
 
-pub use rebuild::{Problem, from_text};
+pub use reading::Reader;
+pub use rebuild::from_text;
+pub use source::{Matrix, Source};
+pub use stores::Stores;
 
-// The smaller of two lengths.
-pub fn least(a: usize, b: usize) -> usize
-    ensures upper_bound { result ≤ b }
-    ensures value { result ≡ min a b }
+// The first elements of a slice, so many or all.
+pub fn first<T>(s: &[T], n: usize) -> &[T]
+    ensures { result.now ≡ take n s.now }
 {
-    if a < b { a } else { b }
+    &s[..n.min(s.len())]
 }

@@ -1,39 +1,41 @@
-// What calls leave in the stores: where the levels of a build end, and the checksums of a list.
+// What calls are lent, and what they leave in the stores: where the levels of a build end, and the checksums of a list.
 ghost use Rattle.std.specs.Prelude.{◌≤◌};
 
-use crate::least;
+use crate::reading::Number;
+use crate::source::{Matrix, Source};
+use crate::{calls, first};
+use options::Handle;
+use refusal::Refusal;
+use solver::{LinearSolveReport, LinearSolverOptions};
 
 // The sum of the numbers so far and the sum of these sums, modulo 2^64: it tells numbers that have changed places apart.
 #[derive(Clone, Copy)]
-pub struct Sums {
-    pub sum: u64,
-    pub total: u64,
+struct Sums {
+    sum: u64,
+    total: u64,
 }
 
-fn add(c: Sums, number: u64) -> Sums {
-    let sum = c.sum.wrapping_add(number);
-    Sums {
-        sum,
-        total: c.total.wrapping_add(sum),
+impl Sums {
+    const NONE: Sums = Sums { sum: 0, total: 0 };
+
+    // With one number more.
+    fn and(self, number: u64) -> Sums {
+        let sum = self.sum.wrapping_add(number);
+        Sums {
+            sum,
+            total: self.total.wrapping_add(sum),
+        }
+    }
+
+    // With numbers, words or floats more.
+    fn and_all<T: Number>(self, all: &[T]) -> Sums {
+        all.iter().fold(self, |c, x| c.and(x.bits()))
     }
 }
 
-// The first words, so many or all, added to a checksum.
-fn add_words(c: Sums, w: &[u32], count: usize) -> Sums {
-    let mut c = c;
-    for &word in w.iter().take(count) {
-        c = add(c, u64::from(word));
-    }
-    c
-}
-
-// The same of floats, by their bits.
-fn add_floats(c: Sums, f: &[f64], count: usize) -> Sums {
-    let mut c = c;
-    for &x in f.iter().take(count) {
-        c = add(c, float::to_bits(x));
-    }
-    c
+// The checksum of numbers, words or floats.
+pub fn checksum<T: Number>(all: &[T]) -> u64 {
+    Sums::NONE.and_all(all).total
 }
 
 // How much of the two stores is meant: so many words and so many floats.
@@ -43,34 +45,109 @@ pub struct Extent {
     pub floats: usize,
 }
 
-// The checksum of so much of the stores, the words first.
-pub fn checksum(extent: Extent, words: &[u32], floats: &[f64]) -> u64 {
-    let none = Sums { sum: 0, total: 0 };
-    add_floats(add_words(none, words, extent.words), floats, extent.floats).total
+impl Extent {
+    pub const NONE: Extent = Extent {
+        words: 0,
+        floats: 0,
+    };
 }
 
-// The checksum of the first floats alone, so many or all.
-pub fn floats_checksum(f: &[f64], count: usize) -> u64 {
-    let none = Sums { sum: 0, total: 0 };
-    add_floats(none, f, count).total
+// The two stores and the statistics of a program, and how much of each its calls are lent, where there is so much.
+#[derive(Drop)]
+pub struct Stores {
+    pub words: [u32; 8192],
+    pub floats: [f64; 8192],
+    pub statistics: [u64; 640],
+    pub lent: Extent,
+    pub counters: usize,
 }
 
-// The checksum of numbers.
-pub fn numbers_checksum(numbers: &[u64]) -> u64 {
-    let mut c = Sums { sum: 0, total: 0 };
-    for &number in numbers {
-        c = add(c, number);
+impl Stores {
+    // Full of noise, so that a call that reads what it was not given shows.
+    pub fn noise() -> Stores {
+        Stores {
+            words: [0xa5a5_a5a5; 8192],
+            floats: [-1.5e99; 8192],
+            statistics: [0xa5a5_a5a5_a5a5_a5a5; 640],
+            lent: Extent::NONE,
+            counters: 0,
+        }
     }
-    c.total
+
+    // The statistics that are lent.
+    pub fn told(&self) -> &[u64] {
+        first(&self.statistics, self.counters)
+    }
+
+    // The checksum of so much of the stores, the words first.
+    pub fn checksum(&self, extent: Extent) -> u64 {
+        Sums::NONE
+            .and_all(first(&self.words, extent.words))
+            .and_all(first(&self.floats, extent.floats))
+            .total
+    }
+
+    // The three calls, over as much as is lent. Each cuts its parts itself: with a struct of `&mut` slices that hands out its first parts the
+    // loans did not prove.
+    pub fn build(&mut self, source: Source) -> Result<Handle, Refusal> {
+        let a = self.lent.words.min(8192);
+        let b = self.lent.floats.min(8192);
+        let c = self.counters.min(640);
+        let words = &mut self.words[..];
+        let floats = &mut self.floats[..];
+        let statistics = &mut self.statistics[..];
+        calls::new(
+            source,
+            &mut words[..a],
+            &mut floats[..b],
+            &mut statistics[..c],
+        )
+    }
+
+    pub fn update(&mut self, handle: Handle, matrix: Matrix) -> Result<(), Refusal> {
+        let a = self.lent.words.min(8192);
+        let b = self.lent.floats.min(8192);
+        let c = self.counters.min(640);
+        let words = &self.words[..];
+        let floats = &mut self.floats[..];
+        let statistics = &self.statistics[..];
+        calls::update_values(
+            handle,
+            matrix,
+            &words[..a],
+            &mut floats[..b],
+            &statistics[..c],
+        )
+    }
+
+    pub fn solve(
+        &mut self,
+        handle: Handle,
+        rhs: &[f64],
+        x: &mut [f64],
+        options: LinearSolverOptions,
+    ) -> Result<LinearSolveReport, Refusal> {
+        let a = self.lent.words.min(8192);
+        let b = self.lent.floats.min(8192);
+        let c = self.counters.min(640);
+        let words = &self.words[..];
+        let floats = &mut self.floats[..];
+        let statistics = &mut self.statistics[..];
+        calls::solve(
+            handle,
+            &words[..a],
+            &mut floats[..b],
+            &mut statistics[..c],
+            rhs,
+            x,
+            options,
+        )
+    }
 }
 
-// The sum of so many words of statistics, modulo 2^64.
-pub fn statistics_sum(s: &[u64], count: usize) -> u64 {
-    let mut sum: u64 = 0;
-    for &number in s.iter().take(count) {
-        sum = sum.wrapping_add(number);
-    }
-    sum
+// The sum of the numbers, modulo 2^64.
+pub fn sum(all: &[u64]) -> u64 {
+    all.iter().fold(0, |sum: u64, &n| sum.wrapping_add(n))
 }
 
 // The word at a place; zero outside of the store.
@@ -88,8 +165,8 @@ fn triangle(n: u32) -> usize
 
 // Where the level ends whose words and floats start where `from` ends, as crates/layout has it.
 fn level_end(w: &[u32], from: Extent) -> Extent {
-    let a = least(from.words, 1 << 40);
-    let b = least(from.floats, 1 << 40);
+    let a = from.words.min(1 << 40);
+    let b = from.floats.min(1 << 40);
     let rows = store::wide(word(w, a));
     let entries = store::wide(word(w, a + 3 + rows));
     let faces = store::wide(word(w, a + 4 + 2 * rows + entries));
@@ -110,15 +187,12 @@ fn level_end(w: &[u32], from: Extent) -> Extent {
 
 // Where a hierarchy of so many levels ends, with the row sums of the finest one after its floats.
 pub fn view_end(w: &[u32], levels: u64) -> Extent {
-    let mut end = Extent {
-        words: 0,
-        floats: 0,
-    };
+    let mut end = Extent::NONE;
     for _ in 0..levels {
         end = level_end(w, end);
     }
     Extent {
         words: end.words,
-        floats: least(end.floats, 1 << 40) + store::wide(word(w, 0)),
+        floats: end.floats.min(1 << 40) + store::wide(word(w, 0)),
     }
 }

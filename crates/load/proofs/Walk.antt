@@ -1,5 +1,5 @@
 -- Cell after cell. Assumes nothing.
-use Rattle.std.proofs.Common.{◌≡◌, ℕ, zero, suc, ◌+◌, ◌*◌, ◌<◌, ◌≤◌, List, [], ◌∷◌, ◌++◌, map, length, get_or, set, pos, sym, refl, ap, ◌∙◌, ⊎_elim, mul_assoc, mul-le-mul_left, mul-zero, zero-add, add-one, arith, length-set}
+use Rattle.std.proofs.Common.{◌≡◌, ℕ, zero, suc, ◌+◌, ◌*◌, ◌<◌, ◌≤◌, List, [], ◌∷◌, ◌++◌, map, length, get_or, set, pos, sym, refl, ap, ◌∙◌, ⊎_elim, mul_assoc, mul-le-mul_left, zero-add, add-one, arith, length-set}
 use mathlib.Core.List.{map-append}
 use lib.ListN.{length-map, get_or-map}
 use lib.Ieee.{Float, nan, binary64, of_int}
@@ -10,6 +10,7 @@ use Rattle.store.proofs.store.Vector.{length_tab, get_d_tab}
 use Rattle.pattern.specs.Pattern.{sum_to}
 use Rattle.load.specs.declared.cells.Extents.{Extents}
 use Rattle.load.specs.declared.cells.Cell.{Cell}
+use Rattle.load.specs.declared.cells.Place.{Place}
 use Rattle.load.specs.declared.laying.Reached.{Reached}
 use Rattle.load.specs.Box.{Grid}
 use Rattle.load.specs.Draw.{state_of}
@@ -30,52 +31,53 @@ deep_is {e} {c} {cells} placed all h = ⊎_elim
     (λ (k : c.z < e.depth). k)
     (le_or_lt e.depth c.z)
 
--- The first cell.
-pub placed_first : {e : Extents} → Few e → Placed e (record { number = 0; x = 0; y = 0; z = 0 })
-placed_first {e} few = record { number = omega (arith, zero_rows e.height e.width); x = few.wide; y = few.high; z = omega arith; small = omega arith }
-  where
-    zero_rows : (h w : ℕ) → w * (0 + h * 0) ≡ 0
-    zero_rows h w = rw (mul-zero h, zero-add 0, mul-zero w) refl
+-- A place in the box stands in it.
+pub placed_in : {e : Extents} (p : Place) → p.extents ≡ e → Placed e p.cell
+placed_in p box = rw box at p.placed
+
+-- So one with a cell's number stands in one of its layers.
+pub deep_at : {e : Extents} {cells : ℕ} (p : Place) → p.extents ≡ e → cells ≡ e.width * e.height * e.depth → p.cell.number < cells
+    → p.cell.z < p.extents.depth
+deep_at p box all h = rw box (deep_is (placed_in p box) all h)
 
 -- ---- counting
 
--- The entries of the cells before c are counted.
-pub record Counting (e : Extents) (cells entries : ℕ) (c : Cell) (i : ℕ) : Type 0 where
-  pub placed : Placed e c
-  pub number : c.number ≡ i
+-- The entries of the cells before a place are counted.
+pub record Counting (e : Extents) (cells entries : ℕ) (p : Place) (i : ℕ) : Type 0 where
+  pub box : p.extents ≡ e
+  pub number : p.cell.number ≡ i
   pub within : i ≤ cells
   pub counted : entries ≡ row_start (grid_of e) i
   pub small : entries ≤ 7 * i
   pub few : cells ≤ 65536
 
-pub counting_start : {e : Extents} {cells : ℕ} → Few e → cells ≡ e.width * e.height * e.depth
-    → Counting e cells 0 (record { number = 0; x = 0; y = 0; z = 0 }) 0
+pub counting_start : {e : Extents} {cells : ℕ} {p : Place} → Few e → cells ≡ e.width * e.height * e.depth → p.extents ≡ e → p.cell.number ≡ 0
+    → Counting e cells 0 p 0
 unfolding row_start sum_to
-counting_start few all = record {
-  placed = placed_first few;
-  number = refl;
+counting_start few all box first = record {
+  box = box;
+  number = first;
   within = omega arith;
   counted = refl;
   small = omega arith;
   few = omega (arith, few.cells);
 }
 
-pub counting_on : {e : Extents} {cells entries i w : ℕ} {c d : Cell} → Counting e cells entries c i → i < cells → w ≡ length (columns_in (grid_of e) c.number)
-    → Placed e d → d.number ≡ c.number + 1 → Counting e cells (entries + w) d (i + 1)
-counting_on {e} {cells} {entries} {i} {w} {c} {d} k h width placed next =
-    let n : w ≡ length (columns_in (grid_of e) i) = width ∙ ap (λ (j : ℕ). length (columns_in (grid_of e) j)) k.number in
+pub counting_on : {e : Extents} {cells entries i w : ℕ} {p q : Place} → Counting e cells entries p i → i < cells
+    → w ≡ length (columns_in (grid_of p.extents) p.cell.number) → q.extents ≡ p.extents → q.cell.number ≡ p.cell.number + 1
+    → Counting e cells (entries + w) q (i + 1)
+counting_on {e} {cells} {entries} {i} {w} {p} {q} k h width box next =
+    let n : w ≡ length (columns_in (grid_of e) i) =
+    width ∙ ap (λ (x : Extents). length (columns_in (grid_of x) p.cell.number)) k.box ∙ ap (λ (j : ℕ). length (columns_in (grid_of e) j)) k.number in
     let s : entries + w ≡ row_start (grid_of e) (i + 1) = omega (arith, k.counted, start_next (grid_of e) i) in
     record {
-      placed = placed;
+      box = box ∙ k.box;
       number = omega (arith, k.number);
       within = omega arith;
       counted = s;
       small = omega (arith, start_small e (i + 1));
       few = k.few;
     }
-
-pub counting_done : {e : Extents} {cells entries i : ℕ} {c : Cell} → Counting e cells entries c i → cells ≤ i → entries ≡ row_start (grid_of e) cells
-counting_done {e} {cells} {entries} {i} k h = k.counted ∙ ap (row_start (grid_of e)) (omega (arith, k.within))
 
 -- ---- laying
 
@@ -85,21 +87,21 @@ get_d_in [] k d d' h = absurd (omega arith)
 get_d_in (x ∷ l) zero d d' h = refl
 get_d_in (x ∷ l) (suc k) d d' h = get_d_in l k d d' (omega arith)
 
--- The rows of the cells before c are laid.
-pub record Laying (seed : ℕ) (e : Extents) (cells : ℕ) (O O' C C' : List ℕ) (F F' : List Float) (r : Reached) (c : Cell) (i : ℕ) : Type 0 where
-  pub placed : Placed e c
-  pub number : c.number ≡ i
+-- The rows of the cells before a place are laid.
+pub record Laying (seed : ℕ) (e : Extents) (cells : ℕ) (O O' C C' : List ℕ) (F F' : List Float) (r : Reached) (p : Place) (i : ℕ) : Type 0 where
+  pub box : p.extents ≡ e
+  pub number : p.cell.number ≡ i
   pub within : i ≤ cells
   pub done : CellsDone seed e i O O' C C' F F' r
   pub short : r.end ≤ 7 * i
   pub few : cells ≤ 65536
 
-pub laying_start : {seed : ℕ} {e : Extents} {cells : ℕ} {O C : List ℕ} {F : List Float} → CellsOk e cells (length O) (length C) (length F)
-    → Laying seed e cells O O C C F F (record { end = 0; state = seed }) (record { number = 0; x = 0; y = 0; z = 0 }) 0
+pub laying_start : {seed : ℕ} {e : Extents} {cells : ℕ} {p : Place} {O C : List ℕ} {F : List Float} → CellsOk e cells (length O) (length C) (length F)
+    → p.extents ≡ e → p.cell.number ≡ 0 → Laying seed e cells O O C C F F (record { end = 0; state = seed }) p 0
 unfolding row_start sum_to joined tab draws_before state_of
-laying_start {O = O} {C = C} {F = F} ok = record {
-  placed = placed_first ok.few;
-  number = refl;
+laying_start {O = O} {C = C} {F = F} ok box first = record {
+  box = box;
+  number = first;
   within = omega arith;
   done = record {
     offsets = sym (splice_nil 0 O);
@@ -112,8 +114,8 @@ laying_start {O = O} {C = C} {F = F} ok = record {
   few = omega (arith, ok.all, ok.few.cells);
 }
 
-module _ {seed : ℕ} {e : Extents} {cells : ℕ} {O O' C C' : List ℕ} {F F' : List Float} {r : Reached} {c : Cell} {i : ℕ}
-    (ok : CellsOk e cells (length O) (length C) (length F)) (k : Laying seed e cells O O' C C' F F' r c i) (h : i < cells) where
+module _ {seed : ℕ} {e : Extents} {cells : ℕ} {O O' C C' : List ℕ} {F F' : List Float} {r : Reached} {p : Place} {i : ℕ}
+    (ok : CellsOk e cells (length O) (length C) (length F)) (k : Laying seed e cells O O' C C' F F' r p i) (h : i < cells) where
   abbrev m : Grid
   m = grid_of e
 
@@ -129,15 +131,15 @@ module _ {seed : ℕ} {e : Extents} {cells : ℕ} {O O' C C' : List ℕ} {F F' :
       ∙ ap (λ (j : ℕ). splice 0 (tab (row_start m) j) O) (sym (add-one i))
 
   -- What the next cell's row requires.
-  pub cell_ok : CellOk seed e c r (set O' i r.end) (length C') F'
+  pub cell_ok : CellOk seed p.extents p.cell r (set O' i r.end) (length C') F'
   cell_ok =
       let n = k.number in
-      let room : row_start m (c.number + 1) ≤ row_start m cells = start_mono m (c.number + 1) cells (omega arith) in
+      let room : row_start m (p.cell.number + 1) ≤ row_start m cells = start_mono m (p.cell.number + 1) cells (omega arith) in
       let done = k.done in
-      record {
+      rw k.box (record {
         few = ok.few;
-        placed = k.placed;
-        deep = deep_is k.placed ok.all (omega arith);
+        placed = placed_in p k.box;
+        deep = deep_is (placed_in p k.box) ok.all (omega arith);
         small = omega (arith, k.few);
         end = done.end ∙ ap (row_start m) (sym n);
         state = done.state ∙ ap (λ (j : ℕ). state_of seed (draws_before m j)) (sym n);
@@ -165,21 +167,22 @@ module _ {seed : ℕ} {e : Extents} {cells : ℕ} {O O' C C' : List ℕ} {F F' :
             ∙ get_d_in (map (of_int binary64) rows) q nan (of_int binary64 (pos 0)) b
             ∙ get_or-map (of_int binary64) rows q (pos 0)
             ∙ ap (λ (j : ℕ). of_int binary64 (get_or (joined (wholes_in seed m) j) q (pos 0))) (sym n);
-      }
+      })
 
   -- One cell more.
-  pub laying_on : {C'' : List ℕ} {F'' : List Float} {s : Reached} {d : Cell} → CellDone seed e c.number r C' C'' F' F'' s
-      → Placed e d → d.number ≡ c.number + 1 → Laying seed e cells O (set O' i r.end) C C'' F F'' s d (i + 1)
+  pub laying_on : {C'' : List ℕ} {F'' : List Float} {s : Reached} {q : Place} → CellDone seed p.extents p.cell.number r C' C'' F' F'' s
+      → q.extents ≡ p.extents → q.cell.number ≡ p.cell.number + 1 → Laying seed e cells O (set O' i r.end) C C'' F F'' s q (i + 1)
   unfolding joined
-  laying_on {C''} {F''} {s} {d} x placed next =
+  laying_on {C''} {F''} {s} {q} cell box next =
       let n = k.number in
+      let x : CellDone seed e p.cell.number r C' C'' F' F'' s = rw k.box at cell in
       let done = k.done in
       let row : Pushed r.end (columns_in m i) (map (of_int binary64) (wholes_in seed m i)) C' C'' F' F'' s.end = rw n at x.row in
       let rows : Pushed 0 (joined (columns_in m) i ++ columns_in m i) (map (of_int binary64) (joined (wholes_in seed m) i) ++ map (of_int binary64) (wholes_in seed m i)) C C'' F F'' s.end =
       pushed_on done.rows row in
       let end : s.end ≡ row_start m (i + 1) = x.end ∙ ap (λ (j : ℕ). row_start m (j + 1)) n in
       record {
-        placed = placed;
+        box = box ∙ k.box;
         number = omega arith;
         within = omega arith;
         done = record {
@@ -192,7 +195,3 @@ module _ {seed : ℕ} {e : Extents} {cells : ℕ} {O O' C C' : List ℕ} {F F' :
         short = omega (arith, start_small e (i + 1));
         few = k.few;
       }
-
-pub laying_done : {seed : ℕ} {e : Extents} {cells : ℕ} {O O' C C' : List ℕ} {F F' : List Float} {r : Reached} {c : Cell} {i : ℕ}
-    → Laying seed e cells O O' C C' F F' r c i → cells ≤ i → CellsDone seed e cells O O' C C' F F' r
-laying_done {cells = cells} {i = i} k h = let same : cells ≡ i = omega (arith, k.within) in rw same k.done

@@ -1,9 +1,12 @@
 // The rows of the load, laid one after the other: the entries behind the diagonal are read from the rows that they mirror.
+//
+// The slices go from function to function as the caller of `load` lends them. A struct of those that are written would hold two borrows,
+// and each function on it would have to ensure that they are still the same ones (`ghost_name`), beside `Pushed`, which says what is in them.
 ghost use Rattle.std.specs.Prelude.{◌≡◌, ◌+◌, ◌-◌, ◌*◌, ◌<◌, ◌≤◌, true, ◌∷◌, ◌++◌, length, if◌then◌else◌};
-ghost use Rattle.load.specs.Steps.{MirrorOk, mirror_at, MirrorsOk, MirrorsAre, own_sum, one, optional, RoomFor, Pushed, columns_behind, columns_ahead, values_behind, values_ahead, RowOk, DrawsSmall, count_of, CellOk, CellDone, CellsOk, CellsDone, Few, Placed, grid_of};
+ghost use Rattle.load.specs.Steps.{MirrorOk, mirror_at, MirrorsOk, MirrorsAre, own_sum, one, optional, RoomFor, Pushed, columns_behind, columns_ahead, values_behind, values_ahead, DrawsSmall, count_of, CellOk, CellDone, CellsOk, CellsDone, Few, grid_of};
 ghost use Rattle.load.specs.Load.{row_start, columns_in};
 
-use crate::cells::{Cell, Extents, Faces, faces_of, following};
+use crate::cells::{Extents, Place, Row};
 use crate::drawing::{Draws, draw_all};
 use store::wide;
 
@@ -43,12 +46,16 @@ fn mirror(there: bool, i: usize, stride: usize, back: usize, offsets: &[u32], va
     }
 }
 
-// The mirrors of the entries of row i behind its diagonal.
-fn mirrors_of(e: Extents, i: usize, f: Faces, offsets: &[u32], values: &[f64]) -> Mirrors
-    requires row_ok { RowOk e i f }
-    requires mirrors_ok { MirrorsOk e i f offsets.now (length values.now) }
-    ensures { MirrorsAre e i f offsets.now values.now result }
+// The mirrors of the entries of a row behind its diagonal.
+fn mirrors_of(row: Row, offsets: &[u32], values: &[f64]) -> Mirrors
+    requires { MirrorsOk row.extents row.number row.faces offsets.now (length values.now) }
+    ensures { MirrorsAre row.extents row.number row.faces offsets.now values.now result }
 {
+    let Row {
+        extents: e,
+        number: i,
+        faces: f,
+    } = row;
     let down = count(f.down);
     let deeper = count(f.deeper);
     let left = mirror(f.left, i, 1, 1 + down + deeper, offsets, values);
@@ -93,32 +100,26 @@ fn push(
 }
 
 // How many entries the row of a cell has.
-fn width_of(e: Extents, c: Cell) -> usize
-    requires few { Few e }
-    requires placed { Placed e c }
-    requires z_lt_depth { c.z < e.depth }
-    ensures value { result ≡ length (columns_in (grid_of e) c.number) }
+fn width_of(place: Place) -> usize
+    requires z_lt_depth { place.cell.z < place.extents.depth }
+    ensures value { result ≡ length (columns_in (grid_of place.extents) place.cell.number) }
     ensures upper_bound { result ≤ 7 }
 {
-    let f = faces_of(e, c);
+    let f = place.faces();
     let behind = count(f.shallower) + count(f.up) + count(f.left);
     behind + 1 + count(f.right) + count(f.down) + count(f.deeper)
 }
 
 // The entries behind the diagonal, from p on.
-fn push_behind(
-    e: Extents,
-    i: usize,
-    f: Faces,
-    m: Mirrors,
-    p: usize,
-    columns: &mut [u32],
-    values: &mut [f64],
-) -> usize
-    requires row_ok { RowOk e i f }
-    requires room_for { RoomFor (one f.shallower + one f.up + one f.left) p (length columns.old) (length values.old) }
-    ensures { Pushed p (columns_behind e i f) (values_behind f m) columns.old columns.new values.old values.new result }
+fn push_behind(row: Row, m: Mirrors, p: usize, columns: &mut [u32], values: &mut [f64]) -> usize
+    requires { RoomFor (one row.faces.shallower + one row.faces.up + one row.faces.left) p (length columns.old) (length values.old) }
+    ensures { Pushed p (columns_behind row.extents row.number row.faces) (values_behind row.faces m) columns.old columns.new values.old values.new result }
 {
+    let Row {
+        extents: e,
+        number: i,
+        faces: f,
+    } = row;
     let shallower = behind(f.shallower, i, e.width * e.height);
     let up = behind(f.up, i, e.width);
     let left = behind(f.left, i, 1);
@@ -128,19 +129,15 @@ fn push_behind(
 }
 
 // The entries ahead of the diagonal, from p on.
-fn push_ahead(
-    e: Extents,
-    i: usize,
-    f: Faces,
-    d: Draws,
-    p: usize,
-    columns: &mut [u32],
-    values: &mut [f64],
-) -> usize
-    requires row_ok { RowOk e i f }
-    requires room_for { RoomFor (one f.right + one f.down + one f.deeper) p (length columns.old) (length values.old) }
-    ensures { Pushed p (columns_ahead e i f) (values_ahead f d) columns.old columns.new values.old values.new result }
+fn push_ahead(row: Row, d: Draws, p: usize, columns: &mut [u32], values: &mut [f64]) -> usize
+    requires { RoomFor (one row.faces.right + one row.faces.down + one row.faces.deeper) p (length columns.old) (length values.old) }
+    ensures { Pushed p (columns_ahead row.extents row.number row.faces) (values_ahead row.faces d) columns.old columns.new values.old values.new result }
 {
+    let Row {
+        extents: e,
+        number: i,
+        faces: f,
+    } = row;
     let q = push(f.right, p, i + 1, -(d.right as f64), columns, values);
     let r = push(f.down, q, i + e.width, -(d.down as f64), columns, values);
     push(
@@ -153,26 +150,24 @@ fn push_ahead(
     )
 }
 
-// The row of cell i, from p on.
+// A row, from p on.
 fn push_row(
-    e: Extents,
-    i: usize,
-    f: Faces,
+    row: Row,
     m: Mirrors,
     d: Draws,
     p: usize,
     columns: &mut [u32],
     values: &mut [f64],
 ) -> usize
-    requires row_ok { RowOk e i f }
     requires draws_small { DrawsSmall d }
-    requires room_for { RoomFor (count_of f) p (length columns.old) (length values.old) }
-    ensures { Pushed p (columns_behind e i f ++ (i ∷ columns_ahead e i f)) (values_behind f m ++ (own_sum m d ∷ values_ahead f d)) columns.old columns.new values.old values.new result }
+    requires room_for { RoomFor (count_of row.faces) p (length columns.old) (length values.old) }
+    ensures { Pushed p (columns_behind row.extents row.number row.faces ++ (row.number ∷ columns_ahead row.extents row.number row.faces))
+        (values_behind row.faces m ++ (own_sum m d ∷ values_ahead row.faces d)) columns.old columns.new values.old values.new result }
 {
     let diagonal = own(m, d);
-    let q = push_behind(e, i, f, m, p, columns, values);
-    let r = push(true, q, i, diagonal, columns, values);
-    push_ahead(e, i, f, d, r, columns, values)
+    let q = push_behind(row, m, p, columns, values);
+    let r = push(true, q, row.number, diagonal, columns, values);
+    push_ahead(row, d, r, columns, values)
 }
 
 // How far the rows are laid: where they end, and the state after their draws.
@@ -182,23 +177,27 @@ pub struct Reached {
     pub state: u64,
 }
 
-// The row of cell c.
+// The row of a cell.
 fn lay_cell(
-    e: Extents,
-    c: Cell,
+    place: Place,
     seed: u64,
     before: Reached,
     offsets: &[u32],
     columns: &mut [u32],
     values: &mut [f64],
 ) -> Reached
-    requires { CellOk seed e c before offsets.now (length columns.old) values.old }
-    ensures { CellDone seed e c.number before columns.old columns.new values.old values.new result }
+    requires { CellOk seed place.extents place.cell before offsets.now (length columns.old) values.old }
+    ensures { CellDone seed place.extents place.cell.number before columns.old columns.new values.old values.new result }
 {
-    let f = faces_of(e, c);
-    let d = draw_all(f, seed, before.state);
-    let m = mirrors_of(e, c.number, f, offsets, values);
-    let end = push_row(e, c.number, f, m, d, before.end, columns, values);
+    let faces = place.faces();
+    let d = draw_all(faces, seed, before.state);
+    let row = Row {
+        extents: place.extents,
+        number: place.cell.number,
+        faces,
+    };
+    let m = mirrors_of(row, offsets, values);
+    let end = push_row(row, m, d, before.end, columns, values);
     Reached {
         end,
         state: d.state,
@@ -221,16 +220,11 @@ pub fn lay_cells(
         end: 0,
         state: seed,
     };
-    let mut c = Cell {
-        number: 0,
-        x: 0,
-        y: 0,
-        z: 0,
-    };
+    let mut place = Place::first(e);
     for i in 0..cells {
         offsets[i] = reached.end as u32;
-        reached = lay_cell(e, c, seed, reached, offsets, columns, values);
-        c = following(e, c);
+        reached = lay_cell(place, seed, reached, offsets, columns, values);
+        place = place.following();
     }
     reached
 }
@@ -242,15 +236,10 @@ pub fn entries_of(e: Extents, cells: usize) -> usize
     ensures { result ≡ row_start (grid_of e) cells }
 {
     let mut entries = 0;
-    let mut c = Cell {
-        number: 0,
-        x: 0,
-        y: 0,
-        z: 0,
-    };
+    let mut place = Place::first(e);
     for i in 0..cells {
-        entries += width_of(e, c);
-        c = following(e, c);
+        entries += width_of(place);
+        place = place.following();
     }
     entries
 }

@@ -1,4 +1,5 @@
-// The call: questions first, then the load is written.
+// The call: questions first, then the load is written. The three slices come apart, as C lends them to `multigrid_load`, and `Loading` says
+// of each what is in it before and after.
 ghost use Rattle.std.specs.Prelude.{◌≡◌, ◌*◌, [], ◌∷◌, length};
 ghost use Rattle.load.specs.Load.{row_start, load_of};
 ghost use Rattle.load.specs.Call.{room_of, Loading};
@@ -25,7 +26,8 @@ fn product(a: usize, b: usize) -> usize
     if 65536 / a < b { 0 } else { a * b }
 }
 
-// The number of cells; 0 where an extent is zero or there are more than 65,536 cells.
+// The number of cells; 0 where an extent is zero or there are more than 65,536 cells. Neither box has a load, so that `ask` need not tell
+// them apart, and no `Option` stands beside the product that is zero.
 fn cells_of(e: Extents) -> usize
     ensures { result ≡ capped (e.width * e.height * e.depth) }
 {

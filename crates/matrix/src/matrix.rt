@@ -9,6 +9,8 @@ ghost use Rattle.matrix.specs.Turns.{product_turn};
 use crate::spread::{Plus, spread_rows};
 
 // Where a matrix lies: offsets and neighbors in the words, the others in the floats. Each coefficient is stored once.
+// That its faces and a vector of `rows` floats lie in the stores (`KernelOk`, `VectorsOk`, `out + s.rows ≤ length f.old`) is a fact of the lent words and
+// of the floats' length as well: an invariant of this struct could say it only if the struct borrowed both stores, so each function's clauses do.
 #[derive(Clone, Copy)]
 pub struct SymmetricMatrix {
     pub rows: usize,

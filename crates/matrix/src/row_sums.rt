@@ -1,4 +1,5 @@
-// `row_sums_into` of matrix.rs: the row sums of the face-addressed matrix of a level.
+// `row_sums_into` of matrix.rs: the row sums of the face-addressed matrix of a level. `KernelOk`, `sums + s.rows ≤ length f.old` and `row < s.rows` stand in
+// each contract: they tie the words, the floats' length and a loop's row to s, and no one value has all of these.
 ghost use Rattle.std.specs.Prelude.{◌+◌, ◌<◌, ◌≤◌, length};
 ghost use Rattle.store.specs.Region.{Wrote};
 ghost use Rattle.matrix.specs.Contract.{KernelOk};

@@ -1,5 +1,6 @@
 // matrix.rs: a vector spread over the faces of a matrix. The product adds what a face gives, the residual takes it away: one set of
-// functions over the operation, of which the compiler makes a copy for each.
+// functions over the operation, of which the compiler makes a copy for each. `VectorsOk` and `row < s.rows` stand in each contract: they tie the words, the
+// floats' length and a loop's row to s, and no one value has all of these.
 ghost use Rattle.std.specs.Prelude.{◌≡◌, ◌+◌, ◌<◌, ◌≤◌, length, Float};
 ghost use Rattle.float.specs.Float.{add64, sub64};
 ghost use Rattle.store.specs.Region.{at};

@@ -1,4 +1,6 @@
 // One entry of a file, with its places also where its value is outside the form.
+// The rows are a number below 10^19, which is what a longer digit string is read as, and no type of their own: `entry_in` and `place_in` are
+// called with the number that a file states, so that each call would make the type.
 ghost use Rattle.std.specs.Prelude.{◌≡◌, ◌<◌, ◌^◌};
 ghost use Rattle.matrix_market.specs.Placed.{placed_of, placed_in};
 
@@ -13,7 +15,7 @@ pub enum PlacedError {
     BadValue(u64, u64),
 }
 
-// An entry from its three fields: its row and its column, from 0, and its value.
+// An entry from its three fields, which stand apart in the line: its row and its column, from 0, and its value.
 fn entry_of(
     symmetric: bool,
     rows: u64,

@@ -3,7 +3,7 @@ ghost use Rattle.std.specs.Prelude.{◌≡◌, length};
 ghost use Rattle.store.specs.Vector.{filled};
 ghost use Rattle.matrix_reader.specs.File.{slices_of, file_of};
 ghost use Rattle.matrix_writer.specs.Writing.{write_file};
-ghost use Rattle.matrix_market_c.specs.Files.{read_struct, ReadExported, yes_of, written_struct, WriteExported};
+ghost use Rattle.matrix_market_c.specs.Files.{converted_struct, ReadExported, yes_of, WriteExported};
 
 use export::AnswerForC;
 use matrix_reader::file::read_matrix_file;
@@ -18,49 +18,17 @@ pub struct ConvertedForC {
     pub length: u64,
 }
 
-// The answer of a reading as a struct.
-fn tell_read(read: Result<usize, Refusal>) -> ConvertedForC
-    ensures { result ≡ read_struct read }
+// The answer of a conversion as a struct.
+fn tell(converted: Result<usize, Refusal>) -> ConvertedForC
+    ensures { result ≡ converted_struct converted }
 {
-    match read {
+    match converted {
         Ok(length) => ConvertedForC {
-            answer: AnswerForC {
-                question: 0,
-                level: 0,
-                row: 0,
-            },
+            answer: AnswerForC::DONE,
             length: length as u64,
         },
         Err(refusal) => ConvertedForC {
-            answer: AnswerForC {
-                question: refusal.number,
-                level: refusal.level,
-                row: refusal.row,
-            },
-            length: 0,
-        },
-    }
-}
-
-// The answer of a writing as a struct.
-fn tell_written(written: Result<usize, Refusal>) -> ConvertedForC
-    ensures { result ≡ written_struct written }
-{
-    match written {
-        Ok(length) => ConvertedForC {
-            answer: AnswerForC {
-                question: 0,
-                level: 0,
-                row: 0,
-            },
-            length: length as u64,
-        },
-        Err(refusal) => ConvertedForC {
-            answer: AnswerForC {
-                question: refusal.number,
-                level: refusal.level,
-                row: refusal.row,
-            },
+            answer: AnswerForC::from(refusal),
             length: 0,
         },
     }
@@ -81,7 +49,7 @@ pub extern "C" fn multigrid_read_matrix_file(
     ensures { ReadExported (file_of text.now (slices_of rows.old columns.old values.old starts.old order.old links.old out.old)) (filled (length out.old) 0) out.new result }
 {
     let read = read_matrix_file(text, rows, columns, values, starts, order, links, out);
-    tell_read(read)
+    tell(read)
 }
 
 // `write_matrix_file`: the text of an MX record, symmetric unless the number is 0, with zeros behind it; all zeros where it is refused.
@@ -94,5 +62,5 @@ pub extern "C" fn multigrid_write_matrix_file(
     ensures { WriteExported (write_file (yes_of symmetric) (length out.old) mx.now) out.old out.new result }
 {
     let written = write_matrix_file(symmetric != 0, mx, out);
-    tell_written(written)
+    tell(written)
 }

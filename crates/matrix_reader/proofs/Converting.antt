@@ -22,7 +22,7 @@ use Rattle.coordinate.specs.Contract.{SortOk, Sorted}
 use Rattle.coordinate.proofs.Laws.{sorted_columns, sorted_values}
 use Rattle.record_format.specs.Format.{Matrix}
 use Rattle.matrix_reader.specs.declared.head.Head.{Head}
-use Rattle.matrix_reader.specs.declared.entries.LinesRead.{LinesRead}
+use Rattle.matrix_reader.specs.declared.entries.LinesError.{LinesError}
 use Rattle.matrix_reader.specs.File.{kind_of, sizes_in, entries_from, lines_after, placed_matrix, matrix_from, Slices, slices_of, most_of, has_room, after_sizes, after_kind, file_of, ConvertedIs}
 use Rattle.matrix_reader.specs.Contract.{stated_by, HeadIs}
 use Rattle.matrix_reader.specs.Steps.{entries_to}
@@ -178,8 +178,8 @@ module _ {t : List ℕ} {r : Result Head Refusal} (i : HeadIs t r) (R₀ C₀ : 
         pub gather_ok : GatherOk t h R₀ C₀ F₀
         gather_ok = record { limits = head_limits; next = (i.yes h e).within; rows = room.rows; columns = room.columns; values = room.values }
 
-        module _ {R C : List ℕ} {F : List Float} {k : LinesRead} (f : GatherIs t h R C F k) (u : length R ≡ length R₀) (v : length C ≡ length C₀) (w : length F ≡ length F₀) where
-          pub convert_malformed : k ≡ LinesRead.Malformed → ConvertedIs (file_of t l) B B (Err bad_matrix_file)
+        module _ {R C : List ℕ} {F : List Float} {k : Result ℕ LinesError} (f : GatherIs t h R C F k) (u : length R ≡ length R₀) (v : length C ≡ length C₀) (w : length F ≡ length F₀) where
+          pub convert_malformed : k ≡ Err LinesError.Malformed → ConvertedIs (file_of t l) B B (Err bad_matrix_file)
           convert_malformed j = refused_is B (past_room ∙ then_refused (entries_of_text t h) (λ es. following (expanded h.symmetric es)) (f.malformed j))
 
           sort_room : (m : ℕ) → EntriesPlaced h.rows (most_of h.symmetric h.entries) m R C → SortRoom h.rows m R C S O N
@@ -196,7 +196,7 @@ module _ {t : List ℕ} {r : Result Head Refusal} (i : HeadIs t r) (R₀ C₀ : 
           }
 
           -- a bad value
-          module _ (m : ℕ) (j : k ≡ LinesRead.BadValue m) where
+          module _ (m : ℕ) (j : k ≡ Err (LinesError.BadValue m)) where
             pub bad_few : m + 1 ≤ 2097152
             bad_few = omega (arith, (f.bad m j).placed.few, most_limit h head_limits)
 
@@ -220,7 +220,7 @@ module _ {t : List ℕ} {r : Result Head Refusal} (i : HeadIs t r) (R₀ C₀ : 
               convert_bad_repeated d = refused_is B (bad_is ∙ ask_no y bad_matrix_file (refused bad_number) d)
 
           -- entries alone
-          module _ (m : ℕ) (j : k ≡ LinesRead.Entries m) where
+          module _ (m : ℕ) (j : k ≡ Ok m) where
             pub all_room : SortRoom h.rows m R C S O N
             all_room = sort_room m (f.all m j).placed
 

@@ -15,7 +15,8 @@ use Rattle.matrix_market.specs.Lines.{data_of}
 use Rattle.coordinate.specs.Coordinate.{Entry, repeated, mirrors_of, expanded}
 use Rattle.record_format.specs.Format.{Matrix}
 use Rattle.matrix_reader.specs.declared.head.Head.{Head}
-use Rattle.matrix_reader.specs.declared.entries.LinesRead.{LinesRead}
+use Rattle.std.specs.Prelude.{Result, Ok, Err}
+use Rattle.matrix_reader.specs.declared.entries.LinesError.{LinesError}
 use Rattle.matrix_reader.specs.File.{most_of}
 use Rattle.matrix_reader.specs.Contract.{stated_by}
 use Rattle.matrix_reader.specs.Steps.{verdict_for, entries_to, LinesOk, pass_told, count_told, LinesAre, MirrorsRoom, MirrorsPut}
@@ -67,7 +68,7 @@ module _ {t : List ℕ} {h : Head} {R₀ C₀ : List ℕ} {F₀ : List Float} (o
       below true m n g = omega arith
       below false m n g = g
 
-  module _ {R C : List ℕ} {F : List Float} {r : LinesRead} (p : LinesAre t h R C F r) (x : length R ≡ length R₀) (y : length C ≡ length C₀) (z : length F ≡ length F₀) where
+  module _ {R C : List ℕ} {F : List Float} {r : Result ℕ LinesError} (p : LinesAre t h R C F r) (x : length R ≡ length R₀) (y : length C ≡ length C₀) (z : length F ≡ length F₀) where
     read_is : entries_of_text t h ≡ verdict_for (stated_by h) (pass_told r R C F)
     read_is = pass_is h.symmetric (stated_by h) [] (data_of (drop h.next t)) repeated_none ∙ ap (verdict_for (stated_by h)) (sym p.is)
 
@@ -81,21 +82,21 @@ module _ {t : List ℕ} {h : Head} {R₀ C₀ : List ℕ} {F₀ : List Float} (o
         go true = omega arith
         go false = g
 
-    pub gather_malformed : r ≡ LinesRead.Malformed → GatherIs t h R C F LinesRead.Malformed
+    gather_malformed : r ≡ Err LinesError.Malformed → GatherIs t h R C F (Err LinesError.Malformed)
     gather_malformed e = record {
-      malformed = λ g. read_is ∙ ap (λ (v : LinesRead). verdict_for (stated_by h) (pass_told v R C F)) e;
+      malformed = λ g. read_is ∙ ap (λ (v : Result ℕ LinesError). verdict_for (stated_by h) (pass_told v R C F)) e;
       bad = λ m g. absurd (let w : ◌≡◌ {A = ℕ} 0 1 = cc in omega arith);
       all = λ m g. absurd (let w : ◌≡◌ {A = ℕ} 0 1 = cc in omega arith);
     }
 
-    pub gather_bad : (m : ℕ) → r ≡ LinesRead.BadValue m → GatherIs t h R C F (LinesRead.BadValue m)
+    gather_bad : (m : ℕ) → r ≡ Err (LinesError.BadValue m) → GatherIs t h R C F (Err (LinesError.BadValue m))
     gather_bad m e =
-        let few : m + 1 ≤ h.entries = subst (λ (v : LinesRead). count_told v ≤ h.entries) e p.few in
-        let w : Within h.symmetric h.rows (entries_to (m + 1) R C F) = subst (λ (v : LinesRead). PassWithin h.symmetric h.rows (pass_told v R C F)) e pass_placed in
+        let few : m + 1 ≤ h.entries = subst (λ (v : Result ℕ LinesError). count_told v ≤ h.entries) e p.few in
+        let w : Within h.symmetric h.rows (entries_to (m + 1) R C F) = subst (λ (v : Result ℕ LinesError). PassWithin h.symmetric h.rows (pass_told v R C F)) e pass_placed in
         let l = lines_ok in
         let found : BadGathered t h R C F m = record {
           placed = placed_from_lem (most_of h.symmetric h.entries) (m + 1) R C F (most_least (m + 1) few) (omega (arith, l.rows)) (omega (arith, l.columns)) (omega (arith, l.values)) w;
-          is = read_is ∙ ap (λ (v : LinesRead). verdict_for (stated_by h) (pass_told v R C F)) e;
+          is = read_is ∙ ap (λ (v : Result ℕ LinesError). verdict_for (stated_by h) (pass_told v R C F)) e;
         } in
         record {
           malformed = λ g. absurd (let w : ◌≡◌ {A = ℕ} 0 1 = cc in omega arith);
@@ -103,21 +104,26 @@ module _ {t : List ℕ} {h : Head} {R₀ C₀ : List ℕ} {F₀ : List Float} (o
           all = λ k g. absurd (let w : ◌≡◌ {A = ℕ} 0 1 = cc in omega arith);
         }
 
-    module _ (m : ℕ) (e : r ≡ LinesRead.Entries m) where
+    -- what is wrong with the lines is handed on
+    pub gather_stopped : (q : LinesError) → r ≡ Err q → GatherIs t h R C F (Err q)
+    gather_stopped LinesError.Malformed e = gather_malformed e
+    gather_stopped (LinesError.BadValue m) e = gather_bad m e
+
+    module _ (m : ℕ) (e : r ≡ Ok m) where
       count_few : m ≤ h.entries
-      count_few = subst (λ (v : LinesRead). count_told v ≤ h.entries) e p.few
+      count_few = subst (λ (v : Result ℕ LinesError). count_told v ≤ h.entries) e p.few
 
       counted : length (entries_to m R C F) ≡ m
       counted = let l = lines_ok in entries_length m R C F (omega (arith, l.rows, count_few)) (omega (arith, l.columns, count_few)) (omega (arith, l.values, count_few))
 
       ended_is : entries_of_text t h ≡ ask (not (repeated (entries_to m R C F))) bad_matrix_file (ask (eqb (length (entries_to m R C F)) h.entries) bad_matrix_file (accepted (entries_to m R C F)))
-      ended_is = read_is ∙ ap (λ (v : LinesRead). verdict_for (stated_by h) (pass_told v R C F)) e
+      ended_is = read_is ∙ ap (λ (v : Result ℕ LinesError). verdict_for (stated_by h) (pass_told v R C F)) e
 
       within_is : Within h.symmetric h.rows (entries_to m R C F)
-      within_is = subst (λ (v : LinesRead). PassWithin h.symmetric h.rows (pass_told v R C F)) e pass_placed
+      within_is = subst (λ (v : Result ℕ LinesError). PassWithin h.symmetric h.rows (pass_told v R C F)) e pass_placed
 
       -- entries are missing
-      pub gather_missing : (m ≡ h.entries → ⊥) → GatherIs t h R C F LinesRead.Malformed
+      pub gather_missing : (m ≡ h.entries → ⊥) → GatherIs t h R C F (Err LinesError.Malformed)
       gather_missing n = record {
         malformed = λ g.
             ended_is
@@ -139,14 +145,14 @@ module _ {t : List ℕ} {h : Head} {R₀ C₀ : List ℕ} {F₀ : List Float} (o
             (eq-eqb (length (entries_to m R C F)) h.entries (counted ∙ n)))
             ∙ ask_then (not (repeated (entries_to m R C F))) (entries_to m R C F) (λ es. rest (expanded h.symmetric es))
 
-        told_all : {R' C' : List ℕ} {F' : List Float} {k : ℕ} → AllGathered t h R' C' F' k → GatherIs t h R' C' F' (LinesRead.Entries k)
+        told_all : {R' C' : List ℕ} {F' : List Float} {k : ℕ} → AllGathered t h R' C' F' k → GatherIs t h R' C' F' (Ok k)
         told_all {R'} {C'} {F'} {k} found = record {
           malformed = λ g. absurd (let w : ◌≡◌ {A = ℕ} 0 1 = cc in omega arith);
           bad = λ j g. absurd (let w : ◌≡◌ {A = ℕ} 0 1 = cc in omega arith);
           all = λ j g. let i : k ≡ j = cc in subst (AllGathered t h R' C' F') i found;
         }
 
-        pub gather_general : h.symmetric ≡ false → GatherIs t h R C F (LinesRead.Entries m)
+        pub gather_general : h.symmetric ≡ false → GatherIs t h R C F (Ok m)
         gather_general s =
             let l = lines_ok in
             told_all (record {
@@ -167,7 +173,7 @@ module _ {t : List ℕ} {h : Head} {R₀ C₀ : List ℕ} {F₀ : List Float} (o
           }
 
           pub gather_mirrors : {R' C' : List ℕ} {F' : List Float} {k : ℕ} → MirrorsPut m R C F R' C' F' k → length R' ≡ length R₀ → length C' ≡ length C₀ → length F' ≡ length F₀
-              → GatherIs t h R' C' F' (LinesRead.Entries k)
+              → GatherIs t h R' C' F' (Ok k)
           gather_mirrors {R'} {C'} {F'} {k} q a b c =
               let few : k ≤ most_of h.symmetric h.entries = omega (arith, most_twice, q.high, count_few) in
               let w : Within false h.rows (entries_to k R' C' F') = subst (Within false h.rows) (sym q.is) (within_expanded within_is) in

@@ -10,8 +10,8 @@ use Rattle.matrix_market.specs.Placed.{placed_in}
 use Rattle.coordinate.specs.Coordinate.{Entry, repeated, mirrors_of, listed}
 use Rattle.coordinate.specs.Contract.{entry_number}
 use Rattle.matrix_reader.specs.declared.head.Head.{Head}
-use Rattle.matrix_reader.specs.declared.entries.LineRead.{LineRead}
-use Rattle.matrix_reader.specs.declared.entries.LinesRead.{LinesRead}
+use Rattle.matrix_market.specs.declared.entries.EntryError.{EntryError}
+use Rattle.matrix_reader.specs.declared.entries.LinesError.{LinesError}
 use Rattle.matrix_reader.specs.File.{Stated}
 use Rattle.matrix_reader.specs.Contract.{stated_by}
 
@@ -69,10 +69,10 @@ pub record LineOk (n m : ℕ) (R C : List ℕ) (F : List Float) : Type 0 where
   pub place : PlaceFor m R C F
 
 -- what a line has
-abbrev pub line_answer : Result (ℕ × ℕ × Float) PlacedError → LineRead
-line_answer (Err PlacedError.Malformed) = LineRead.Malformed
-line_answer (Err (PlacedError.BadValue r c)) = LineRead.BadValue
-line_answer (Ok (r, c, v)) = LineRead.Entry
+abbrev pub line_answer : Result (ℕ × ℕ × Float) PlacedError → Result Unit EntryError
+line_answer (Err PlacedError.Malformed) = Err EntryError.Malformed
+line_answer (Err (PlacedError.BadValue r c)) = Err EntryError.BadValue
+line_answer (Ok (r, c, v)) = Ok tt
 
 -- the entry that is stored of a line, if there is one
 abbrev pub stored_of : Result (ℕ × ℕ × Float) PlacedError → Entry
@@ -81,10 +81,10 @@ stored_of (Err (PlacedError.BadValue r c)) = record { row = r; column = c; value
 stored_of (Ok (r, c, v)) = record { row = r; column = c; value = v }
 
 -- The line that says p was read, and what it has was stored at m.
-pub record LineStored (p : Result (ℕ × ℕ × Float) PlacedError) (m : ℕ) (R C : List ℕ) (F : List Float) (R' C' : List ℕ) (F' : List Float) (r : LineRead) : Type 0 where
+pub record LineStored (p : Result (ℕ × ℕ × Float) PlacedError) (m : ℕ) (R C : List ℕ) (F : List Float) (R' C' : List ℕ) (F' : List Float) (r : Result Unit EntryError) : Type 0 where
   pub answer : r ≡ line_answer p
-  pub entry : r ≡ LineRead.Entry → EntryPut m (stored_of p) R C F R' C' F'
-  pub bad : r ≡ LineRead.BadValue → EntryPut m (stored_of p) R C F R' C' F'
+  pub entry : r ≡ Ok tt → EntryPut m (stored_of p) R C F R' C' F'
+  pub bad : r ≡ Err EntryError.BadValue → EntryPut m (stored_of p) R C F R' C' F'
 
 -- The lines of a text whose head is h can be read: there is a place for as many entries as it states.
 pub record LinesOk (t : List ℕ) (h : Head) (R C : List ℕ) (F : List Float) : Type 0 where
@@ -96,19 +96,19 @@ pub record LinesOk (t : List ℕ) (h : Head) (R C : List ℕ) (F : List Float) :
   pub values : h.entries ≤ length F
 
 -- what an answer says of the slices
-abbrev pub pass_told : LinesRead → List ℕ → List ℕ → List Float → Pass
-pass_told (LinesRead.Entries m) R C F = ended (entries_to m R C F)
-pass_told LinesRead.Malformed R C F = malformed
-pass_told (LinesRead.BadValue m) R C F = bad_value (entries_to (m + 1) R C F)
+abbrev pub pass_told : Result ℕ LinesError → List ℕ → List ℕ → List Float → Pass
+pass_told (Ok m) R C F = ended (entries_to m R C F)
+pass_told (Err LinesError.Malformed) R C F = malformed
+pass_told (Err (LinesError.BadValue m)) R C F = bad_value (entries_to (m + 1) R C F)
 
 -- how many entries an answer says that the slices have
-abbrev pub count_told : LinesRead → ℕ
-count_told (LinesRead.Entries m) = m
-count_told LinesRead.Malformed = 0
-count_told (LinesRead.BadValue m) = m + 1
+abbrev pub count_told : Result ℕ LinesError → ℕ
+count_told (Ok m) = m
+count_told (Err LinesError.Malformed) = 0
+count_told (Err (LinesError.BadValue m)) = m + 1
 
 -- The lines were read, and what they have stands in the slices.
-pub record LinesAre (t : List ℕ) (h : Head) (R C : List ℕ) (F : List Float) (r : LinesRead) : Type 0 where
+pub record LinesAre (t : List ℕ) (h : Head) (R C : List ℕ) (F : List Float) (r : Result ℕ LinesError) : Type 0 where
   pub is : pass_told r R C F ≡ pass_from h.symmetric (stated_by h) [] (data_of (drop h.next t))
   pub few : count_told r ≤ h.entries
 

@@ -1,5 +1,5 @@
 -- What the steps of a whole file ask and ensure. Definitions only.
-use Rattle.std.specs.Prelude.{◌≡◌, not, List, [], ℕ, ◌+◌, ◌≤◌, ◌<◌, length, drop, Float}
+use Rattle.std.specs.Prelude.{◌≡◌, not, List, [], ℕ, ◌+◌, ◌≤◌, ◌<◌, length, drop, Float, Result, Ok, Err}
 use Rattle.refusal.specs.Outcome.{Outcome, refused, ask, ◌>>=◌}
 use Rattle.refusal.specs.Refusal.{bad_matrix_file, bad_number}
 use Rattle.store.specs.Region.{idx}
@@ -7,7 +7,7 @@ use Rattle.matrix_market.specs.Lines.{data_of}
 use Rattle.coordinate.specs.Coordinate.{Entry, repeated, expanded}
 use Rattle.record_format.specs.Format.{Matrix}
 use Rattle.matrix_reader.specs.declared.head.Head.{Head}
-use Rattle.matrix_reader.specs.declared.entries.LinesRead.{LinesRead}
+use Rattle.matrix_reader.specs.declared.entries.LinesError.{LinesError}
 use Rattle.matrix_reader.specs.File.{entries_from, most_of}
 use Rattle.matrix_reader.specs.Contract.{stated_by}
 use Rattle.matrix_reader.specs.Steps.{entries_to}
@@ -47,10 +47,10 @@ pub record AllGathered (t : List ℕ) (h : Head) (R C : List ℕ) (F : List Floa
       → ◌>>=◌ (entries_of_text t h) (λ es. rest (expanded h.symmetric es)) ≡ ask (not (repeated (entries_to m R C F))) bad_matrix_file (rest (entries_to m R C F))
 
 -- The lines of a text were read, and what they have stands in the slices, mirrors included.
-pub record GatherIs (t : List ℕ) (h : Head) (R C : List ℕ) (F : List Float) (r : LinesRead) : Type 0 where
-  pub malformed : r ≡ LinesRead.Malformed → entries_of_text t h ≡ refused bad_matrix_file
-  pub bad : (m : ℕ) → r ≡ LinesRead.BadValue m → BadGathered t h R C F m
-  pub all : (m : ℕ) → r ≡ LinesRead.Entries m → AllGathered t h R C F m
+pub record GatherIs (t : List ℕ) (h : Head) (R C : List ℕ) (F : List Float) (r : Result ℕ LinesError) : Type 0 where
+  pub malformed : r ≡ Err LinesError.Malformed → entries_of_text t h ≡ refused bad_matrix_file
+  pub bad : (m : ℕ) → r ≡ Err (LinesError.BadValue m) → BadGathered t h R C F m
+  pub all : (m : ℕ) → r ≡ Ok m → AllGathered t h R C F m
 
 -- Entries whose places are below n, and room for their order.
 pub record SortRoom (n total : ℕ) (R C S O N : List ℕ) : Type 0 where

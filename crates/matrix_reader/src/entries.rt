@@ -1,24 +1,18 @@
 // The entries of a file, one line after the other, and their mirrors.
+// Rows, columns and values stand in three slices, as C lends them; a struct of the three would be taken apart again by `file::convert`, which
+// gives the sort rows and columns, and the record columns and values.
 ghost use Rattle.std.specs.Prelude.{◌≡◌};
 ghost use Rattle.matrix_market.specs.Placed.{placed_in};
 ghost use Rattle.matrix_reader.specs.Steps.{PlaceFor, EntryPut, LineOk, LineStored, LinesOk, LinesAre, MirrorRoom, MirrorPut, MirrorsRoom, MirrorsPut};
 
 use crate::head::Head;
+use matrix_market::entries::EntryError;
 use matrix_market::lines::next_line;
 use matrix_market::placed::{PlacedError, entry_in};
 
-// What a line has: an entry; or it is malformed; or it has places and a bad value.
-#[derive(Clone, Copy)]
-pub enum LineRead {
-    Entry,
-    Malformed,
-    BadValue,
-}
-
-// What the lines of a file have: so many entries; or, behind some, a line that is malformed or surplus; or, behind so many, one with a bad value.
-#[derive(Clone, Copy)]
-pub enum LinesRead {
-    Entries(usize),
+// What is wrong with the lines of a file: behind some entries a line is malformed or surplus; or, behind so many, one has a bad value.
+#[derive(Clone, Copy, Debug, PartialEq, Eq)]
+pub enum LinesError {
     Malformed,
     BadValue(usize),
 }
@@ -50,32 +44,31 @@ fn read_line(
     rows: &mut [u32],
     columns: &mut [u32],
     values: &mut [f64],
-) -> LineRead
+) -> Result<(), EntryError>
     requires { LineOk n m rows.old columns.old values.old }
     ensures { LineStored (placed_in symmetric n line.now) m rows.old columns.old values.old rows.new columns.new values.new result }
 {
-    let p = entry_in(symmetric, n, line);
-    match p {
-        Err(PlacedError::Malformed) => LineRead::Malformed,
+    match entry_in(symmetric, n, line) {
+        Err(PlacedError::Malformed) => Err(EntryError::Malformed),
         Err(PlacedError::BadValue(row, column)) => {
             put_entry(rows, columns, values, m, row as u32, column as u32, 0.0);
-            LineRead::BadValue
+            Err(EntryError::BadValue)
         }
         Ok((row, column, value)) => {
             put_entry(rows, columns, values, m, row as u32, column as u32, value);
-            LineRead::Entry
+            Ok(())
         }
     }
 }
 
-// The entries of the lines behind the size line, until the last line or the first that is no entry.
+// The entries of the lines behind the size line, until the last line or the first that is no entry; answers how many there are.
 pub fn read_lines(
     text: &[u8],
     h: Head,
     rows: &mut [u32],
     columns: &mut [u32],
     values: &mut [f64],
-) -> LinesRead
+) -> Result<usize, LinesError>
     requires { LinesOk text.now h rows.old columns.old values.old }
     ensures { LinesAre text.now h rows.new columns.new values.new result }
 {
@@ -87,7 +80,7 @@ pub fn read_lines(
     // A while: where the next line starts is known once this one has been read.
     while let Some(line) = next_line(text, at) {
         if m >= stated {
-            return LinesRead::Malformed;
+            return Err(LinesError::Malformed);
         }
         let s = read_line(
             &text[line.from..line.to],
@@ -99,15 +92,15 @@ pub fn read_lines(
             values,
         );
         match s {
-            LineRead::Malformed => return LinesRead::Malformed,
-            LineRead::BadValue => return LinesRead::BadValue(m),
-            LineRead::Entry => {
+            Err(EntryError::Malformed) => return Err(LinesError::Malformed),
+            Err(EntryError::BadValue) => return Err(LinesError::BadValue(m)),
+            Ok(()) => {
                 m += 1;
                 at = line.next;
             }
         }
     }
-    LinesRead::Entries(m)
+    Ok(m)
 }
 
 // The mirror of entry k, stored behind `total` entries, if it is off the diagonal; answers how many there are then.

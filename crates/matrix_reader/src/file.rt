@@ -1,4 +1,5 @@
 // A whole text: header, sizes, entries, the sort that finds repeats, and the record.
+// There is no heap: `read_matrix_file` takes the scratch that C lends as the slices that its export has, and hands them on as they are.
 ghost use Rattle.std.specs.Prelude.{◌≡◌, ◌≤◌, length, take};
 ghost use Rattle.store.specs.Vector.{filled};
 ghost use Rattle.coordinate.specs.Contract.{Sorted};
@@ -6,7 +7,7 @@ ghost use Rattle.matrix_reader.specs.File.{most_of, has_room, slices_of, file_of
 ghost use Rattle.matrix_reader.specs.Contract.{stated_by};
 ghost use Rattle.matrix_reader.specs.Whole.{HeadLimits, GatherOk, GatherIs, SortRoom};
 
-use crate::entries::{LinesRead, put_mirrors, read_lines};
+use crate::entries::{LinesError, put_mirrors, read_lines};
 use crate::head::{Head, head_of};
 use crate::record::{finish, zero_bytes};
 use coordinate::sort_places;
@@ -47,26 +48,18 @@ fn gather(
     rows: &mut [u32],
     columns: &mut [u32],
     values: &mut [f64],
-) -> LinesRead
+) -> Result<usize, LinesError>
     requires { GatherOk text.now h rows.old columns.old values.old }
     ensures { GatherIs text.now h rows.new columns.new values.new result }
 {
-    let entries = h.entries as usize;
-    let symmetric = h.symmetric;
-    let lines = read_lines(text, h, rows, columns, values);
-    match lines {
-        LinesRead::Malformed => LinesRead::Malformed,
-        LinesRead::BadValue(m) => LinesRead::BadValue(m),
-        LinesRead::Entries(m) => {
-            if m == entries {
-                if symmetric {
-                    return LinesRead::Entries(put_mirrors(m, rows, columns, values));
-                }
-                return LinesRead::Entries(m);
-            }
-            LinesRead::Malformed
-        }
+    let m = read_lines(text, h, rows, columns, values)?;
+    if m != h.entries as usize {
+        return Err(LinesError::Malformed);
     }
+    if !h.symmetric {
+        return Ok(m);
+    }
+    Ok(put_mirrors(m, rows, columns, values))
 }
 
 // Whether no place stands twice among the first `total` entries, which are then put in order.
@@ -122,14 +115,14 @@ fn convert(
     let n = h.rows as usize;
     let lines = gather(text, h, rows, columns, values);
     match lines {
-        LinesRead::Malformed => Err(refusal::BAD_MATRIX_FILE),
-        LinesRead::BadValue(m) => {
+        Err(LinesError::Malformed) => Err(refusal::BAD_MATRIX_FILE),
+        Err(LinesError::BadValue(m)) => {
             if sort_entries(n, m + 1, rows, columns, starts, order, links) {
                 return Err(refusal::BAD_NUMBER);
             }
             Err(refusal::BAD_MATRIX_FILE)
         }
-        LinesRead::Entries(m) => {
+        Ok(m) => {
             if sort_entries(n, m, rows, columns, starts, order, links) {
                 return finish(n, m, &columns[..m], &values[..m], starts, order, out);
             }

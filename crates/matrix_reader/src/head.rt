@@ -1,4 +1,6 @@
 // The header of a text, and its size line.
+// `kind_of`, `number_of`, `sizes_of` and `head_of` each read another piece of a text, and are no `TryFrom` of its bytes: their calls would
+// then say the type of what is read in place of which piece it is.
 ghost use Rattle.std.specs.Prelude.{◌≡◌, true, ◌^◌, min};
 ghost use Rattle.decimal_text.specs.Field.{is_number, number_of};
 ghost use Rattle.matrix_market.specs.Lines.{fields_of, first_line};
@@ -62,7 +64,7 @@ fn number_of(s: &[u8]) -> u64
     number_in(s).unwrap_or(0)
 }
 
-// The sizes of three fields.
+// The sizes of the three fields of a size line.
 fn three_sizes(a: &[u8], b: &[u8], c: &[u8]) -> Result<FileSizes, Refusal>
     ensures { result ≡ sizes_answer (three_sizes a.now b.now c.now) }
 {

@@ -1,4 +1,5 @@
-// The record of entries in their order, over the start of an output.
+// The record of entries in their order, over the start of an output. Columns, values, starts and order come as slices of what C lends, cut
+// to their length, from `file::convert` alone; a struct of the four would have that one place that makes it and this file that takes it apart.
 ghost use Rattle.std.specs.Prelude.{◌≡◌, map, ◌+◌, ◌*◌, length, take};
 ghost use Rattle.store.specs.Region.{at, idx, Wrote};
 ghost use Rattle.store.specs.Vector.{filled};

@@ -13,6 +13,23 @@ pub struct RowRange {
     pub last: usize,
 }
 
+// The bytes of a record with so many rows and entries, which question 1 has passed.
+#[derive(Clone, Copy)]
+pub struct Arrays<'a> {
+    pub bytes: &'a [u8],
+    pub rows: usize,
+    pub entries: usize,
+    pub ghost fits: { SizesFit rows entries },
+}
+
+// What a file is written from: arrays whose rows lie among the entries, as question 2 asks, and whether the file is symmetric (as C says it).
+#[derive(Clone, Copy)]
+pub struct Source<'a> {
+    pub arrays: Arrays<'a>,
+    pub symmetric: bool,
+    pub ghost rows_in: { RowsIn (sized_matrix arrays.bytes.now arrays.rows arrays.entries) },
+}
+
 // The u32 whose four bytes start at a place, which may be further on than in a problem file.
 fn word_at(b: &[u8], at: usize) -> u64
     requires { at ≤ 1000000000 }
@@ -33,44 +50,47 @@ pub fn size_at(b: &[u8], at: usize) -> usize
     word_at(b, at) as usize
 }
 
-// Where row k starts; behind the last row, the number of entries.
-pub fn offset_at(b: &[u8], rows: usize, entries: usize, k: usize) -> usize
-    requires sizes_fit { SizesFit rows entries }
-    requires k_le_rows { k ≤ rows }
-    ensures { WordOf (sized_matrix b.now rows entries).offsets k result }
-{
-    word_at(b, 10 + 4 * k) as usize
+impl<'a> Arrays<'a> {
+    ghost use Rattle.matrix_writer.specs.Sized.{matrix_in};
+
+    // Where row k starts; behind the last row, the number of entries.
+    pub fn offset_at(&self, k: usize) -> usize
+        requires { k ≤ self.now.rows }
+        ensures { WordOf (matrix_in self.now).offsets k result }
+    {
+        word_at(self.bytes, 10 + 4 * k) as usize
+    }
+
+    // The column of entry e.
+    pub fn column_at(&self, e: usize) -> usize
+        requires { e < self.now.entries }
+        ensures { WordOf (matrix_in self.now).columns e result }
+    {
+        word_at(self.bytes, 14 + 4 * self.rows + 4 * e) as usize
+    }
+
+    // The value of entry e.
+    pub fn value_at(&self, e: usize) -> f64
+        requires { e < self.now.entries }
+        ensures { result ≡ at (matrix_in self.now).values e }
+    {
+        let place = 14 + 4 * self.rows + 4 * self.entries + 8 * e;
+        let low = word_at(self.bytes, place);
+        let high = word_at(self.bytes, place + 4);
+        float::of_bits(low + 4294967296 * high)
+    }
 }
 
-// Where a row starts and ends. As question 2 has passed, it lies among the entries.
-pub fn range_at(b: &[u8], rows: usize, entries: usize, row: usize) -> RowRange
-    requires sizes_fit { SizesFit rows entries }
-    requires rows_in { RowsIn (sized_matrix b.now rows entries) }
-    requires row_lt_rows { row < rows }
-    ensures { RangeIs (sized_matrix b.now rows entries) row result }
-{
-    let first = offset_at(b, rows, entries, row);
-    let last = offset_at(b, rows, entries, row + 1);
-    RowRange { first, last }
-}
+impl<'a> Source<'a> {
+    ghost use Rattle.matrix_writer.specs.Sized.{matrix_in};
 
-// The column of entry e.
-pub fn column_at(b: &[u8], rows: usize, entries: usize, e: usize) -> usize
-    requires sizes_fit { SizesFit rows entries }
-    requires e_lt_entries { e < entries }
-    ensures { WordOf (sized_matrix b.now rows entries).columns e result }
-{
-    word_at(b, 14 + 4 * rows + 4 * e) as usize
-}
-
-// The value of entry e.
-pub fn value_at(b: &[u8], rows: usize, entries: usize, e: usize) -> f64
-    requires sizes_fit { SizesFit rows entries }
-    requires e_lt_entries { e < entries }
-    ensures { result ≡ at (sized_matrix b.now rows entries).values e }
-{
-    let place = 14 + 4 * rows + 4 * entries + 8 * e;
-    let low = word_at(b, place);
-    let high = word_at(b, place + 4);
-    float::of_bits(low + 4294967296 * high)
+    // Where a row starts and ends, which is among the entries.
+    pub fn range_at(&self, row: usize) -> RowRange
+        requires { row < self.now.arrays.rows }
+        ensures { RangeIs (matrix_in self.now.arrays) row result }
+    {
+        let first = self.arrays.offset_at(row);
+        let last = self.arrays.offset_at(row + 1);
+        RowRange { first, last }
+    }
 }

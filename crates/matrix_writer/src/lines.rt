@@ -1,16 +1,18 @@
 // The text of a file, line by line, into a lent slice; what goes past its end is counted and not written.
+// The output and the place go in and the next place comes out, as in `decimal_text::figures`, whose functions do the writing. A piece may start
+// at a place up to the bound of its function, so that no sum wraps: the bounds differ from piece to piece, and are no type.
 ghost use Rattle.std.specs.Prelude.{◌≡◌, ◌+◌, ◌≤◌, ◌<◌, length};
 ghost use Rattle.store.specs.Vector.{filled};
 ghost use Rattle.decimal_text.specs.Contract.{Laid};
 ghost use Rattle.decimal_text.specs.Figures.{figures, value_text};
 ghost use Rattle.record_format.specs.Bytes.{flat};
 ghost use Rattle.matrix_writer.specs.Text.{kind_text, spaced, size_line, entry_line, is_written, written_at, row_triplets, triplets, file_text};
-ghost use Rattle.matrix_writer.specs.Contract.{sized_matrix, SizesFit, RowsIn};
+ghost use Rattle.matrix_writer.specs.Sized.{matrix_in};
 
-use crate::arrays::{RowRange, column_at, range_at, value_at};
+use crate::arrays::{RowRange, Source};
 use decimal_text::figures::{put_byte, put_number, put_value};
 
-// Every byte zero.
+// Every byte zero. The reader has the same: neither crate stands on the other.
 pub fn zero_bytes(out: &mut [u8])
     ensures { out.new ≡ filled (length out.old) 0 }
 {
@@ -89,126 +91,84 @@ fn is_written(symmetric: bool, row: usize, column: usize) -> bool
 }
 
 // Entry e of a row, where it is written.
-fn put_written(
-    symmetric: bool,
-    b: &[u8],
-    rows: usize,
-    entries: usize,
-    row: usize,
-    e: usize,
-    out: &mut [u8],
-    at: usize,
-) -> usize
-    requires sizes_fit { SizesFit rows entries }
-    requires row_lt_rows { (row < rows) × (e < entries) × (at ≤ 1000000000) }
-    ensures { Laid (flat entry_line (written_at symmetric (sized_matrix b.now rows entries) row e)) at out.old out.new result }
+fn put_written(source: &Source, row: usize, e: usize, out: &mut [u8], at: usize) -> usize
+    requires { (row < source.now.arrays.rows) × (e < source.now.arrays.entries) × (at ≤ 1000000000) }
+    ensures { Laid (flat entry_line (written_at source.now.symmetric (matrix_in source.now.arrays) row e)) at out.old out.new result }
 {
-    let column = column_at(b, rows, entries, e);
-    if !is_written(symmetric, row, column) {
+    let column = source.arrays.column_at(e);
+    if !is_written(source.symmetric, row, column) {
         return at;
     }
-    let value = value_at(b, rows, entries, e);
+    let value = source.arrays.value_at(e);
     put_entry(out, at, row, column, value)
 }
 
 // The entries of a row that are written.
-fn put_row(
-    symmetric: bool,
-    b: &[u8],
-    rows: usize,
-    entries: usize,
-    row: usize,
-    out: &mut [u8],
-    at: usize,
-) -> usize
-    requires sizes_fit { SizesFit rows entries }
-    requires rows_in { RowsIn (sized_matrix b.now rows entries) }
-    requires row_lt_rows { (row < rows) × (at ≤ 500000000) }
-    ensures { Laid (flat entry_line (row_triplets symmetric (sized_matrix b.now rows entries) row)) at out.old out.new result }
+fn put_row(source: &Source, row: usize, out: &mut [u8], at: usize) -> usize
+    requires { (row < source.now.arrays.rows) × (at ≤ 500000000) }
+    ensures { Laid (flat entry_line (row_triplets source.now.symmetric (matrix_in source.now.arrays) row)) at out.old out.new result }
 {
-    let RowRange { first, last } = range_at(b, rows, entries, row);
+    let RowRange { first, last } = source.range_at(row);
     let mut next = at;
     for e in first..last {
-        next = put_written(symmetric, b, rows, entries, row, e, out, next);
+        next = put_written(source, row, e, out, next);
     }
     next
 }
 
 // All entries that are written, row by row.
-fn put_rows(
-    symmetric: bool,
-    b: &[u8],
-    rows: usize,
-    entries: usize,
-    out: &mut [u8],
-    at: usize,
-) -> usize
-    requires sizes_fit { SizesFit rows entries }
-    requires rows_in { RowsIn (sized_matrix b.now rows entries) }
-    requires at_bound { at ≤ 1000000 }
-    ensures { Laid (flat entry_line (triplets symmetric (sized_matrix b.now rows entries))) at out.old out.new result }
+fn put_rows(source: &Source, out: &mut [u8], at: usize) -> usize
+    requires { at ≤ 1000000 }
+    ensures { Laid (flat entry_line (triplets source.now.symmetric (matrix_in source.now.arrays))) at out.old out.new result }
 {
     let mut next = at;
-    for row in 0..rows {
-        next = put_row(symmetric, b, rows, entries, row, out, next);
+    for row in 0..source.arrays.rows {
+        next = put_row(source, row, out, next);
     }
     next
 }
 
 // 1 where entry e of a row is written, else 0.
-fn count_entry(
-    symmetric: bool,
-    b: &[u8],
-    rows: usize,
-    entries: usize,
-    row: usize,
-    e: usize,
-) -> usize
-    requires sizes_fit { SizesFit rows entries }
-    requires e_lt_entries { e < entries }
-    ensures { result ≡ length (written_at symmetric (sized_matrix b.now rows entries) row e) }
+fn count_entry(source: &Source, row: usize, e: usize) -> usize
+    requires { e < source.now.arrays.entries }
+    ensures { result ≡ length (written_at source.now.symmetric (matrix_in source.now.arrays) row e) }
 {
-    let column = column_at(b, rows, entries, e);
-    usize::from(is_written(symmetric, row, column))
+    let column = source.arrays.column_at(e);
+    usize::from(is_written(source.symmetric, row, column))
 }
 
-// How many entries of a row are written.
-fn count_row(symmetric: bool, b: &[u8], rows: usize, entries: usize, row: usize) -> usize
-    requires sizes_fit { SizesFit rows entries }
-    requires rows_in { RowsIn (sized_matrix b.now rows entries) }
-    requires row_lt_rows { row < rows }
-    ensures { result ≡ length (row_triplets symmetric (sized_matrix b.now rows entries) row) }
+// How many entries of a row are written. `put_row` and `questions::row_verdict` walk the row too, but lay what this counts and stop at a
+// refusal: one walk over a closure would need the invariant of each as an argument.
+fn count_row(source: &Source, row: usize) -> usize
+    requires { row < source.now.arrays.rows }
+    ensures { result ≡ length (row_triplets source.now.symmetric (matrix_in source.now.arrays) row) }
 {
-    let RowRange { first, last } = range_at(b, rows, entries, row);
+    let RowRange { first, last } = source.range_at(row);
     let mut n = 0;
     for e in first..last {
-        n += count_entry(symmetric, b, rows, entries, row, e);
+        n += count_entry(source, row, e);
     }
     n
 }
 
 // How many entries are written.
-fn count_written(symmetric: bool, b: &[u8], rows: usize, entries: usize) -> usize
-    requires sizes_fit { SizesFit rows entries }
-    requires rows_in { RowsIn (sized_matrix b.now rows entries) }
-    ensures { result ≡ length (triplets symmetric (sized_matrix b.now rows entries)) }
+fn count_written(source: &Source) -> usize
+    ensures { result ≡ length (triplets source.now.symmetric (matrix_in source.now.arrays)) }
 {
     let mut n = 0;
-    for row in 0..rows {
-        n += count_row(symmetric, b, rows, entries, row);
+    for row in 0..source.arrays.rows {
+        n += count_row(source, row);
     }
     n
 }
 
 // The whole text; the answer is its length.
-pub fn put_file(symmetric: bool, b: &[u8], rows: usize, entries: usize, out: &mut [u8]) -> usize
-    requires sizes_fit { SizesFit rows entries }
-    requires rows_in { RowsIn (sized_matrix b.now rows entries) }
-    ensures { Laid (file_text symmetric (sized_matrix b.now rows entries)) 0 out.old out.new result }
+pub fn put_file(source: &Source, out: &mut [u8]) -> usize
+    ensures { Laid (file_text source.now.symmetric (matrix_in source.now.arrays)) 0 out.old out.new result }
 {
-    let count = count_written(symmetric, b, rows, entries);
+    let count = count_written(source);
     let kind = put_bytes(out, 0, b"%%MatrixMarket matrix coordinate real ");
-    let size = put_kind(symmetric, out, kind);
-    let first = put_size(out, size, rows, count);
-    put_rows(symmetric, b, rows, entries, out, first)
+    let size = put_kind(source.symmetric, out, kind);
+    let first = put_size(out, size, source.arrays.rows, count);
+    put_rows(source, out, first)
 }

@@ -3,9 +3,10 @@ ghost use Rattle.std.specs.Prelude.{◌≡◌, ◌&&◌, leb, ◌+◌, ◌<◌};
 ghost use Rattle.refusal.specs.Outcome.{verdict_of};
 ghost use Rattle.csr.specs.Questions.{never_fall, offsets_ok, entry_ok, row_ok, columns_ok};
 ghost use Rattle.matrix_writer.specs.Writing.{record_ok, writable, mirror_in, entry_asked, row_asked, entries_asked, record_asked};
-ghost use Rattle.matrix_writer.specs.Contract.{sized_matrix, SizesFit, Span, StandsIn, RowsIn, Rises, Sound, LowerBound};
+ghost use Rattle.matrix_writer.specs.Contract.{Span, StandsIn, Rises, Sound, LowerBound};
+ghost use Rattle.matrix_writer.specs.Sized.{matrix_in};
 
-use crate::arrays::{RowRange, column_at, offset_at, range_at, size_at, value_at};
+use crate::arrays::{Arrays, RowRange, Source, size_at};
 use record_format::{Mark, is_marked};
 use refusal::Refusal;
 
@@ -26,13 +27,12 @@ fn sizes_fit(rows: usize, entries: usize) -> bool
 }
 
 // Whether no row ends before it starts.
-fn never_fall(b: &[u8], rows: usize, entries: usize) -> bool
-    requires { SizesFit rows entries }
-    ensures { result ≡ never_fall rows (sized_matrix b.now rows entries).offsets }
+fn never_fall(arrays: &Arrays) -> bool
+    ensures { result ≡ never_fall arrays.now.rows (matrix_in arrays.now).offsets }
 {
-    for row in 0..rows {
-        let first = offset_at(b, rows, entries, row);
-        let last = offset_at(b, rows, entries, row + 1);
+    for row in 0..arrays.rows {
+        let first = arrays.offset_at(row);
+        let last = arrays.offset_at(row + 1);
         if first > last {
             return false;
         }
@@ -41,48 +41,43 @@ fn never_fall(b: &[u8], rows: usize, entries: usize) -> bool
 }
 
 // Question 2.
-fn offsets_fit(b: &[u8], rows: usize, entries: usize) -> bool
-    requires { SizesFit rows entries }
-    ensures { result ≡ offsets_ok rows (sized_matrix b.now rows entries).offsets (sized_matrix b.now rows entries).columns (sized_matrix b.now rows entries).values }
+fn offsets_fit(arrays: &Arrays) -> bool
+    ensures { result ≡ offsets_ok arrays.now.rows (matrix_in arrays.now).offsets (matrix_in arrays.now).columns (matrix_in arrays.now).values }
 {
-    let start = offset_at(b, rows, entries, 0);
-    let end = offset_at(b, rows, entries, rows);
-    (start == 0) & never_fall(b, rows, entries) & (end == entries)
+    let start = arrays.offset_at(0);
+    let end = arrays.offset_at(arrays.rows);
+    (start == 0) & never_fall(arrays) & (end == arrays.entries)
 }
 
 // The test of an entry in a row that ends at `last`.
-fn entry_fits(b: &[u8], rows: usize, entries: usize, last: usize, e: usize) -> bool
-    requires sizes_fit { SizesFit rows entries }
-    requires span { Span entries (e + 1) last }
-    ensures { result ≡ entry_ok rows (sized_matrix b.now rows entries).columns last e }
+fn entry_fits(arrays: &Arrays, last: usize, e: usize) -> bool
+    requires { Span arrays.now.entries (e + 1) last }
+    ensures { result ≡ entry_ok arrays.now.rows (matrix_in arrays.now).columns last e }
 {
-    let column = column_at(b, rows, entries, e);
-    let below = column < rows;
+    let column = arrays.column_at(e);
+    let below = column < arrays.rows;
     if last <= e + 1 {
         return below;
     }
-    let next = column_at(b, rows, entries, e + 1);
+    let next = arrays.column_at(e + 1);
     below & (column < next)
 }
 
 // The entries of one row.
-fn row_rises(b: &[u8], rows: usize, entries: usize, first: usize, last: usize) -> bool
-    requires sizes_fit { SizesFit rows entries }
-    requires span { Span entries first last }
-    ensures { result ≡ row_ok rows (sized_matrix b.now rows entries).columns first last }
+fn row_rises(arrays: &Arrays, first: usize, last: usize) -> bool
+    requires { Span arrays.now.entries first last }
+    ensures { result ≡ row_ok arrays.now.rows (matrix_in arrays.now).columns first last }
 {
-    (first..last).all(|e| entry_fits(b, rows, entries, last, e))
+    (first..last).all(|e| entry_fits(arrays, last, e))
 }
 
-// Question 3. As question 2 has passed, each row lies among the entries.
-fn columns_rise(b: &[u8], rows: usize, entries: usize) -> bool
-    requires sizes_fit { SizesFit rows entries }
-    requires rows_in { RowsIn (sized_matrix b.now rows entries) }
-    ensures { result ≡ columns_ok rows (sized_matrix b.now rows entries).offsets (sized_matrix b.now rows entries).columns }
+// Question 3.
+fn columns_rise(source: &Source) -> bool
+    ensures { result ≡ columns_ok source.now.arrays.rows (matrix_in source.now.arrays).offsets (matrix_in source.now.arrays).columns }
 {
-    for row in 0..rows {
-        let RowRange { first, last } = range_at(b, rows, entries, row);
-        if !row_rises(b, rows, entries, first, last) {
+    for row in 0..source.arrays.rows {
+        let RowRange { first, last } = source.range_at(row);
+        if !row_rises(&source.arrays, first, last) {
             return false;
         }
     }
@@ -97,25 +92,17 @@ fn is_writable(v: f64) -> bool
 }
 
 // The first of the rising columns from `first` to `last` that is not below `column`: by bisection.
-fn lower_bound(
-    b: &[u8],
-    rows: usize,
-    entries: usize,
-    first: usize,
-    last: usize,
-    column: usize,
-) -> usize
-    requires sizes_fit { SizesFit rows entries }
-    requires span { Span entries first last }
-    requires rises { Rises (sized_matrix b.now rows entries).columns first last }
-    ensures { LowerBound (sized_matrix b.now rows entries).columns first last column result }
+fn lower_bound(arrays: &Arrays, first: usize, last: usize, column: usize) -> usize
+    requires span { Span arrays.now.entries first last }
+    requires rises { Rises (matrix_in arrays.now).columns first last }
+    ensures { LowerBound (matrix_in arrays.now).columns first last column result }
 {
     let mut low = first;
     let mut high = last;
     // A while: the entries that are left are halved each time, so there is no range to walk.
     while low < high {
         let middle = low + (high - low) / 2;
-        let here = column_at(b, rows, entries, middle);
+        let here = arrays.column_at(middle);
         if here < column {
             low = middle + 1;
         } else {
@@ -125,50 +112,44 @@ fn lower_bound(
     low
 }
 
+// That question 3 has passed too (`Sound`) is asked for by the next four functions alone, which ask 39 and 40; a third type round the
+// other two, for these four, would be no plainer.
+
 // Whether the row of an entry's column has its mirror: the entry in column `row`, equal as a number.
-fn has_mirror(b: &[u8], rows: usize, entries: usize, row: usize, column: usize, e: usize) -> bool
-    requires sizes_fit { SizesFit rows entries }
-    requires sound { Sound (sized_matrix b.now rows entries) }
-    requires column_lt_rows { (column < rows) × (e < entries) }
-    ensures { result ≡ mirror_in (sized_matrix b.now rows entries) row e column }
+fn has_mirror(source: &Source, row: usize, column: usize, e: usize) -> bool
+    requires sound { Sound (matrix_in source.now.arrays) }
+    requires column_lt_rows { (column < source.now.arrays.rows) × (e < source.now.arrays.entries) }
+    ensures { result ≡ mirror_in (matrix_in source.now.arrays) row e column }
 {
-    let RowRange { first, last } = range_at(b, rows, entries, column);
-    let d = lower_bound(b, rows, entries, first, last, row);
+    let RowRange { first, last } = source.range_at(column);
+    let d = lower_bound(&source.arrays, first, last, row);
     if last <= d {
         return false;
     }
-    let other = column_at(b, rows, entries, d);
+    let other = source.arrays.column_at(d);
     if other != row {
         return false;
     }
-    let mirror = value_at(b, rows, entries, d);
-    let value = value_at(b, rows, entries, e);
+    let mirror = source.arrays.value_at(d);
+    let value = source.arrays.value_at(e);
     mirror == value
 }
 
 // What is asked of entry e, which stands in that row: 39 before 40.
-fn entry_verdict(
-    symmetric: bool,
-    b: &[u8],
-    rows: usize,
-    entries: usize,
-    row: usize,
-    e: usize,
-) -> Result<(), Refusal>
-    requires sizes_fit { SizesFit rows entries }
-    requires sound { Sound (sized_matrix b.now rows entries) }
-    requires stands_in { StandsIn (sized_matrix b.now rows entries) row e }
-    ensures { result ≡ verdict_of (entry_asked symmetric (sized_matrix b.now rows entries) row e) }
+fn entry_verdict(source: &Source, row: usize, e: usize) -> Result<(), Refusal>
+    requires sound { Sound (matrix_in source.now.arrays) }
+    requires stands_in { StandsIn (matrix_in source.now.arrays) row e }
+    ensures { result ≡ verdict_of (entry_asked source.now.symmetric (matrix_in source.now.arrays) row e) }
 {
-    let value = value_at(b, rows, entries, e);
+    let value = source.arrays.value_at(e);
     if !is_writable(value) {
         return Err(refusal::BAD_NUMBER);
     }
-    if !symmetric {
+    if !source.symmetric {
         return Ok(());
     }
-    let column = column_at(b, rows, entries, e);
-    if has_mirror(b, rows, entries, row, column, e) {
+    let column = source.arrays.column_at(e);
+    if has_mirror(source, row, column, e) {
         Ok(())
     } else {
         Err(refusal::UNEQUAL_MIRRORS)
@@ -176,33 +157,25 @@ fn entry_verdict(
 }
 
 // What is asked of the entries of a row.
-fn row_verdict(
-    symmetric: bool,
-    b: &[u8],
-    rows: usize,
-    entries: usize,
-    row: usize,
-) -> Result<(), Refusal>
-    requires sizes_fit { SizesFit rows entries }
-    requires sound { Sound (sized_matrix b.now rows entries) }
-    requires row_lt_rows { row < rows }
-    ensures { result ≡ verdict_of (row_asked symmetric (sized_matrix b.now rows entries) row) }
+fn row_verdict(source: &Source, row: usize) -> Result<(), Refusal>
+    requires sound { Sound (matrix_in source.now.arrays) }
+    requires row_lt_rows { row < source.now.arrays.rows }
+    ensures { result ≡ verdict_of (row_asked source.now.symmetric (matrix_in source.now.arrays) row) }
 {
-    let RowRange { first, last } = range_at(b, rows, entries, row);
+    let RowRange { first, last } = source.range_at(row);
     for e in first..last {
-        entry_verdict(symmetric, b, rows, entries, row, e)?;
+        entry_verdict(source, row, e)?;
     }
     Ok(())
 }
 
 // What is asked of all entries, by row and then by column.
-fn entries_verdict(symmetric: bool, b: &[u8], rows: usize, entries: usize) -> Result<(), Refusal>
-    requires sizes_fit { SizesFit rows entries }
-    requires sound { Sound (sized_matrix b.now rows entries) }
-    ensures { result ≡ verdict_of (entries_asked symmetric (sized_matrix b.now rows entries)) }
+fn entries_verdict(source: &Source) -> Result<(), Refusal>
+    requires { Sound (matrix_in source.now.arrays) }
+    ensures { result ≡ verdict_of (entries_asked source.now.symmetric (matrix_in source.now.arrays)) }
 {
-    for row in 0..rows {
-        row_verdict(symmetric, b, rows, entries, row)?;
+    for row in 0..source.arrays.rows {
+        row_verdict(source, row)?;
     }
     Ok(())
 }
@@ -219,11 +192,17 @@ pub fn check_record(symmetric: bool, b: &[u8]) -> Result<(), Refusal>
     if !sizes_fit(rows, entries) {
         return Err(refusal::TOO_LARGE);
     }
-    if !offsets_fit(b, rows, entries) {
+    let arrays = Arrays {
+        bytes: b,
+        rows,
+        entries,
+    };
+    if !offsets_fit(&arrays) {
         return Err(refusal::BAD_OFFSETS);
     }
-    if !columns_rise(b, rows, entries) {
+    let source = Source { arrays, symmetric };
+    if !columns_rise(&source) {
         return Err(refusal::BAD_COLUMNS);
     }
-    entries_verdict(symmetric, b, rows, entries)
+    entries_verdict(&source)
 }

@@ -3,7 +3,7 @@ ghost use Rattle.matrix_writer.specs.Writing.{write_file};
 ghost use Rattle.matrix_writer.specs.Contract.{Ready, WriteDone};
 ghost use Rattle.std.specs.Prelude.{length};
 
-use crate::arrays::size_at;
+use crate::arrays::{Arrays, Source, size_at};
 use crate::lines::{put_file, zero_bytes};
 use crate::questions::check_record;
 use refusal::Refusal;
@@ -15,7 +15,13 @@ fn write_checked(symmetric: bool, mx: &[u8], out: &mut [u8]) -> Result<usize, Re
 {
     let rows = size_at(mx, 2);
     let entries = size_at(mx, 6);
-    let size = put_file(symmetric, mx, rows, entries, out);
+    let arrays = Arrays {
+        bytes: mx,
+        rows,
+        entries,
+    };
+    let source = Source { arrays, symmetric };
+    let size = put_file(&source, out);
     if size <= out.len() {
         return Ok(size);
     }

@@ -1,2 +1,1 @@
-pub mod Mesh
 pub mod Telling

@@ -1,13 +1,7 @@
-// For the comparison with the Rust, never shipped: numbers, vectors, controls and what is done on patterns, by numbers and slices
-// only. `meshprobe_c` exports these functions, and `probe` tells its answers as they do.
+// For the comparison with the Rust, never shipped: how answers cross to C, as numbers and as words of a lent slice. The exports of
+// `meshprobe_c` and of `probe` tell their answers by these functions.
 #![tactic(auto)]
 
-pub mod arrays;
-pub mod coarsening;
-pub mod controls;
-pub mod numbers;
 pub mod telling;
-pub mod topology;
-pub mod vectors;
 
 pub use telling::{answer, number, tell};

@@ -1,10 +1,11 @@
-// Answers as numbers, for exports: what a verdict, a refusal and a product are told as.
+// Answers as numbers, for exports: what a verdict, a refusal and a product are told as. How long the slices are that answers are written
+// to, C alone knows, so that each function requires it.
 ghost use Rattle.std.specs.Prelude.{◌≡◌, ◌≤◌, length, set};
 ghost use Rattle.meshprobe.specs.Telling.{flag, flag_of, written_of, Told};
 
 use refusal::Refusal;
 
-// Yes is 1, no is 0.
+// Yes is 1, no is 0: one call of the library, whose answer stands here as `flag`, which the clauses of exports cite.
 pub fn number(yes: bool) -> u8
     ensures { result ≡ flag yes }
 {

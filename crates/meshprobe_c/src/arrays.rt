@@ -3,7 +3,19 @@ ghost use Rattle.std.specs.Prelude.{◌≡◌};
 ghost use Rattle.refusal.specs.Outcome.{verdict_of};
 ghost use Rattle.csr.specs.Questions.{matrix_asked};
 ghost use Rattle.csr.specs.Weights.{weights_asked};
-ghost use Rattle.meshprobe.specs.Mesh.{answer_of};
+ghost use Rattle.meshprobe_c.specs.Mesh.{answer_of};
+
+use refusal::Refusal;
+
+// Zero where it passed, or the number of a refusal that names no place.
+fn unplaced(verdict: Result<(), Refusal>) -> u64
+    ensures { result ≡ answer_of verdict }
+{
+    match verdict {
+        Ok(()) => 0,
+        Err(refusal) => refusal.number,
+    }
+}
 
 #[unsafe(no_mangle)]
 pub extern "C" fn probe_check_matrix(
@@ -14,12 +26,12 @@ pub extern "C" fn probe_check_matrix(
 ) -> u64
     ensures { result ≡ answer_of (verdict_of (matrix_asked rows offsets.now columns.now values.now)) }
 {
-    meshprobe::arrays::probe_check_matrix(rows, offsets, columns, values)
+    unplaced(csr::check_matrix(rows, offsets, columns, values))
 }
 
 #[unsafe(no_mangle)]
 pub extern "C" fn probe_check_weights(weights: &[f64], entries: usize) -> u64
     ensures { result ≡ answer_of (verdict_of (weights_asked entries weights.now)) }
 {
-    meshprobe::arrays::probe_check_weights(weights, entries)
+    unplaced(csr::check_weights(weights, entries))
 }

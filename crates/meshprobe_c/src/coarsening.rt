@@ -8,7 +8,11 @@ ghost use Rattle.pattern.specs.Coarsening.{PatternOk, Patterned, ComposeOk};
 ghost use Rattle.galerkin.specs.Values.{sums_of, symmetrize_of};
 ghost use Rattle.galerkin.specs.Contract.{restrict_weights_of, SumsOk, GivenOk, FacesOk, WeightsOk};
 ghost use Rattle.export.specs.Flat.{is_set};
-ghost use Rattle.meshprobe.specs.Mesh.{graph_of, coarsening_of};
+ghost use Rattle.meshprobe_c.specs.Mesh.{graph_of, coarsening_of};
+
+use aggregation::Graph;
+use galerkin::CoarseRows;
+use pattern::Coarsening;
 
 #[unsafe(no_mangle)]
 pub extern "C" fn probe_pairs(
@@ -29,9 +33,17 @@ pub extern "C" fn probe_pairs(
         (pairs_of (weighted_at (graph_of rows entries offsets columns map weights absolute cap) w.old f.now) (is_set forward))
         w.old w.new result }
 {
-    meshprobe::coarsening::probe_pairs(
-        w, f, rows, entries, offsets, columns, map, weights, absolute, forward, cap,
-    )
+    let g = Graph {
+        rows,
+        entries,
+        offsets,
+        columns,
+        map,
+        weights,
+        absolute: absolute != 0,
+        cap,
+    };
+    aggregation::pairs(w, f, g, forward != 0)
 }
 
 #[unsafe(no_mangle)]
@@ -53,8 +65,7 @@ pub extern "C" fn probe_coarse_pattern(
     ensures { Patterned w.old w.new
         (coarsening_of rows entries count offsets columns map positions coarse_offsets coarse_columns scratch) result }
 {
-    meshprobe::coarsening::probe_coarse_pattern(
-        w,
+    let c = Coarsening {
         rows,
         entries,
         count,
@@ -65,7 +76,8 @@ pub extern "C" fn probe_coarse_pattern(
         coarse_offsets,
         coarse_columns,
         scratch,
-    )
+    };
+    pattern::coarse_pattern(w, c)
 }
 
 #[unsafe(no_mangle)]
@@ -75,7 +87,7 @@ pub extern "C" fn probe_compose(w: &mut [u32], n: usize, map: usize, next: usize
         (compose_of n (part map n w.old) (part next count w.old))
         w.old w.new }
 {
-    meshprobe::coarsening::probe_compose(w, n, map, next, count);
+    pattern::compose(w, n, map, next, count);
 }
 
 #[unsafe(no_mangle)]
@@ -93,7 +105,7 @@ pub extern "C" fn probe_sum_entries(
         (sums_of total m (part positions m w.now) (part values m f.old))
         f.old f.new }
 {
-    meshprobe::coarsening::probe_sum_entries(w, f, m, positions, values, total, out);
+    galerkin::sum_entries(w, f, m, positions, values, total, out);
 }
 
 #[unsafe(no_mangle)]
@@ -111,7 +123,7 @@ pub extern "C" fn probe_sum_given(
         (sums_of total m (part positions m w.now) given.now)
         f.old f.new }
 {
-    meshprobe::coarsening::probe_sum_given(w, given, f, m, positions, total, out);
+    galerkin::sum_given(w, given, f, m, positions, total, out);
 }
 
 #[unsafe(no_mangle)]
@@ -130,7 +142,7 @@ pub extern "C" fn probe_symmetrize(
         (part values total f.old))
         f.old f.new }
 {
-    meshprobe::coarsening::probe_symmetrize(w, f, faces, upper, lower, total, values);
+    galerkin::symmetrize(w, f, faces, upper, lower, total, values);
 }
 
 #[unsafe(no_mangle)]
@@ -152,7 +164,11 @@ pub extern "C" fn probe_restrict_weights(
         count (part offsets (count + 1) w.now) (part columns total w.now))
         f.old f.new }
 {
-    meshprobe::coarsening::probe_restrict_weights(
-        w, f, count, m, positions, offsets, columns, weights, total, out,
-    );
+    let s = CoarseRows {
+        count,
+        entries: total,
+        offsets,
+        columns,
+    };
+    galerkin::restrict_weights(w, f, m, positions, weights, s, out);
 }

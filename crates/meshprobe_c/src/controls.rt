@@ -1,8 +1,10 @@
-// `validate` of `options`, of controls as numbers.
+// `validate` of `options`. The controls cross as seventeen numbers, so that the comparison sets each by itself.
 ghost use Rattle.std.specs.Prelude.{◌≡◌};
 ghost use Rattle.options.specs.Options.{valid_of};
 ghost use Rattle.export.specs.Flat.{options_of};
-ghost use Rattle.meshprobe.specs.Mesh.{flag};
+ghost use Rattle.meshprobe_c.specs.Mesh.{flag};
+
+use meshprobe::number;
 
 #[unsafe(no_mangle)]
 pub extern "C" fn probe_validate(
@@ -29,7 +31,7 @@ pub extern "C" fn probe_validate(
         coarse_relative_tolerance coarse_max_iterations scale_correction
         max_aggregate_cells)) }
 {
-    meshprobe::controls::probe_validate(
+    let options = export::options_of(
         smoother,
         residual_norm,
         pre_sweeps,
@@ -47,5 +49,6 @@ pub extern "C" fn probe_validate(
         coarse_max_iterations,
         scale_correction,
         max_aggregate_cells,
-    )
+    );
+    number(options.validate())
 }

@@ -1,10 +1,14 @@
-// The functions of `faces`: the pattern part of a kernel. The places of the pattern and of its faces cross as numbers.
+// The functions of `faces`: the pattern part of a kernel. The places of the pattern and of its faces cross as ten numbers. Each export
+// makes the struct of them in place: a function for it would take the same ten.
 ghost use Rattle.std.specs.Prelude.{◌≡◌, ◌≤◌, length};
 ghost use Rattle.refusal.specs.Outcome.{verdict_of};
 ghost use Rattle.faces.specs.Faces.{mirrored_of, diagonals_asked};
 ghost use Rattle.faces.specs.Contract.{pattern_at, OffsetsOk, OffsetsDone, FillOk, Filled, MirrorsOk, MirrorsDone};
 ghost use Rattle.faces.specs.Contract.{DiagonalsOk, DiagonalsDone, CoupledOk, CoupledCount, CoupledRowsOk, CoupledRows};
-ghost use Rattle.meshprobe.specs.Mesh.{flag, topology_of, Told};
+ghost use Rattle.meshprobe_c.specs.Mesh.{flag, topology_of, Told};
+
+use faces::{Faces, diagonals, mirrors};
+use meshprobe::{answer, number};
 
 #[unsafe(no_mangle)]
 pub extern "C" fn probe_face_offsets(
@@ -24,9 +28,19 @@ pub extern "C" fn probe_face_offsets(
     ensures { OffsetsDone w.old w.new
         (topology_of rows entries faces offsets columns starts diagonals neighbors uppers lowers) result }
 {
-    meshprobe::topology::probe_face_offsets(
-        w, rows, entries, faces, offsets, columns, starts, diagonals, neighbors, uppers, lowers,
-    )
+    let s = Faces {
+        rows,
+        entries,
+        faces,
+        offsets,
+        columns,
+        starts,
+        diagonals,
+        neighbors,
+        uppers,
+        lowers,
+    };
+    faces::face_offsets(w, s)
 }
 
 #[unsafe(no_mangle)]
@@ -47,9 +61,19 @@ pub extern "C" fn probe_fill_faces(
     ensures { Filled w.old w.new
         (topology_of rows entries faces offsets columns starts diagonals neighbors uppers lowers) }
 {
-    meshprobe::topology::probe_fill_faces(
-        w, rows, entries, faces, offsets, columns, starts, diagonals, neighbors, uppers, lowers,
-    );
+    let s = Faces {
+        rows,
+        entries,
+        faces,
+        offsets,
+        columns,
+        starts,
+        diagonals,
+        neighbors,
+        uppers,
+        lowers,
+    };
+    faces::fill_faces(w, s);
 }
 
 #[unsafe(no_mangle)]
@@ -73,9 +97,19 @@ pub extern "C" fn probe_mirrors(
         (topology_of rows entries faces offsets columns starts diagonals neighbors uppers lowers)
         (mirrored_of (pattern_at w.old (topology_of rows entries faces offsets columns starts diagonals neighbors uppers lowers))) }
 {
-    meshprobe::topology::probe_mirrors(
-        w, rows, entries, faces, offsets, columns, starts, diagonals, neighbors, uppers, lowers,
-    )
+    let s = Faces {
+        rows,
+        entries,
+        faces,
+        offsets,
+        columns,
+        starts,
+        diagonals,
+        neighbors,
+        uppers,
+        lowers,
+    };
+    number(mirrors::mirrors(w, s))
 }
 
 #[unsafe(no_mangle)]
@@ -105,10 +139,19 @@ pub extern "C" fn probe_diagonals(
         (verdict_of (diagonals_asked level
         (pattern_at w.old (topology_of rows entries faces offsets columns starts diagonals neighbors uppers lowers)))) }
 {
-    meshprobe::topology::probe_diagonals(
-        w, rows, entries, faces, offsets, columns, starts, diagonals, neighbors, uppers, lowers,
-        level, place,
-    )
+    let s = Faces {
+        rows,
+        entries,
+        faces,
+        offsets,
+        columns,
+        starts,
+        diagonals,
+        neighbors,
+        uppers,
+        lowers,
+    };
+    answer(diagonals::diagonals(w, s, level), place)
 }
 
 #[unsafe(no_mangle)]
@@ -129,9 +172,19 @@ pub extern "C" fn probe_coupled_count(
     ensures { CoupledCount w.now
         (topology_of rows entries faces offsets columns starts diagonals neighbors uppers lowers) result }
 {
-    meshprobe::topology::probe_coupled_count(
-        w, rows, entries, faces, offsets, columns, starts, diagonals, neighbors, uppers, lowers,
-    )
+    let s = Faces {
+        rows,
+        entries,
+        faces,
+        offsets,
+        columns,
+        starts,
+        diagonals,
+        neighbors,
+        uppers,
+        lowers,
+    };
+    faces::coupled_count(w, s)
 }
 
 #[unsafe(no_mangle)]
@@ -153,7 +206,17 @@ pub extern "C" fn probe_coupled_rows(
     ensures { CoupledRows w.old w.new
         (topology_of rows entries faces offsets columns starts diagonals neighbors uppers lowers) to }
 {
-    meshprobe::topology::probe_coupled_rows(
-        w, rows, entries, faces, offsets, columns, starts, diagonals, neighbors, uppers, lowers, to,
-    );
+    let s = Faces {
+        rows,
+        entries,
+        faces,
+        offsets,
+        columns,
+        starts,
+        diagonals,
+        neighbors,
+        uppers,
+        lowers,
+    };
+    faces::coupled_rows(w, s, to);
 }

@@ -3,7 +3,9 @@ ghost use Rattle.std.specs.Prelude.{◌≡◌, ◌+◌, ◌≤◌, length};
 ghost use Rattle.store.specs.Region.{part};
 ghost use Rattle.vector.specs.Dot.{dot_of, product_of, norm_of};
 ghost use Rattle.vector.specs.Finite.{all_finite};
-ghost use Rattle.meshprobe.specs.Mesh.{flag, flag_of, written_of};
+ghost use Rattle.meshprobe_c.specs.Mesh.{flag, flag_of, written_of};
+
+use meshprobe::{number, tell};
 
 #[unsafe(no_mangle)]
 pub extern "C" fn probe_dot(f: &[f64], a: usize, b: usize, n: usize, out: &mut [f64]) -> u8
@@ -13,7 +15,7 @@ pub extern "C" fn probe_dot(f: &[f64], a: usize, b: usize, n: usize, out: &mut [
     ensures value { result ≡ flag_of (product_of (dot_of n (part a n f.now) (part b n f.now))) }
     ensures out_after { out.new ≡ written_of (product_of (dot_of n (part a n f.now) (part b n f.now))) out.old }
 {
-    meshprobe::vectors::probe_dot(f, a, b, n, out)
+    tell(vector::dot(f, a, b, n), out)
 }
 
 #[unsafe(no_mangle)]
@@ -23,7 +25,7 @@ pub extern "C" fn probe_norm_l2(f: &[f64], a: usize, n: usize, out: &mut [f64]) 
     ensures value { result ≡ flag_of (norm_of n (part a n f.now)) }
     ensures out_after { out.new ≡ written_of (norm_of n (part a n f.now)) out.old }
 {
-    meshprobe::vectors::probe_norm_l2(f, a, n, out)
+    tell(vector::norm_l2(f, a, n), out)
 }
 
 #[unsafe(no_mangle)]
@@ -31,5 +33,5 @@ pub extern "C" fn probe_all_finite(f: &[f64], n: usize, x: usize) -> u8
     requires { x + n ≤ length f.now }
     ensures { result ≡ flag (all_finite n (part x n f.now)) }
 {
-    meshprobe::vectors::probe_all_finite(f, n, x)
+    number(vector::all_finite(f, n, x))
 }

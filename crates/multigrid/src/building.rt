@@ -1,9 +1,11 @@
-// mod.rs: the calls that build a hierarchy, `new` and `new_with_face_weights`: up to their statistics, and whole.
+// mod.rs: the calls that build a hierarchy, `new` and `new_with_face_weights`: up to their statistics, and whole. These two are two, and take
+// each array and store by itself, as README names them and C calls them. The arrays have one lifetime, since a `Source` holds them all.
 ghost use Rattle.std.specs.Prelude.{◌≡◌, true, false, []};
-ghost use Rattle.build.specs.Steps.{input_of};
+ghost use Rattle.build.specs.Asking.{input_of, input_in};
 ghost use Rattle.multigrid.specs.Contract.{cells_at, table_of, CellsOk, BuildRan};
 ghost use Rattle.multigrid.specs.New.{NewDone};
 
+use build::Source;
 use options::{Handle, MultigridOptions};
 use refusal::Refusal;
 use solver::{BuildRun, MultigridLevelStatistics};
@@ -22,24 +24,11 @@ fn cells(words: &[u32], levels: usize) -> [u64; 128]
     table
 }
 
-// Both builds, with so many records lent: the hierarchy, and the rows of its levels, none where the build refuses.
-fn run(
-    rows: usize,
-    offsets: &[u32],
-    columns: &[u32],
-    values: &[f64],
-    given: bool,
-    weights: &[f64],
-    options: MultigridOptions,
-    lent: usize,
-    words: &mut [u32],
-    floats: &mut [f64],
-) -> BuildRun
-    ensures { BuildRan words.old words.new floats.old floats.new lent (input_of rows offsets.now columns.now values.now given weights.now options) result }
+// A build with so many records lent: the hierarchy, and the rows of its levels, none where the build refuses.
+fn run(x: Source, records: usize, words: &mut [u32], floats: &mut [f64]) -> BuildRun
+    ensures { BuildRan words.old words.new floats.old floats.new records (input_in x.entry) result }
 {
-    match build::build(
-        rows, offsets, columns, values, given, weights, options, lent, words, floats,
-    ) {
+    match build::build(x, records, words, floats) {
         Ok(h) => {
             let table = cells(words, h.levels as usize);
             BuildRun {
@@ -57,51 +46,27 @@ fn run(
     }
 }
 
-// A build that pairs by the values.
-fn by_values(
-    rows: usize,
-    offsets: &[u32],
-    columns: &[u32],
-    values: &[f64],
-    options: MultigridOptions,
-    records: usize,
+// Both calls: a build, and the statistics of its levels, which are zeros where it refuses.
+fn call(
+    x: Source,
     words: &mut [u32],
     floats: &mut [f64],
-) -> BuildRun
-    ensures { BuildRan words.old words.new floats.old floats.new records (input_of rows offsets.now columns.now values.now false [] options) result }
+    statistics: &mut [MultigridLevelStatistics],
+) -> Result<Handle, Refusal>
+    ensures { NewDone words.old words.new floats.old floats.new statistics.old statistics.new (input_in x.entry) result }
 {
-    // Where no weights are given nobody reads them, so any slice serves.
-    run(
-        rows, offsets, columns, values, false, values, options, records, words, floats,
-    )
-}
-
-// A build that pairs by strengths of the faces.
-fn by_face_weights(
-    rows: usize,
-    offsets: &[u32],
-    columns: &[u32],
-    values: &[f64],
-    strengths: &[f64],
-    options: MultigridOptions,
-    records: usize,
-    words: &mut [u32],
-    floats: &mut [f64],
-) -> BuildRun
-    ensures { BuildRan words.old words.new floats.old floats.new records (input_of rows offsets.now columns.now values.now true strengths.now options) result }
-{
-    run(
-        rows, offsets, columns, values, true, strengths, options, records, words, floats,
-    )
+    let records = statistics.len();
+    let built = run(x, records, words, floats);
+    statistics::publish(built, statistics)
 }
 
 // The hierarchy of a matrix in compressed rows, paired by its values, in stores that the caller lends, whatever these held; and the
 // statistics of its levels, which are zeros where the build refuses.
-pub fn new(
+pub fn new<'a>(
     rows: usize,
-    offsets: &[u32],
-    columns: &[u32],
-    values: &[f64],
+    offsets: &'a [u32],
+    columns: &'a [u32],
+    values: &'a [f64],
     options: MultigridOptions,
     words: &mut [u32],
     floats: &mut [f64],
@@ -109,21 +74,25 @@ pub fn new(
 ) -> Result<Handle, Refusal>
     ensures { NewDone words.old words.new floats.old floats.new statistics.old statistics.new (input_of rows offsets.now columns.now values.now false [] options) result }
 {
-    let records = statistics.len();
-    let run = by_values(
-        rows, offsets, columns, values, options, records, words, floats,
-    );
-    statistics::publish(run, statistics)
+    let x = Source {
+        rows,
+        offsets,
+        columns,
+        values,
+        weights: None,
+        options,
+    };
+    call(x, words, floats, statistics)
 }
 
 // The same, paired by fixed geometric face strengths instead of flow-dependent matrix coefficients. Weights follow the entries;
 // diagonal weights are ignored and internal weights sum on coarse levels.
-pub fn new_with_face_weights(
+pub fn new_with_face_weights<'a>(
     rows: usize,
-    offsets: &[u32],
-    columns: &[u32],
-    values: &[f64],
-    face_weights: &[f64],
+    offsets: &'a [u32],
+    columns: &'a [u32],
+    values: &'a [f64],
+    face_weights: &'a [f64],
     options: MultigridOptions,
     words: &mut [u32],
     floats: &mut [f64],
@@ -131,17 +100,13 @@ pub fn new_with_face_weights(
 ) -> Result<Handle, Refusal>
     ensures { NewDone words.old words.new floats.old floats.new statistics.old statistics.new (input_of rows offsets.now columns.now values.now true face_weights.now options) result }
 {
-    let held = statistics.len();
-    let run = by_face_weights(
+    let x = Source {
         rows,
         offsets,
         columns,
         values,
-        face_weights,
+        weights: Some(face_weights),
         options,
-        held,
-        words,
-        floats,
-    );
-    statistics::publish(run, statistics)
+    };
+    call(x, words, floats, statistics)
 }

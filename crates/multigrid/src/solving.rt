@@ -1,4 +1,5 @@
-// mod.rs: `solve`, of any handle and any stores: up to its statistics, and whole.
+// mod.rs: `solve`, of any handle and any stores: up to its statistics, and whole. Each vector and store is lent by itself, as README names
+// the call and C makes it; `run` takes what `solve` is lent, but the records.
 ghost use Rattle.multigrid.specs.Contract.{SolveRan};
 ghost use Rattle.multigrid.specs.SolvingCall.{SolveCall};
 

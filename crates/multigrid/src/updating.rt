@@ -1,4 +1,4 @@
-// mod.rs: `update_values`, of any handle and any stores: with the number of records, and whole.
+// mod.rs: `update_values`, of any handle and any stores. Each array and store is lent by itself, as README names the call and C makes it.
 ghost use Rattle.std.specs.Prelude.{length};
 ghost use Rattle.multigrid.specs.UpdatingCall.{UpdateCall};
 
@@ -6,25 +6,6 @@ use index_check::check;
 use options::Handle;
 use refusal::Refusal;
 use solver::MultigridLevelStatistics;
-
-// An update with so many records lent.
-fn renew(
-    handle: Handle,
-    offsets: &[u32],
-    columns: &[u32],
-    values: &[f64],
-    words: &[u32],
-    floats: &mut [f64],
-    records: usize,
-) -> Result<(), Refusal>
-    ensures { UpdateCall handle words.now floats.old floats.new records offsets.now columns.now values.now result }
-{
-    if check::check(handle, words, floats.len(), records) {
-        update::update(handle, offsets, columns, values, words, floats)
-    } else {
-        Err(refusal::UNSOUND_STORES)
-    }
-}
 
 // New coefficients on the pattern of the build. Refused, the hierarchy stays as it was. Of the statistics the number of records alone
 // is read.
@@ -39,6 +20,9 @@ pub fn update_values(
 ) -> Result<(), Refusal>
     ensures { UpdateCall handle words.now floats.old floats.new (length statistics.now) offsets.now columns.now values.now result }
 {
-    let records = statistics.len();
-    renew(handle, offsets, columns, values, words, floats, records)
+    if check::check(handle, words, floats.len(), statistics.len()) {
+        update::update(handle, offsets, columns, values, words, floats)
+    } else {
+        Err(refusal::UNSOUND_STORES)
+    }
 }

@@ -23,20 +23,12 @@ fn tell_loaded(loaded: Result<Size, Refusal>) -> LoadedForC
 {
     match loaded {
         Ok(size) => LoadedForC {
-            answer: AnswerForC {
-                question: 0,
-                level: 0,
-                row: 0,
-            },
+            answer: AnswerForC::DONE,
             rows: size.rows,
             entries: size.entries,
         },
         Err(refusal) => LoadedForC {
-            answer: AnswerForC {
-                question: refusal.number,
-                level: refusal.level,
-                row: refusal.row,
-            },
+            answer: AnswerForC::from(refusal),
             rows: 0,
             entries: 0,
         },

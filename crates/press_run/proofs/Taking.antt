@@ -1,6 +1,6 @@
 -- What a record or an answer makes of a run, by the case that the code meets. Assumes nothing.
 use Rattle.std.specs.Prelude.{Result, Ok, Err}
-use mathlib.Core.Path.{◌≡◌}
+use mathlib.Core.Path.{◌≡◌, refl}
 use mathlib.Core.Bool.{false}
 use Prim.Native.Nat.{ℕ}
 use Rattle.refusal.specs.declared.Refusal.{Refusal}
@@ -48,14 +48,10 @@ build_kept p e = rw e
 pub build_over : (p : Run) {r : Result Handle Refusal} {why : Refusal} {q : Run} → r ≡ Err why → q ≡ ended p → q ≡ build_taken p r
 build_over p e f = rw e f
 
-pub update_done : (p : Run) {r : Result Unit Refusal} {q : Run} → r ≡ Ok tt → q ≡ went_on p Mark.Update 0 0 → q ≡ update_taken p r
-update_done p e f = rw e f
+pub update_kept : (p : Run) (r : Result Unit Refusal) → went_on p Mark.Update 0 0 ≡ update_taken p r
+update_kept p (Ok tt) = refl
+update_kept p (Err q) = refl
 
-pub update_refused : (p : Run) {r : Result Unit Refusal} {why : Refusal} {q : Run} → r ≡ Err why → q ≡ went_on p Mark.Update 0 0 → q ≡ update_taken p r
-update_refused p e f = rw e f
-
-pub solve_done : (p : Run) {r : Result LinearSolveReport Refusal} {t : LinearSolveReport} {q : Run} → r ≡ Ok t → q ≡ went_on p Mark.Solve 0 0 → q ≡ solve_taken p r
-solve_done p e f = rw e f
-
-pub solve_refused : (p : Run) {r : Result LinearSolveReport Refusal} {why : Refusal} {q : Run} → r ≡ Err why → q ≡ went_on p Mark.Solve 0 0 → q ≡ solve_taken p r
-solve_refused p e f = rw e f
+pub solve_kept : (p : Run) (r : Result LinearSolveReport Refusal) → went_on p Mark.Solve 0 0 ≡ solve_taken p r
+solve_kept p (Ok t) = refl
+solve_kept p (Err q) = refl

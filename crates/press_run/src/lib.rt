@@ -3,88 +3,74 @@
 // sees as much of them as the matrix has.
 #![tactic(auto)]
 
-ghost use Rattle.press_run.specs.Acting.{RunBuild, RunUpdate, RunSolve};
+ghost use Rattle.std.specs.Prelude.{◌≡◌};
+ghost use Rattle.press_run.specs.Acting.{run_rows, run_offsets, run_entries, RunBuild, RunUpdate, RunSolve};
 
 pub mod run;
 
-use lists::{calls, least};
+use lists::{Matrix, Source, calls, first};
 use options::{Handle, MultigridOptions};
 use record_order::Came;
 use refusal::Refusal;
 pub use run::Run;
 use solver::{LinearSolveReport, LinearSolverOptions};
 
+// The rows of the matrix: 64 at most, as in a problem file.
+fn rows(came: Came) -> usize
+    ensures { result ≡ run_rows came }
+{
+    (came.rows as usize).min(64)
+}
+
+// As much of each array as the matrix has.
+fn part(came: Came, m: Matrix) -> Matrix
+    ensures offsets { result.offsets.now ≡ run_offsets came m.entry.offsets.now }
+    ensures columns { result.columns.now ≡ run_entries came m.entry.columns.now }
+    ensures values { result.values.now ≡ run_entries came m.entry.values.now }
+{
+    let entries = came.entries as usize;
+    Matrix {
+        offsets: first(m.offsets, rows(came) + 1),
+        columns: first(m.columns, entries),
+        values: first(m.values, entries),
+    }
+}
+
 // The build: with the weights where these came.
 pub fn build(
     came: Came,
     options: MultigridOptions,
-    offsets: &[u32],
-    columns: &[u32],
-    values: &[f64],
+    matrix: Matrix,
     weights: &[f64],
     words: &mut [u32],
     floats: &mut [f64],
     statistics: &mut [u64],
 ) -> Result<Handle, Refusal>
-    ensures { RunBuild came options offsets.now columns.now values.now weights.now words.old words.new floats.old floats.new statistics.old statistics.new result }
+    ensures { RunBuild came options matrix.entry.offsets.now matrix.entry.columns.now matrix.entry.values.now weights.now words.old words.new floats.old floats.new statistics.old statistics.new result }
 {
-    let rows = least(came.rows as usize, 64);
-    let a = least(rows + 1, offsets.len());
-    let b = least(came.entries as usize, columns.len());
-    let c = least(came.entries as usize, values.len());
-    if came.weights {
-        let d = least(came.entries as usize, weights.len());
-        calls::new_with_face_weights(
-            rows,
-            &offsets[..a],
-            &columns[..b],
-            &values[..c],
-            &weights[..d],
-            options,
-            words,
-            floats,
-            statistics,
-        )
-    } else {
-        calls::new(
-            rows,
-            &offsets[..a],
-            &columns[..b],
-            &values[..c],
-            options,
-            words,
-            floats,
-            statistics,
-        )
-    }
+    let entries = came.entries as usize;
+    let source = Source {
+        rows: rows(came),
+        matrix: part(came, matrix),
+        weights: came.weights.then_some(first(weights, entries)),
+        options,
+    };
+    calls::new(source, words, floats, statistics)
 }
 
 // An update, on the pattern of the build.
 pub fn update(
     came: Came,
     handle: Handle,
-    offsets: &[u32],
-    columns: &[u32],
-    renewed: &[f64],
+    matrix: Matrix,
     words: &[u32],
     floats: &mut [f64],
     statistics: &[u64],
 ) -> Result<(), Refusal>
-    ensures { RunUpdate came handle offsets.now columns.now renewed.now words.now floats.old floats.new statistics.now result }
+    ensures { RunUpdate came handle matrix.entry.offsets.now matrix.entry.columns.now matrix.entry.values.now words.now floats.old floats.new statistics.now result }
 {
-    let rows = least(came.rows as usize, 64);
-    let a = least(rows + 1, offsets.len());
-    let b = least(came.entries as usize, columns.len());
-    let c = least(came.entries as usize, renewed.len());
-    calls::update_values(
-        handle,
-        &offsets[..a],
-        &columns[..b],
-        &renewed[..c],
-        words,
-        floats,
-        statistics,
-    )
+    let renewed = part(came, matrix);
+    calls::update_values(handle, renewed, words, floats, statistics)
 }
 
 // A solve: x is the start, and the solution where it is accepted.
@@ -100,14 +86,14 @@ pub fn solve(
 ) -> Result<LinearSolveReport, Refusal>
     ensures { RunSolve came handle limits rhs.now x.old x.new words.now floats.old floats.new statistics.old statistics.new result }
 {
-    let a = least(came.rows as usize, rhs.len());
-    let b = least(came.rows as usize, x.len());
+    let rows = came.rows as usize;
+    let b = rows.min(x.len());
     calls::solve(
         handle,
         words,
         floats,
         statistics,
-        &rhs[..a],
+        first(rhs, rows),
         &mut x[..b],
         limits,
     )

@@ -8,7 +8,8 @@ use record_order::Came;
 use refusal::Refusal;
 use solver::LinearSolveReport;
 
-// What has come, the controls, and once it is built the handle. A run that is over reads nothing more.
+// What has come, the controls, and once it is built the handle. A run that is over reads nothing more. `over` is no flag of one of the
+// others, so that they are no Option: what has come, controls and handle stay when it ends, as `ended` says.
 #[derive(Clone, Copy)]
 pub struct Run {
     pub over: bool,
@@ -111,19 +112,15 @@ impl Run {
     pub fn take_update(self, updated: Result<(), Refusal>) -> Run
         ensures { result ≡ update_taken self updated }
     {
-        match updated {
-            Ok(()) => self.go_on(Mark::Update, 0, 0),
-            Err(_) => self.go_on(Mark::Update, 0, 0),
-        }
+        let _ = updated;
+        self.go_on(Mark::Update, 0, 0)
     }
 
     // After an SO. Refused, the run goes on.
     pub fn take_solve(self, solved: Result<LinearSolveReport, Refusal>) -> Run
         ensures { result ≡ solve_taken self solved }
     {
-        match solved {
-            Ok(_) => self.go_on(Mark::Solve, 0, 0),
-            Err(_) => self.go_on(Mark::Solve, 0, 0),
-        }
+        let _ = solved;
+        self.go_on(Mark::Solve, 0, 0)
     }
 }

@@ -10,6 +10,8 @@ ghost use Rattle.acceleration.specs.DirectionsContract.{pair_at, memory_at};
 ghost use Rattle.acceleration.specs.AccelerationContract.{corrected_of, CorrectOk, CorrectedBy};
 ghost use Rattle.probe.specs.Probe.{Scaled, Counted};
 
+use acceleration::{GcrWorkspace, PairPlace};
+use correction::Aggregates;
 use refusal::Refusal;
 
 #[unsafe(no_mangle)]
@@ -27,7 +29,12 @@ pub extern "C" fn probe_restrict(
         (restrict_of count n (part map n w.now) (part residual n f.old))
         f.old f.new }
 {
-    correction::restrict(w, f, n, count, map, residual, out);
+    let aggregates = Aggregates {
+        rows: n,
+        count,
+        map,
+    };
+    correction::restrict(w, f, aggregates, residual, out);
 }
 
 #[unsafe(no_mangle)]
@@ -45,7 +52,12 @@ pub extern "C" fn probe_prolong(
         (prolong_of n (part map n w.now) (part coarse count f.old))
         f.old f.new }
 {
-    correction::prolong(w, f, n, count, map, coarse, out);
+    let aggregates = Aggregates {
+        rows: n,
+        count,
+        map,
+    };
+    correction::prolong(w, f, aggregates, coarse, out);
 }
 
 #[unsafe(no_mangle)]
@@ -63,7 +75,12 @@ pub extern "C" fn probe_add_prolonged(
         (add_plain_of n (prolong_of n (part map n w.now) (part coarse count f.old)) (part x n f.old))
         f.old f.new }
 {
-    correction::add_prolonged(w, f, n, count, map, coarse, x);
+    let aggregates = Aggregates {
+        rows: n,
+        count,
+        map,
+    };
+    correction::add_prolonged(w, f, aggregates, coarse, x);
 }
 
 #[unsafe(no_mangle)]
@@ -76,7 +93,8 @@ pub extern "C" fn probe_subtract(f: &mut [f64], n: usize, rhs: usize, product: u
     correction::subtract(f, n, rhs, product, out);
 }
 
-// Zero and the factor, or the number of the refusal.
+// Zero and the factor, or the number of the refusal. `counted` is its like for a count, which crosses as a u64: one function for both would
+// leave each export to convert, and `Scaled` and `Counted` to be said of it.
 fn scaled(factor: Result<f64, Refusal>, out: &mut [f64]) -> u64
     requires { 1 ≤ length out.old }
     ensures { Scaled factor out.old out.new result }
@@ -183,10 +201,15 @@ pub extern "C" fn probe_correct(
         (corrected_of (correct_of n krylov (memory_at used n directions images f.old)
         (pair_at n direction image f.old) (part residual n f.old) (part solution n f.old))) }
 {
+    let workspace = GcrWorkspace {
+        rows: n,
+        krylov,
+        directions,
+        images,
+    };
+    let pair = PairPlace { direction, image };
     counted(
-        acceleration::correct(
-            f, n, krylov, used, solution, directions, images, residual, direction, image,
-        ),
+        acceleration::correct(f, workspace, used, solution, residual, pair),
         count,
     )
 }

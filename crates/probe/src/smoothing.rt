@@ -1,4 +1,5 @@
-// The functions of `smoother`: the DIC diagonal, the sweeps, and their order. The places of the level cross as numbers.
+// The functions of `smoother`: the DIC diagonal, the sweeps, and their order. The places of the level cross as numbers,
+// and so does the kind of a smoother: C has no enum of the source's.
 ghost use Rattle.std.specs.Prelude.{◌≤◌, length};
 ghost use Rattle.refusal.specs.Outcome.{verdict_of};
 ghost use Rattle.store.specs.Region.{part};

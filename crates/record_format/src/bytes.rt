@@ -42,7 +42,8 @@ pub fn float_at(b: &[u8], at: usize) -> f64
 }
 
 // n numbers of four bytes each, which start at a place, to the start of a slice. This loop and those below are written out for each
-// kind of number: of a common one the width, the bytes and the call would be parameters, and it would be longer than they are.
+// kind of number: of a common one the width, the bytes and the call would be parameters, and it would be longer than they are. `n` stands
+// beside `out`, since an array that is read into is as long as the largest record and keeps what stands behind the n numbers (`Wrote`).
 pub fn read_words(b: &[u8], at: usize, n: usize, out: &mut [u32])
     requires { RoomFor (length out.old) at n }
     ensures { Wrote 0 n (words_at b.now at n) out.old out.new }

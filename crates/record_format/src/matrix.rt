@@ -1,4 +1,5 @@
-// MX: a matrix in compressed rows.
+// MX: a matrix in compressed rows. Its arrays are lent one by one: there is no heap, so that each has the largest size that a problem file
+// allows, and `read_matrix` of docs/PROMISES.md and its clause take them so.
 ghost use Rattle.std.specs.Prelude.{◌≡◌};
 ghost use Rattle.record_format.specs.Format.{matrix_ok, read_matrix};
 ghost use Rattle.record_format.specs.Answers.{MatrixIs};

@@ -1,4 +1,5 @@
-// SO: tolerances and limit of a solve, its right-hand side and its start.
+// SO: tolerances and limit of a solve, its right-hand side and its start. The two vectors are lent one by one, as the call of a solve
+// takes them; each is as long as the largest one of a problem file.
 ghost use Rattle.std.specs.Prelude.{◌≡◌, ◌≤◌};
 ghost use Rattle.record_format.specs.Format.{limits_at, solve_ok, read_solve};
 ghost use Rattle.record_format.specs.Answers.{ProblemIs};

@@ -1,4 +1,5 @@
-// FW and UP: a float for each entry of the matrix.
+// FW and UP: a float for each entry of the matrix. How many there are, bytes do not say, but the matrix before them; the array that is lent
+// has room for the most.
 ghost use Rattle.std.specs.Prelude.{◌≡◌};
 ghost use Rattle.record_format.specs.Format.{values_ok, read_values};
 ghost use Rattle.record_format.specs.Answers.{ValuesAre};

@@ -1,4 +1,5 @@
-// Records written over the start of bytes that are lent.
+// Records written over the start of bytes that are lent. A matrix and a solve come as the slices that `write_matrix` and `write_solve` of
+// docs/PROMISES.md take, beside the bytes to write to.
 ghost use Rattle.std.specs.Prelude.{◌≡◌, [], ◌∷◌, ◌++◌, length};
 ghost use Rattle.refusal.specs.Outcome.{verdict_of};
 ghost use Rattle.store.specs.Region.{Wrote};
@@ -177,38 +178,28 @@ pub fn write_solve(
 fn smoother_number(s: MultigridSmoother) -> u8
     ensures { result ≡ smoother_number s }
 {
-    match s {
-        MultigridSmoother::GaussSeidel => 0,
-        MultigridSmoother::SymmetricGaussSeidel => 1,
-        MultigridSmoother::DicGaussSeidel => 2,
-    }
+    s as u8
 }
 
 // The same of a norm.
 fn residual_norm_number(n: MultigridResidualNorm) -> u8
     ensures { result ≡ residual_norm_number n }
 {
-    match n {
-        MultigridResidualNorm::AbsoluteL2 => 0,
-        MultigridResidualNorm::NormalizedL1 => 1,
-    }
+    n as u8
 }
 
 // The same of a coarse solver.
 fn coarse_solver_number(s: MultigridCoarseSolver) -> u8
     ensures { result ≡ coarse_solver_number s }
 {
-    match s {
-        MultigridCoarseSolver::PcgDic => 0,
-        MultigridCoarseSolver::Cholesky => 1,
-    }
+    s as u8
 }
 
 // The number of a yes or no.
 fn flag_number(b: bool) -> u8
     ensures { result ≡ flag_number b }
 {
-    if b { 1 } else { 0 }
+    u8::from(b)
 }
 
 // The mark, the smoother and the norm of controls.

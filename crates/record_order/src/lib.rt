@@ -12,6 +12,8 @@ use record_format::{Mark, is_marked};
 use refusal::Refusal;
 
 // Which records have come, and the sizes of the matrix among them. `calls` says that an UP or an SO has come, so that the build is made.
+// The sizes stand beside `matrix` and in no `Option`: `what_next` and the theorem on room (proofs/Room.antt) are of every `Came`, and who
+// reads the sizes would have to ask again for a matrix, which `allows` has asked.
 #[derive(Clone, Copy)]
 pub struct Came {
     pub controls: bool,
@@ -99,23 +101,14 @@ impl Came {
 fn mark_of(b: &[u8]) -> Option<Mark>
     ensures { result ≡ named_of b.now }
 {
-    if is_marked(b, Mark::Controls) {
-        return Some(Mark::Controls);
-    }
-    if is_marked(b, Mark::Matrix) {
-        return Some(Mark::Matrix);
-    }
-    if is_marked(b, Mark::Weights) {
-        return Some(Mark::Weights);
-    }
-    if is_marked(b, Mark::Update) {
-        return Some(Mark::Update);
-    }
-    if is_marked(b, Mark::Solve) {
-        Some(Mark::Solve)
-    } else {
-        None
-    }
+    let marks = [
+        Mark::Controls,
+        Mark::Matrix,
+        Mark::Weights,
+        Mark::Update,
+        Mark::Solve,
+    ];
+    marks.iter().copied().find(|&mark| is_marked(b, mark))
 }
 
 // How many bytes of a record tell its size.
@@ -129,7 +122,10 @@ fn head(mark: Mark) -> usize
     }
 }
 
-// The size of an MX record that starts with these bytes; 0 where it would be too large.
+// The sizes below are 0 where a record would be too large, and no `Option`: `record_size` of the specification has them so, and no record
+// is empty.
+
+// The size of an MX record that starts with these bytes.
 fn matrix_size(b: &[u8]) -> u64
     ensures { result ≡ cond (sizes_ok (u32_at b.now 2) (u32_at b.now 6)) (matrix_length (u32_at b.now 2) (u32_at b.now 6)) 0 }
 {
@@ -142,21 +138,21 @@ fn matrix_size(b: &[u8]) -> u64
     }
 }
 
-// The size of an FW or UP record; 0 where it would be too large.
+// The size of an FW or UP record.
 fn values_size(entries: u64) -> u64
     ensures { result ≡ cond (leb entries 320) (values_length entries) 0 }
 {
     if entries <= 320 { 2 + 8 * entries } else { 0 }
 }
 
-// The size of an SO record; 0 where it would be too large.
+// The size of an SO record.
 fn solve_size(rows: u64) -> u64
     ensures { result ≡ cond (leb rows 64) (solve_length rows) 0 }
 {
     if rows <= 64 { 26 + 16 * rows } else { 0 }
 }
 
-// The size of a record that starts with these bytes; 0 where it would be too large.
+// The size of a record that starts with these bytes.
 #[tactic(auto, unfolding(crate::specs::Order::record_size))]
 fn size(c: Came, b: &[u8], mark: Mark) -> u64
     ensures { result ≡ record_size c b.now mark }

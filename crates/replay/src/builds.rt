@@ -1,7 +1,7 @@
 // A list of builds beside the Rust's answers.
 use lists::kinds::Answer;
-use lists::stores::Extent;
-use lists::{Problem, kinds, reading, stores};
+use lists::stores::{Extent, sum, view_end};
+use lists::{Reader, Stores, kinds, reading};
 use options::Handle;
 use refusal::Refusal;
 use std::io;
@@ -24,118 +24,61 @@ fn told(built: Result<Handle, Refusal>) -> Answer {
     }
 }
 
-// Whether something is as the list has it, and where the next number stands, which is read on where it is not, too.
-#[derive(Clone, Copy)]
-struct Agreed {
-    same: bool,
-    next: usize,
-}
-
-// Whether the answer is the one that is due, which starts at `at`.
-fn same_answer(text: &[u8], at: usize, a: Answer) -> Agreed {
-    let number = reading::number(text, at);
-    let level = reading::number(text, number.next);
-    let row = reading::number(text, level.next);
-    let levels = reading::number(text, row.next);
-    Agreed {
-        same: (a.number == number.value)
-            & (a.level == level.value)
-            & (a.row == row.value)
-            & (a.levels == levels.value),
-        next: levels.next,
+// The answer that is due, which stands next.
+fn due(input: &mut Reader) -> Answer {
+    Answer {
+        number: input.number(),
+        level: input.number(),
+        row: input.number(),
+        levels: input.number(),
     }
 }
 
-// Whether so many words of statistics are the rows of each level, which start at `at`, with counters of zero.
-fn same_statistics(text: &[u8], at: usize, levels: u64, s: &[u64], lent: usize) -> Agreed {
-    let mut left = stores::statistics_sum(s, lent);
-    let mut next = at;
+// Whether the statistics are the rows of each level, which stand next, with counters of zero.
+fn same_statistics(input: &mut Reader, levels: u64, stores: &Stores) -> bool {
+    let s = &stores.statistics;
+    let mut left = sum(stores.told());
     let mut k = 0;
     for _ in 0..levels {
-        if k >= s.len() {
-            return Agreed { same: false, next };
+        let rows = input.number();
+        if k >= s.len() || s[k] != rows {
+            return false;
         }
-        let rows = reading::number(text, next);
-        if s[k] != rows.value {
-            return Agreed { same: false, next };
-        }
-        left = left.wrapping_sub(rows.value);
-        next = rows.next;
+        left = left.wrapping_sub(rows);
         k += 5;
     }
-    Agreed {
-        same: left == 0,
-        next,
-    }
+    left == 0
 }
 
 // What is compared: the whole hierarchy of an accepted build, which is nothing where it has no levels, and all that was lent to one that
 // refuses, since that leaves zeros.
-fn compared(p: Problem, a: Answer, words: &[u32]) -> Extent {
+fn compared(a: Answer, stores: &Stores) -> Extent {
     if a.number != 0 {
-        return Extent {
-            words: p.words,
-            floats: p.floats,
-        };
+        return stores.lent;
     }
     if a.levels == 0 {
-        return Extent {
-            words: 0,
-            floats: 0,
-        };
+        return Extent::NONE;
     }
-    stores::view_end(words, a.levels)
+    view_end(&stores.words, a.levels)
 }
 
-// Whether an answer and the stores that it left are as the list has them, which ends at `size`.
-fn agrees(
-    text: &[u8],
-    size: usize,
-    p: Problem,
-    a: Answer,
-    words: &[u32],
-    floats: &[f64],
-    statistics: &[u64],
-) -> bool {
-    let told = same_answer(text, p.next, a);
-    let rows = same_statistics(text, told.next, a.levels, statistics, p.statistics);
-    let due = reading::number(text, rows.next);
-    let sum = stores::checksum(compared(p, a, words), words, floats);
-    told.same & rows.same & (sum == due.value) & (due.next == size)
+// Whether an answer and the stores that it left are as the list has them, whose text ends with them.
+fn agrees(input: &mut Reader, a: Answer, stores: &Stores) -> bool {
+    let answer = a == due(input);
+    let rows = same_statistics(input, a.levels, stores);
+    let left = stores.checksum(compared(a, stores)) == input.number();
+    answer & rows & left & input.ends()
 }
 
-// The build in a text of that size, in stores that are lent: it is counted under its answer.
-fn compare(
-    text: &[u8],
-    size: usize,
-    words: &mut [u32],
-    floats: &mut [f64],
-    statistics: &mut [u64],
-    counts: &mut [u64; 193],
-) -> bool {
-    let r = lists::from_text(text, words, floats, statistics);
-    let p = r.problem;
-    let built = r.built;
-    let a = told(built);
-    kinds::count(counts, a);
-    agrees(text, size, p, a, words, floats, statistics)
-}
-
-// The next build of the list. The stores are full of noise before.
+// The next build of the list: it is counted under its answer. The stores are full of noise before.
 fn next_build(rt: &impl Input, counts: &mut [u64; 193]) -> io::Result<bool> {
     let mut text = [0u8; 65536];
-    let mut words = [0xa5a5_a5a5u32; 8192];
-    let mut floats = [-1.5e99; 8192];
-    let mut statistics = [0xa5a5_a5a5_a5a5_a5a5u64; 640];
     let size = reading::record(rt, &mut text)?;
-    Ok(compare(
-        &text,
-        size,
-        &mut words,
-        &mut floats,
-        &mut statistics,
-        counts,
-    ))
+    let mut input = Reader::over(&text, size);
+    let mut stores = Stores::noise();
+    let a = told(lists::from_text(&mut input, &mut stores));
+    kinds::count(counts, a);
+    Ok(agrees(&mut input, a, &stores))
 }
 
 // The lines that the program writes for the list.

@@ -7,30 +7,27 @@ ghost use Rattle.residual_norm.specs.Turns.{squares_of, sizes_of};
 use crate::rows::sum_rows;
 use options::MultigridResidualNorm;
 
-// The squares of the n elements at x, added up.
-fn sum_squares(f: &[f64], n: usize, x: usize) -> f64
-    requires { x + n ≤ length f.now }
-    ensures { result ≡ squares_of n (part x n f.now) }
+// The squares of the elements of v, added up.
+fn sum_squares(v: &[f64]) -> f64
+    ensures { result ≡ squares_of (length v.now) v.now }
 {
-    sum_rows(n, |row| f[x + row] * f[x + row])
+    sum_rows(v.len(), |row| v[row] * v[row])
 }
 
 // Their absolute values, added up.
-fn sum_sizes(f: &[f64], n: usize, x: usize) -> f64
-    requires { x + n ≤ length f.now }
-    ensures { result ≡ sizes_of n (part x n f.now) }
+fn sum_sizes(v: &[f64]) -> f64
+    ensures { result ≡ sizes_of (length v.now) v.now }
 {
-    sum_rows(n, |row| float::abs(f[x + row]))
+    sum_rows(v.len(), |row| float::abs(v[row]))
 }
 
-// The norm of the residual.
-fn value(f: &[f64], n: usize, residual: usize, norm: MultigridResidualNorm, factor: f64) -> f64
-    requires { residual + n ≤ length f.now }
-    ensures { result ≡ value_of norm n (part residual n f.now) factor }
+// The norm of a residual.
+fn value(residual: &[f64], norm: MultigridResidualNorm, factor: f64) -> f64
+    ensures { result ≡ value_of norm (length residual.now) residual.now factor }
 {
     match norm {
-        MultigridResidualNorm::AbsoluteL2 => float::sqrt(sum_squares(f, n, residual)),
-        MultigridResidualNorm::NormalizedL1 => sum_sizes(f, n, residual) / factor,
+        MultigridResidualNorm::AbsoluteL2 => float::sqrt(sum_squares(residual)),
+        MultigridResidualNorm::NormalizedL1 => sum_sizes(residual) / factor,
     }
 }
 
@@ -45,7 +42,7 @@ pub fn measure(
     requires { residual + n ≤ length f.now }
     ensures { result ≡ measure_of norm n (part residual n f.now) factor }
 {
-    let value = value(f, n, residual, norm, factor);
+    let value = value(&f[residual..residual + n], norm, factor);
     if float::is_finite(value) {
         Some(value)
     } else {

@@ -9,20 +9,18 @@ ghost use Rattle.residual_norm.specs.Turns.{spread_of, spreads_of};
 use crate::rows::sum_rows;
 use options::MultigridResidualNorm;
 
-// The n elements at x, added up.
-fn sum(f: &[f64], n: usize, x: usize) -> f64
-    requires { x + n ≤ length f.now }
-    ensures { result ≡ sum_of n (at (part x n f.now)) }
+// The elements of v, added up.
+fn sum(v: &[f64]) -> f64
+    ensures { result ≡ sum_of (length v.now) (at v.now) }
 {
-    sum_rows(n, |row| f[x + row])
+    sum_rows(v.len(), |row| v[row])
 }
 
-// The mean of the n elements at x.
-fn mean(f: &[f64], n: usize, x: usize) -> f64
-    requires { x + n ≤ length f.now }
-    ensures { result ≡ mean_of n (part x n f.now) }
+// Their mean.
+fn mean(v: &[f64]) -> f64
+    ensures { result ≡ mean_of (length v.now) v.now }
 {
-    sum(f, n, x) / std::num::nearest_u64_to_f64(n as u64)
+    sum(v) / std::num::nearest_u64_to_f64(v.len() as u64)
 }
 
 // How far a row's product and right-hand side lie from its product with the mean alone.
@@ -63,7 +61,7 @@ pub fn normalization(
     match norm {
         MultigridResidualNorm::AbsoluteL2 => 1.0,
         MultigridResidualNorm::NormalizedL1 => {
-            let mean = mean(f, n, x);
+            let mean = mean(&f[x..x + n]);
             float::max_num(sum_spreads(f, n, rhs, product, rowsums, mean), 1e-300)
         }
     }

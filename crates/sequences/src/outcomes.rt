@@ -1,9 +1,9 @@
-// How many updates and solves there are of each kind of answer. Kinds are numbers, as recall::Agreed has them: the places of the counters
+// How many updates and solves there are of each kind of answer. Kinds are numbers, as recall::Told has them: the places of the counters
 // and the order of the lines, into which an enum would be made for each use.
 use lists::kinds;
 use std::io;
 
-// One more of a kind, as recall::Agreed has them.
+// One more of a kind, as recall::Told has them.
 pub fn count(kinds: &mut [u64; 98], kind: usize) {
     if let Some(count) = kinds.get_mut(kind) {
         *count = count.saturating_add(1);

@@ -2,7 +2,7 @@
 // report, the solution and the statistics, floats by their bits. The statistics are held as numbers, five to a record.
 #![tactic(auto)]
 
-use lists::calls;
+use lists::{Matrix, Source, calls};
 use options::{
     Handle, MultigridCoarseSolver, MultigridOptions, MultigridResidualNorm, MultigridSmoother,
 };
@@ -66,16 +66,18 @@ fn main(rt: HostRuntime) -> io::Result<()> {
     let mut words = [0u32; 178];
     let mut floats = [0.0; 212];
     let mut statistics = [0u64; 320];
-    match calls::new(
-        2,
-        &offsets,
-        &columns,
-        &values,
-        controls(),
-        &mut words,
-        &mut floats,
-        &mut statistics,
-    ) {
+    let matrix = Matrix {
+        offsets: &offsets,
+        columns: &columns,
+        values: &values,
+    };
+    let source = Source {
+        rows: 2,
+        matrix,
+        weights: None,
+        options: controls(),
+    };
+    match calls::new(source, &mut words, &mut floats, &mut statistics) {
         Ok(handle) => press(&rt, handle, &words, &mut floats, &mut statistics),
         Err(q) => result_lines::refused(&rt, q),
     }

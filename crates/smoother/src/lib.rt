@@ -13,6 +13,8 @@ use options::MultigridSmoother;
 use refusal::Refusal;
 
 // Where the vectors of a level stand in the floats: right-hand side, x, work, which also holds the residual, correction and product.
+// That they lie one after the other behind the matrix and the DIC data, within the floats, is `SmoothOk` in the contracts of the sweeps: it speaks of the
+// words, the floats' length, s and dic beside these places, so it is no invariant of this struct.
 #[derive(Clone, Copy)]
 pub struct LevelScratch {
     pub rhs: usize,

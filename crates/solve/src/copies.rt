@@ -14,7 +14,7 @@ pub fn copy_out(x: &mut [f64], f: &[f64], from: usize)
     }
 }
 
-// Right-hand side and start into the store.
+// Right-hand side and start into the store, from the two arrays that C lends.
 pub fn enter(f: &mut [f64], rhs: &[f64], x: &[f64], to: usize, start: usize)
     requires { EnterOk (length f.old) (length rhs.now) (length x.now) to start }
     ensures { Entered f.old f.new rhs.now x.now to start }

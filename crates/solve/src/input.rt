@@ -7,6 +7,8 @@ ghost use Rattle.solve.specs.Steps.{asked_of};
 use refusal::Refusal;
 use solver::LinearSolverOptions;
 
+// Right-hand side and start are two slices in both functions: C lends two arrays, and each is asked for its own length.
+
 // Question 21: a limit above zero, tolerances finite and not below zero, both vectors finite.
 fn input_fits(s: LinearSolverOptions, rhs: &[f64], x: &[f64]) -> bool
     ensures { result ≡ input_ok s rhs.now x.now }

@@ -7,7 +7,7 @@ ghost use Rattle.solve.specs.Contract.{uncounted_run, refused_run, empty_run, So
 ghost use Rattle.iterations.specs.Contract.{Ran};
 ghost use Rattle.solve.specs.Steps.{SolveOk, AttemptOk, BeginOk, begun_at, attempt_at};
 
-use iterations::{Regions, iteration, places};
+use iterations::{Limits, Regions, iteration, places};
 use options::Handle;
 use refusal::Refusal;
 use residual_norm::{measure, normalization};
@@ -37,16 +37,18 @@ fn attempt(
     if !float::is_finite(factor) {
         return Err(refusal::BAD_NORMALIZATION);
     }
-    match measure::measure(f, g.rows, g.residual, norm, factor) {
-        Some(initial) => {
-            let threshold = solver::threshold(s.absolute_tolerance, s.relative_tolerance, initial);
-            if initial <= threshold {
-                return Ok(solver::report(LinearSolverStatus::Converged, 0, initial, initial));
-            }
-            iterations::iterate(h, w, f, t, g, factor, initial, threshold, s.max_iterations)
-        }
-        None => Err(refusal::BAD_RESIDUAL),
+    let initial = measure::measure(f, g.rows, g.residual, norm, factor).ok_or(
+        refusal::BAD_RESIDUAL,
+    )?;
+    let threshold = solver::threshold(s.absolute_tolerance, s.relative_tolerance, initial);
+    if initial <= threshold {
+        return Ok(solver::report(LinearSolverStatus::Converged, 0, initial, initial));
     }
+    let limits = Limits {
+        threshold,
+        iterations: s.max_iterations,
+    };
+    iterations::iterate(h, w, f, t, g, factor, initial, limits)
 }
 
 // What a solve that counted on no level gives its call.
@@ -80,6 +82,8 @@ fn empty() -> SolveRun
         relative_residual: 0.0,
     }))
 }
+
+// Here and in `solve` rhs and x are two slices: two arrays that C lends, the one to read, the other to write.
 
 // The solve of an input that has passed, on copies and from counters at zero: the solution is written where it is accepted, and only there.
 fn begin(

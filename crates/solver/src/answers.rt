@@ -3,6 +3,8 @@ use crate::solver::LinearSolveReport;
 use options::Handle;
 use refusal::Refusal;
 
+// Both hold arrays for the 128 levels that there can be, since the solver has no heap; behind the levels that there are stand zeros.
+
 // What a build gives its call: its answer, and the rows of each level, zeros behind them and where it is refused.
 #[derive(Clone, Copy)]
 pub struct BuildRun {

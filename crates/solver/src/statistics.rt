@@ -29,6 +29,8 @@ impl MultigridLevelStatistics {
         }
     }
 
+    // A method for each of the four counters, since no argument can name a field.
+
     // The record with so many visits more.
     pub fn add_visits(self, more: u64) -> MultigridLevelStatistics
         ensures { result ≡ add_visits more self }

@@ -5,6 +5,7 @@ ghost use Rattle.update.specs.Updated.{updated_at, UpdateDone};
 ghost use Rattle.update.specs.ShadowContract.{With};
 ghost use Rattle.update.specs.Steps.{CommitOk, Committed, AttemptOk, attempt_of, Attempted, UpdateOk};
 
+use crate::questions::Lent;
 use crate::{questions, shadow};
 use options::{Handle, MultigridResidualNorm, MultigridSmoother};
 use refusal::Refusal;
@@ -39,16 +40,14 @@ fn attempt(
     kind: MultigridSmoother,
     norm: MultigridResidualNorm,
     levels: u64,
-    offsets: &[u32],
-    columns: &[u32],
-    values: &[f64],
+    x: Lent,
 ) -> Result<(), Refusal>
     requires { AttemptOk levels w.now (length f.old) }
-    ensures { With kind norm (λ o. Attempted levels w.now f.old f.new (attempt_of o levels w.now f.old offsets.now columns.now values.now) result) }
+    ensures { With kind norm (λ o. Attempted levels w.now f.old f.new (attempt_of o levels w.now f.old x.entry.offsets.now x.entry.columns.now x.entry.values.now) result) }
 {
     let image = index_check::shadow_start(w, levels);
-    questions::asked(w, f, offsets, columns, values, image)?;
-    shadow::shadow(w, f, kind, levels, values, image)?;
+    questions::asked(w, f, x, image)?;
+    shadow::shadow(w, f, kind, levels, x.values, image)?;
     commit(w, f, levels, image);
     shadow::sums(w, f, norm, image);
     Ok(())
@@ -67,18 +66,14 @@ pub fn update(
     requires { UpdateOk h w.now (length f.old) }
     ensures { UpdateDone h w.now f.old f.new (updated_at h w.now f.old offsets.now columns.now values.now) result }
 {
-    if h.levels == 0 {
-        return questions::asked_empty(offsets, columns, values);
-    }
-    let options = h.options;
-    attempt(
-        w,
-        f,
-        options.smoother,
-        options.residual_norm,
-        h.levels,
+    let x = Lent {
         offsets,
         columns,
         values,
-    )
+    };
+    if h.levels == 0 {
+        return questions::asked_empty(x);
+    }
+    let options = h.options;
+    attempt(w, f, options.smoother, options.residual_norm, h.levels, x)
 }

@@ -9,7 +9,6 @@ use Rattle.coefficients.specs.Update.{Coefficients}
 use Rattle.coefficients.specs.Contract.{update_with, FacesTaken, UpdateOk}
 use Rattle.cholesky.specs.Triangle.{tri}
 use Rattle.galerkin.specs.Contract.{galerkin_of, SumsOk, FacesOk}
-use Rattle.galerkin.specs.Contract as galerkin-contract
 use Rattle.hierarchy.specs.Level.{Shape, Numbers}
 use Rattle.hierarchy.specs.Refresh.{needs_dic, numbers_of}
 use Rattle.layout.specs.declared.Place.{Place}
@@ -22,6 +21,10 @@ use Rattle.update_levels.specs.StandingContract.{RowsOk, bare_at}
 -- What holds under all options whose smoother needs DIC data, or none: of the options a renewal reads no more.
 abbrev pub Under : Bool → (MultigridOptions → Type 0) → Type 0
 Under dic holds = (o : MultigridOptions) → needs_dic o.smoother ≡ dic → holds o
+
+-- What holds under all options: the last level reads none of them.
+abbrev pub Always : (MultigridOptions → Type 0) → Type 0
+Always holds = (o : MultigridOptions) → holds o
 
 -- ---- one level
 
@@ -103,11 +106,3 @@ pub record CoarseDone (w : List ℕ) (old F G : List Float) (p t : Place) (r : B
   pub values : part t.values t.entries G ≡ coarse_at w old p t
   pub finite : r ≡ all_finite t.entries (coarse_at w old p t)
   pub kept : Kept t.values F G
-
--- The values of the level at t, summed from values that are given.
-pub record FirstOk (w : List ℕ) (size count : ℕ) (p t : Place) : Type 0 where
-  pub level : LevelOk w size p 0
-  pub sums : galerkin-contract.GivenOk w size count p.entries p.positions t.entries t.values
-  pub faces : FacesOk w size t.faces t.uppers t.lowers t.entries t.values
-  pub after : p.factor ≤ t.values
-  pub many : p.entries ≤ count

@@ -1,7 +1,8 @@
 // The loop over the levels of `update` of hierarchy.rs: new numbers for each level in turn, and the values of the next.
-ghost use Rattle.std.specs.Prelude.{◌+◌, ◌-◌, length};
+ghost use Rattle.std.specs.Prelude.{◌-◌, ◌≤◌, length, option_copied, unwrap_or};
+ghost use Rattle.std.specs.Option.{ForSome};
 ghost use Rattle.store.specs.Region.{part};
-ghost use Rattle.update_levels.specs.Level.{Under, FirstOk, FacesReady};
+ghost use Rattle.update_levels.specs.Level.{Under, FacesReady};
 ghost use Rattle.layout.specs.Layout.{locate};
 ghost use Rattle.update_levels.specs.Steps.{TurnOk, Turned, RestOk, StartOk, Renewed};
 
@@ -9,33 +10,23 @@ use crate::level;
 use layout::Place;
 use refusal::Refusal;
 
-// A level that is not the last, at p, and the values of the next, at t: question 18.
-fn turn(w: &[u32], f: &mut [f64], dic: bool, p: Place, t: Place, level: u64) -> Result<(), Refusal>
-    requires { TurnOk w.now (length f.old) p t }
-    ensures { Under dic (λ o. Turned w.now (part p.values p.entries f.old) f.old f.new o p t level result) }
-{
-    level::renew_level(w, f, dic, p, false, 0, level)?;
-    if !level::coarse_values(w, f, p, t) {
-        return Err(refusal::BAD_COARSE_VALUE);
-    }
-    Ok(())
-}
-
-// The same of the finest level, from values that are given; those of the faces stand there already.
-fn first_turn(
+// A level that is not the last, at p, and the values of the next, at t: question 18. Only the finest level's values are given.
+fn turn(
     w: &[u32],
-    given: &[f64],
+    given: Option<&[f64]>,
     f: &mut [f64],
     dic: bool,
     p: Place,
     t: Place,
+    level: u64,
 ) -> Result<(), Refusal>
-    requires first_ok { FirstOk w.now (length f.old) (length given.now) p t }
-    requires faces_ready { FacesReady w.now given.now f.old p }
-    ensures { Under dic (λ o. Turned w.now given.now f.old f.new o p t 0 result) }
+    requires turn_ok { TurnOk w.now (length f.old) p t }
+    requires many { ForSome (option_copied given) (λ values. p.entries ≤ length values) }
+    requires faces_ready { ForSome (option_copied given) (λ values. FacesReady w.now values f.old p) }
+    ensures { Under dic (λ o. Turned w.now (unwrap_or (option_copied given.entry) (part p.values p.entries f.old)) f.old f.new o p t level result) }
 {
-    level::first_level(w, given, f, dic, p, 0)?;
-    if !level::coarse_given(w, given, f, p, t) {
+    level::inner_level(w, given, f, dic, p, level)?;
+    if !level::coarse_values(w, given, f, p, t) {
         return Err(refusal::BAD_COARSE_VALUE);
     }
     Ok(())
@@ -61,12 +52,12 @@ fn renew_rest(
     while level + 1 < levels {
         a = layout::words_end(w, a);
         let t = layout::place_at(w, a, p.factor);
-        turn(w, f, dic, p, t, level)?;
+        turn(w, None, f, dic, p, t, level)?;
         p = t;
         level += 1;
     }
     let coupled = store::wide(w[a + 2]);
-    level::renew_level(w, f, dic, p, true, coupled, level)
+    level::last_level(w, f, p, coupled, level)
 }
 
 // So many levels, whose floats start at `image`, from the values of the finest, which are given; `dic` tells whether the smoother needs
@@ -91,6 +82,6 @@ pub fn renew(
     }
     let a = layout::words_end(w, 0);
     let t = layout::place_at(w, a, p.factor);
-    first_turn(w, given, f, dic, p, t)?;
+    turn(w, Some(given), f, dic, p, t, 0)?;
     renew_rest(w, f, dic, levels, 1, a, t)
 }

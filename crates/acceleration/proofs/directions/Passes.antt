@@ -5,7 +5,7 @@ use Rattle.std.specs.Option.{ok_or}
 use mathlib.Core.Path.{◌≡◌, refl, sym, ◌∙◌}
 use mathlib.Core.List.{List, ◌∷◌}
 use Prim.Native.Nat.{ℕ, zero, suc, ◌+◌, ◌-◌, ◌*◌, ◌≤◌, ◌<◌}
-use native.Mathlib.Nat.{suc-mul}
+use native.Mathlib.Nat.{add-zero, zero-mul, suc-mul, mul-le-mul_right}
 use native.Mathlib.Omega.{arith}
 use lib.Ieee.{Float}
 use lib.ListN.{length}
@@ -91,81 +91,96 @@ module _ {F : List Float} {n p q direction image : ℕ} {d : Option Float} (ok :
 
 -- ---- the loop
 
--- The invariant: after `index` pairs, p and q stand at the next, and the pass over what is left gives the whole.
-pub record Passing (n used index p₀ q₀ p q direction image : ℕ) (F G : List Float) : Type 0 where
-  pub left : pass_of n (memory_at (used - index) n p q F) (pair_at n direction image G)
-      ≡ pass_of n (memory_at used n p₀ q₀ F) (pair_at n direction image F)
+-- The invariant: after `index` pairs, the pass over what is left gives the whole.
+pub record Passing (n used index p q direction image : ℕ) (F G : List Float) : Type 0 where
+  pub left : pass_of n (memory_at (used - index) n (p + index * n) (q + index * n) F) (pair_at n direction image G)
+      ≡ pass_of n (memory_at used n p q F) (pair_at n direction image F)
   pub frame : Between direction (image + n) F G
-  pub ps : p + (used - index) * n ≤ direction
-  pub qs : q + (used - index) * n ≤ direction
+  pub ps : p + used * n ≤ direction
+  pub qs : q + used * n ≤ direction
   pub directions : direction + n ≤ image
   pub images : image + n ≤ length F
 
 -- At the start the whole is left.
 pub passing_start : {F : List Float} {n used p q direction image : ℕ} → PassOk (length F) n used p q direction image
-    → Passing n used 0 p q p q direction image F F
-passing_start {F} {n} {used} ok =
-    let z : used - 0 ≡ used = omega arith in
+    → Passing n used 0 p q direction image F F
+passing_start {F} {n} {used} {p} {q} ok =
+    let none : 0 * n ≡ 0 = zero-mul n in
+    let all : used - 0 ≡ used = omega arith in
     record {
-      left = rw z;
+      left = rw (all, none, add-zero p, add-zero q);
       frame = between_self;
-      ps = rw z ok.ps;
-      qs = rw z ok.qs;
+      ps = ok.ps;
+      qs = ok.qs;
       directions = ok.directions;
       images = ok.images;
     }
 
-module _ {F G : List Float} {n used index p₀ q₀ p q direction image : ℕ}
-    (s : Passing n used index p₀ q₀ p q direction image F G) (h : index < used) where
+module _ {F G : List Float} {n used index p q direction image : ℕ}
+    (s : Passing n used index p q direction image F G) (h : index < used) where
   next : used - index ≡ suc (used - (index + 1))
   next = omega arith
 
-  rest : (p : ℕ) → p + (used - index) * n ≤ direction → p + n + (used - (index + 1)) * n ≤ direction
-  rest p e = let m = suc-mul (used - (index + 1)) n in omega (arith, rw next at e)
+  -- What lies before the next pair and the pair itself lie within the memory.
+  pub passing_within : index * n + n ≤ used * n
+  passing_within =
+      let m = suc-mul index n in
+      let few : suc index ≤ used = omega arith in
+      let l = mul-le-mul_right n few in
+      omega arith
 
-  -- The pair at p and q lies below the new one.
-  pub passing_ok : StepOk (length G) n p q direction image
+  -- The next pair lies below the new one.
+  pub passing_ok : StepOk (length G) n (p + index * n) (q + index * n) direction image
   passing_ok =
-      let c = rest p s.ps in
-      let d = rest q s.qs in
-      record { ps = omega arith; qs = omega arith; directions = s.directions; images = omega (arith, s.frame.size, s.images) }
+      let m = passing_within in
+      record {
+        ps = omega (arith, s.ps);
+        qs = omega (arith, s.qs);
+        directions = s.directions;
+        images = omega (arith, s.frame.size, s.images);
+      }
 
   opened : (k : ℕ) → used - index ≡ suc k
-      → pass_of n (pair_at n p q F ∷ memory_at k n (p + n) (q + n) F) (pair_at n direction image G)
-      ≡ pass_of n (memory_at used n p₀ q₀ F) (pair_at n direction image F)
+      → pass_of n (pair_at n (p + index * n) (q + index * n) F ∷ memory_at k n (p + index * n + n) (q + index * n + n) F) (pair_at n direction image G)
+      ≡ pass_of n (memory_at used n p q F) (pair_at n direction image F)
   unfolding memory_at
   opened k e = rw e at s.left
 
-  module _ {H : List Float} {r : Result Unit Refusal} (d : Stepped n direction image (orthogonal_to n (pair_at n p q G) (pair_at n direction image G)) G H r) where
-    stepped : made_of r (pair_at n direction image H) ≡ orthogonal_to n (pair_at n p q F) (pair_at n direction image G)
-    stepped = d.is ∙ rw (s.frame.below p n passing_ok.ps, s.frame.below q n passing_ok.qs)
+  module _ {H : List Float} {r : Result Unit Refusal}
+      (d : Stepped n direction image (orthogonal_to n (pair_at n (p + index * n) (q + index * n) G) (pair_at n direction image G)) G H r) where
+    stepped : made_of r (pair_at n direction image H)
+        ≡ orthogonal_to n (pair_at n (p + index * n) (q + index * n) F) (pair_at n direction image G)
+    stepped = d.is ∙ rw (s.frame.below (p + index * n) n passing_ok.ps, s.frame.below (q + index * n) n passing_ok.qs)
 
     -- A pair that passes.
-    pub passing_on : r ≡ Ok tt → Passing n used (index + 1) p₀ q₀ (p + n) (q + n) direction image F H
+    pub passing_on : r ≡ Ok tt → Passing n used (index + 1) p q direction image F H
     unfolding pass_of
     passing_on t =
-        let e : accepted (pair_at n direction image H) ≡ orthogonal_to n (pair_at n p q F) (pair_at n direction image G) = rw t at stepped in
+        let e : accepted (pair_at n direction image H) ≡ orthogonal_to n (pair_at n (p + index * n) (q + index * n) F) (pair_at n direction image G) = rw t at stepped in
+        let m = suc-mul index n in
+        let up : p + index * n + n ≡ p + (index + 1) * n = omega arith in
+        let uq : q + index * n + n ≡ q + (index + 1) * n = omega arith in
         record {
-          left = rw (← e) at (opened (used - (index + 1)) next);
+          left = rw (← e, up, uq) at (opened (used - (index + 1)) next);
           frame = between_on s.frame d.frame;
-          ps = rest p s.ps;
-          qs = rest q s.qs;
+          ps = s.ps;
+          qs = s.qs;
           directions = s.directions;
           images = s.images;
         }
 
     -- A pair that is refused ends the pass.
     pub passing_no : {reason : Refusal} → r ≡ Err reason
-        → Stepped n direction image (pass_of n (memory_at used n p₀ q₀ F) (pair_at n direction image F)) F H (Err reason)
+        → Stepped n direction image (pass_of n (memory_at used n p q F) (pair_at n direction image F)) F H (Err reason)
     unfolding pass_of
     passing_no {reason} t =
-        let e : refused reason ≡ orthogonal_to n (pair_at n p q F) (pair_at n direction image G) = rw t at stepped in
+        let e : refused reason ≡ orthogonal_to n (pair_at n (p + index * n) (q + index * n) F) (pair_at n direction image G) = rw t at stepped in
         record { is = rw (← e) at (opened (used - (index + 1)) next); frame = between_on s.frame d.frame }
 
 -- At the end nothing is left.
-pub passing_end : {F G : List Float} {n used index p₀ q₀ p q direction image : ℕ}
-    → Passing n used index p₀ q₀ p q direction image F G → used ≤ index
-    → Stepped n direction image (pass_of n (memory_at used n p₀ q₀ F) (pair_at n direction image F)) F G (Ok tt)
+pub passing_end : {F G : List Float} {n used index p q direction image : ℕ}
+    → Passing n used index p q direction image F G → used ≤ index
+    → Stepped n direction image (pass_of n (memory_at used n p q F) (pair_at n direction image F)) F G (Ok tt)
 unfolding pass_of memory_at
 passing_end {F} {G} {n} {used} {index} s h =
     let z : used - index ≡ 0 = omega arith in

@@ -13,7 +13,7 @@ pub levels-requires : goal.levels-requires
 levels-requires c = levels_ok c.requires c.workspace_at-t.ensures refl refl c.load.ensures c.symmetric.ensures c.if-not-symmetric.false
 
 pub returns : goal.returns
-returns c = begun_levels c.requires c.workspace_at-t.ensures refl refl c.load.ensures c.symmetric.ensures c.if-not-symmetric.false c.levels.ensures
+returns c = begun_levels c.requires c.workspace_at-t.ensures refl refl c.load.ensures c.symmetric.ensures c.if-not-symmetric.false (rw c.is_some.ensures at c.levels.ensures)
 
 pub returns-then-not-symmetric : goal.returns-then-not-symmetric
 returns-then-not-symmetric c = begun_asymmetric c.requires c.workspace_at-t.ensures refl refl c.load.ensures c.symmetric.ensures c.if-not-symmetric.true

@@ -1,6 +1,7 @@
 -- A level of the build and what lies ahead of it: a law for each way out, over the definitions alone.
 -- Assumes nothing.
 use Rattle.std.specs.Prelude.{Result, Ok, Err}
+use Rattle.std.specs.declared.ops.ControlFlow.TheVariants.{Continue, Break}
 use mathlib.Core.Path.{◌≡◌, refl, sym, ap, ◌∙◌, subst}
 use mathlib.Core.Bool.{Bool, true, false, cond, ◌&&◌}
 use mathlib.Core.List.{List, ◌∷◌}
@@ -48,9 +49,8 @@ use Rattle.build_level.specs.CoarsestContract.{Levels, LastOk, Ended}
 use Rattle.build_level.proofs.coarsest.Ways.{levels_refused}
 use Rattle.build_levels.specs.DescentContract.{Descent, next_of, descent_of, descending_of, DescendOk, descent_at, Arrived, Descended}
 use Rattle.build_levels.proofs.descent.Regions.{Same, same_kept, pattern_same, shapes_same}
-use Rattle.build_levels.specs.declared.growing.Onward.{Onward}
 use Rattle.build_levels.specs.GrowingContract.{grow_at, Grown}
-use Rattle.build_levels.specs.Ahead.{paired_level, paired_at, before, Ahead, Advanced, LeadOk, next_after, pick_onward, charged_of, ChargeOk}
+use Rattle.build_levels.specs.Ahead.{paired_level, paired_at, before, Ahead, Onward, Advanced, LeadOk, next_after, pick_onward, charged_of, ChargeOk}
 
 -- ---- the definition opened
 
@@ -116,11 +116,11 @@ inner_opens o given deeper stores level stage used m c g =
 
 -- The levels end,
 abbrev ends : Growth → Result Onward Refusal
-ends g = Ok (Onward.Ended g)
+ends g = Ok (Break g)
 
 -- or go on,
 abbrev goes_on : Frontier → Result Onward Refusal
-goes_on n = Ok (Onward.Next n)
+goes_on n = Ok (Continue n)
 
 -- or one is refused.
 abbrev stops : Refusal → Result Onward Refusal

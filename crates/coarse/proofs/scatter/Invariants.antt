@@ -6,4 +6,4 @@ use Rattle.coarse.proofs.Terminals.{scatter_turn}
 use Rattle.coarse.proofs.scatter.Given as goal
 
 abbrev pub invariant-loop-k : goal.invariant-loop-k
-invariant-loop-k l = (length l.f ≡ length l.initial.f) × Left (scatter_turn l.w l.coupled l.u l.x) l.k l.count l.f (for (scatter_turn l.w l.coupled l.u l.x) 0 l.count l.initial.f)
+invariant-loop-k l = (length l.f ≡ length l.initial.f) × Left (scatter_turn l.w l.t.coupled l.u l.x) l.k l.t.size l.f (for (scatter_turn l.w l.t.coupled l.u l.x) 0 l.t.size l.initial.f)

@@ -1,4 +1,5 @@
-// Where the floats of the levels end, and where the scratch behind them starts and ends.
+// Where the floats of the levels end, and where the scratch behind them starts and ends. `LevelsOk`, that the walk went through so many levels, is a fact of
+// the lent words and a number: a handle that carried it would have to borrow the words.
 ghost use Rattle.std.specs.Prelude.{◌≡◌};
 ghost use Rattle.layout.specs.Layout.{floats_end, image_end, image_of};
 ghost use Rattle.index_check.specs.Sound.{scratch_start, cycle_start, scratch_end};

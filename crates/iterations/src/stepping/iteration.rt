@@ -3,6 +3,7 @@ ghost use Rattle.std.specs.Prelude.{length};
 ghost use Rattle.iterations.specs.Steps.{VectorsOk, Renewed, MoveOk, Moved, StepOk, AdvanceDone, StepDone, move_at};
 
 use crate::stepping::{Regions, Stepped};
+use acceleration::{GcrWorkspace, PairPlace};
 use options::Handle;
 use refusal::Refusal;
 use residual_norm::measure;
@@ -15,6 +16,8 @@ pub fn renew(w: &[u32], f: &mut [f64], g: Regions)
     matrix::apply(w, f, g.matrix, g.solution, g.product);
     correction::subtract(f, g.rows, g.rhs, g.product, g.residual);
 }
+
+// `used` is how many pairs of the memory in the store are filled; the solver has no heap, so that they are no vector that knows its length.
 
 // The solution moved by the correction: as it is where no directions are stored, else by GCR with the correction's image.
 fn move_solution(
@@ -32,18 +35,17 @@ fn move_solution(
         return Ok(used);
     }
     matrix::apply(w, f, g.matrix, g.correction, g.product);
-    acceleration::correct(
-        f,
-        g.rows,
+    let workspace = GcrWorkspace {
+        rows: g.rows,
         krylov,
-        used,
-        g.solution,
-        g.directions,
-        g.images,
-        g.residual,
-        g.correction,
-        g.product,
-    )
+        directions: g.directions,
+        images: g.images,
+    };
+    let pair = PairPlace {
+        direction: g.correction,
+        image: g.product,
+    };
+    acceleration::correct(f, workspace, used, g.solution, g.residual, pair)
 }
 
 // After a cycle: the solution moved by its correction, and the norm of the true residual, question 23.
@@ -61,10 +63,10 @@ fn advance(
     let options = h.options;
     let stored = move_solution(w, f, g, options.krylov_dimension as usize, used)?;
     renew(w, f, g);
-    match measure::measure(f, g.rows, g.residual, options.residual_norm, factor) {
-        Some(last) => Ok(Stepped { used: stored, last }),
-        None => Err(refusal::BAD_RESIDUAL),
-    }
+    let last = measure::measure(f, g.rows, g.residual, options.residual_norm, factor).ok_or(
+        refusal::BAD_RESIDUAL,
+    )?;
+    Ok(Stepped { used: stored, last })
 }
 
 // One iteration: the cycle starts from a zero correction.

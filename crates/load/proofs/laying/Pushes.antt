@@ -1,12 +1,10 @@
 -- Entries pushed one after the other, and mirrors read. Assumes nothing.
-use Rattle.std.proofs.Common.{◌≡◌, ℕ, zero, suc, ◌+◌, ◌-◌, ◌*◌, ◌<◌, ◌≤◌, Bool, true, false, cond, List, [], ◌∷◌, ◌++◌, length, set, sym, refl, ap, ◌∙◌, suc-add, zero-add, arith, length-append, length-set}
+use Rattle.std.proofs.Common.{◌≡◌, ℕ, zero, suc, ◌+◌, ◌-◌, ◌<◌, ◌≤◌, Bool, true, false, cond, List, [], ◌∷◌, ◌++◌, length, set, sym, refl, ap, ◌∙◌, suc-add, zero-add, arith, length-append, length-set}
 use mir.Val.{bool_byte}
 use lib.Ieee.{Float}
 use Rattle.store.specs.Region.{at, idx, lay, splice}
 use Rattle.store.proofs.store.Region.{splice_nil}
-use Rattle.load.specs.declared.cells.Extents.{Extents}
-use Rattle.load.specs.declared.cells.Faces.{Faces}
-use Rattle.load.specs.Steps.{optional, one, count_of, MirrorOk, mirror_at, MirrorsAre, RoomFor, Pushed}
+use Rattle.load.specs.Steps.{optional, one, MirrorOk, mirror_at, Pushed}
 
 -- ---- laying lists one behind the other
 
@@ -73,33 +71,12 @@ pushed_on {p} {q} {r} {l} {m} {v} {u} {C} {C'} {C''} {F} {F'} {F''} a b =
       size_f = b.size_f ∙ a.size_f;
     }
 
--- ---- room
+-- ---- counts
 
 -- As many stand in an optional entry as there are.
 pub length_optional : {A : Type 0} (there : Bool) (x : A) → length (optional there x) ≡ one there
 length_optional true x = refl
 length_optional false x = refl
-
--- Of room for three, there is room for the first,
-pub room_first : {p m n : ℕ} (a b c : ℕ) → RoomFor (a + b + c) p m n → RoomFor a p m n
-room_first a b c room = record { columns = omega (arith, room.columns); values = omega (arith, room.values) }
-
--- behind it for the second,
-pub room_second : {p q : ℕ} {l : List ℕ} {v : List Float} {C C' : List ℕ} {F F' : List Float} (a b c : ℕ)
-    → RoomFor (a + b + c) p (length C) (length F) → Pushed p l v C C' F F' q → length l ≡ a → RoomFor b q (length C') (length F')
-room_second a b c room x e = record {
-  columns = omega (arith, x.end, x.size_c, room.columns);
-  values = omega (arith, x.end, x.size_f, room.values);
-}
-
--- and behind that for the third.
-pub room_third : {p q r : ℕ} {l m : List ℕ} {v u : List Float} {C C' C'' : List ℕ} {F F' F'' : List Float} (a b c : ℕ)
-    → RoomFor (a + b + c) p (length C) (length F) → Pushed p l v C C' F F' q → length l ≡ a → Pushed q m u C' C'' F' F'' r → length m ≡ b
-    → RoomFor c r (length C'') (length F'')
-room_third a b c room x e y d = record {
-  columns = omega (arith, x.end, x.size_c, y.end, y.size_c, room.columns);
-  values = omega (arith, x.end, x.size_f, y.end, y.size_f, room.values);
-}
 
 -- Three pushes one behind the other, their columns named.
 pub pushed_three : {p q r s : ℕ} {l m n l' m' n' : List ℕ} {v u t : List Float} {C C' C'' C3 : List ℕ} {F F' F'' F3 : List Float}
@@ -125,17 +102,7 @@ length_three a b c x y z =
     let v = length-append (optional b y) (optional c z) in
     omega (arith, length_optional a x, length_optional b y, length_optional c z)
 
--- Room for a row is room for its three parts.
-pub room_row : {p m n : ℕ} (f : Faces) → RoomFor (count_of f) p m n
-    → RoomFor ((one f.shallower + one f.up + one f.left) + 1 + (one f.right + one f.down + one f.deeper)) p m n
-room_row f room = record { columns = omega (arith, room.columns); values = omega (arith, room.values) }
-
--- The number of a cell behind is a cell's,
-pub behind_small : (there : Bool) (i stride r : ℕ) → r ≡ cond there (i - stride) 0 → i ≤ 65536 → r ≤ 131072
-behind_small true i stride r e h = omega arith
-behind_small false i stride r e h = omega arith
-
--- and it is the column of an entry that is there.
+-- The number of a cell behind is the column of an entry that is there.
 pub behind_column : (there : Bool) (i stride r : ℕ) → r ≡ cond there (i - stride) 0 → optional there r ≡ optional there (i - stride)
 behind_column true i stride r e = ap (λ (x : ℕ). x ∷ []) e
 behind_column false i stride r e = refl
@@ -158,13 +125,6 @@ mirror_in_lem m t = record { behind = m.behind t; near = m.near t; from = m.from
 pub mirror_is : {there : Bool} (i stride back end : ℕ) (offsets : List ℕ) (values : List Float) → there ≡ true
     → end ≡ idx offsets (i - stride + 1) → at values (end - back) ≡ mirror_at there i stride back offsets values
 mirror_is i stride back end offsets values t e = rw (t, e) refl
-
--- The mirrors of a row.
-pub mirrors_are : {e : Extents} {i down deeper : ℕ} {f : Faces} {offsets : List ℕ} {values : List Float} {left up shallower : Float}
-    → down ≡ one f.down → deeper ≡ one f.deeper → left ≡ mirror_at f.left i 1 (1 + down + deeper) offsets values
-    → up ≡ mirror_at f.up i e.width (1 + deeper) offsets values → shallower ≡ mirror_at f.shallower i (e.width * e.height) 1 offsets values
-    → MirrorsAre e i f offsets values (record { left = left; up = up; shallower = shallower })
-mirrors_are a b x y z = record { left = rw (a, b) at x; up = rw b at y; shallower = z }
 
 -- A yes or no as a number.
 pub byte_one : (there : Bool) → bool_byte there ≡ one there

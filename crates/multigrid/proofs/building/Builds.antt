@@ -101,22 +101,18 @@ module _ (rows : ℕ) (offsets columns : List ℕ) (values weights : List Float)
   answer_unread (refused q) = refl
 
   -- nor what it leaves.
-  pub ran_unweighted : {w z : List ℕ} {F G : List Float} {records : ℕ} {run : BuildRun} → BuildRan w z F G records with_some run
-      → BuildRan w z F G records with_none run
-  ran_unweighted {w} {z} {F} {G} {records} {run} d =
+  pub done_unweighted : {w z : List ℕ} {F G : List Float} {records : ℕ} {r : Result Handle Refusal} → BuildDone w z F G with_none records r
+      → BuildDone w z F G with_some records r
+  done_unweighted {w} {z} {F} {G} {records} {r} b =
       let l = lent_of w F records in
       let same = weights_unread l in
-      let b = d.built in
       record {
-        built = record {
-          answer = b.answer ∙ ap (built_of with_some) same ∙ answer_unread (build_of l with_none);
-          view = λ h e. b.view h (same ∙ e);
-          fits = λ h e. b.fits h (same ∙ e);
-          heads = λ h e. b.heads h (same ∙ e);
-          words = λ q e. b.words q (same ∙ e);
-          floats = λ q e. b.floats q (same ∙ e);
-          wordsize = b.wordsize;
-          floatsize = b.floatsize;
-        };
-        cells = d.cells ∙ ap table_built same;
+        answer = b.answer ∙ sym (ap (built_of with_some) same ∙ answer_unread (build_of l with_none));
+        view = λ h e. b.view h (sym same ∙ e);
+        fits = λ h e. b.fits h (sym same ∙ e);
+        heads = λ h e. b.heads h (sym same ∙ e);
+        words = λ q e. b.words q (sym same ∙ e);
+        floats = λ q e. b.floats q (sym same ∙ e);
+        wordsize = b.wordsize;
+        floatsize = b.floatsize;
       }

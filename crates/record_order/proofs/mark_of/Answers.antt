@@ -1,28 +1,21 @@
 -- `mark_of` meets its contract.
-use mathlib.Core.Path.{sym, ◌∙◌}
+use Rattle.std.proofs.Common.{◌∙◌, sym, rules, tests, Bool, List, [], ◌∷◌}
+use Rattle.std.proofs.lemmas.Iterator.{YieldsList-from_slice}
+use Rattle.std.proofs.lemmas.Iterator.Adapters.{option_map_id}
+use Rattle.std.proofs.lemmas.Iterator.Consumers.{YieldsList-from_copied}
+use Rattle.std.proofs.lemmas.Iterator.Search.{find_from_yields_List}
+use Rattle.record_format.specs.declared.marks.Mark.{Mark}
+use Rattle.record_format.specs.Format.{marked}
 use Rattle.record_order.specs.Order.{named_of}
 use Rattle.record_order.proofs.mark_of.Goals as goal
 
-pub returns-then-is_marked : goal.returns-then-is_marked
-unfolding named_of
-returns-then-is_marked c = rw ((sym c.is_marked.ensures ∙ c.if-is_marked.true))
+-- all marks, in the order in which they are asked for
+abbrev marks : List Mark
+marks = Mark.Controls ∷ Mark.Matrix ∷ Mark.Weights ∷ Mark.Update ∷ Mark.Solve ∷ []
 
-pub returns-then-is_marked-2 : goal.returns-then-is_marked-2
+pub returns : goal.returns
 unfolding named_of
-returns-then-is_marked-2 c = rw ((sym c.is_marked.ensures ∙ c.if-is_marked.false), (sym c.is_marked-2.ensures ∙ c.if-is_marked-2.true))
-
-pub returns-then-is_marked-3 : goal.returns-then-is_marked-3
-unfolding named_of
-returns-then-is_marked-3 c = rw ((sym c.is_marked.ensures ∙ c.if-is_marked.false), (sym c.is_marked-2.ensures ∙ c.if-is_marked-2.false), (sym c.is_marked-3.ensures ∙ c.if-is_marked-3.true))
-
-pub returns-then-is_marked-4 : goal.returns-then-is_marked-4
-unfolding named_of
-returns-then-is_marked-4 c = rw ((sym c.is_marked.ensures ∙ c.if-is_marked.false), (sym c.is_marked-2.ensures ∙ c.if-is_marked-2.false), (sym c.is_marked-3.ensures ∙ c.if-is_marked-3.false), (sym c.is_marked-4.ensures ∙ c.if-is_marked-4.true))
-
-pub returns-then-is_marked-5 : goal.returns-then-is_marked-5
-unfolding named_of
-returns-then-is_marked-5 c = rw ((sym c.is_marked.ensures ∙ c.if-is_marked.false), (sym c.is_marked-2.ensures ∙ c.if-is_marked-2.false), (sym c.is_marked-3.ensures ∙ c.if-is_marked-3.false), (sym c.is_marked-4.ensures ∙ c.if-is_marked-4.false), (sym c.is_marked-5.ensures ∙ c.if-is_marked-5.true))
-
-pub returns-else-is_marked-5 : goal.returns-else-is_marked-5
-unfolding named_of
-returns-else-is_marked-5 c = rw ((sym c.is_marked.ensures ∙ c.if-is_marked.false), (sym c.is_marked-2.ensures ∙ c.if-is_marked-2.false), (sym c.is_marked-3.ensures ∙ c.if-is_marked-3.false), (sym c.is_marked-4.ensures ∙ c.if-is_marked-4.false), (sym c.is_marked-5.ensures ∙ c.if-is_marked-5.false))
+returns c =
+    let test : Mark → Bool = λ m. marked m c.args.b.now in
+    sym (option_map_id c.find.result)
+    ∙ find_from_yields_List test _ _ c.find.result c.find.ensures.ran (YieldsList-from_copied (YieldsList-from_slice marks cc)) (λ x b q k. search (rules, tests))

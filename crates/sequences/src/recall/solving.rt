@@ -1,59 +1,58 @@
 // A solve of a list: its arguments, the call, and its answer with what it leaves beside those that are due.
-use crate::recall::Agreed;
-use lists::{calls, least, reading, stores};
+use crate::recall::Told;
+use lists::stores::checksum;
+use lists::{Reader, Stores, first};
 use options::Handle;
 use refusal::Refusal;
 use solver::{LinearSolveReport, LinearSolverOptions, LinearSolverStatus};
 
-// How much of right-hand side and start a solve gets, its controls, and where its answer starts in the text.
-#[derive(Clone, Copy)]
-struct SolveCall {
-    rhs: usize,
+// Right-hand side and start of a solve, how much of each it gets, and its controls.
+#[derive(Drop)]
+struct Call {
+    rhs: [f64; 128],
+    x: [f64; 128],
+    right: usize,
     start: usize,
     options: LinearSolverOptions,
-    answer: usize,
 }
 
-// The controls of a solve, and where its answer starts.
-#[derive(Clone, Copy)]
-struct Controls {
-    options: LinearSolverOptions,
-    next: usize,
-}
-
-fn read_options(text: &[u8], at: usize) -> Controls {
-    let absolute = reading::number(text, at);
-    let relative = reading::number(text, absolute.next);
-    let iterations = reading::number(text, relative.next);
-    Controls {
-        options: LinearSolverOptions {
-            absolute_tolerance: float::of_bits(absolute.value),
-            relative_tolerance: float::of_bits(relative.value),
-            max_iterations: iterations.value,
-        },
-        next: iterations.next,
+impl Call {
+    // The one that stands next.
+    fn read(input: &mut Reader) -> Call {
+        let mut rhs = [0.0; 128];
+        let mut x = [0.0; 128];
+        let right = input.size();
+        let start = input.size();
+        input.numbers(right, &mut rhs);
+        input.numbers(start, &mut x);
+        Call {
+            rhs,
+            x,
+            right,
+            start,
+            options: LinearSolverOptions {
+                absolute_tolerance: float::of_bits(input.number()),
+                relative_tolerance: float::of_bits(input.number()),
+                max_iterations: input.number(),
+            },
+        }
     }
-}
 
-// Right-hand side and start of a solve into those that are lent.
-fn read_solve(text: &[u8], at: usize, rhs: &mut [f64], x: &mut [f64]) -> SolveCall {
-    let n = reading::number(text, at);
-    let m = reading::number(text, n.next);
-    let at = reading::floats(text, m.next, n.value as usize, rhs);
-    let at = reading::floats(text, at, m.value as usize, x);
-    let read = read_options(text, at);
-    let options = read.options;
-    SolveCall {
-        rhs: n.value as usize,
-        start: m.value as usize,
-        options,
-        answer: read.next,
+    // It is made, over so much of each array as it is to get.
+    fn make(&mut self, handle: Handle, stores: &mut Stores) -> Result<LinearSolveReport, Refusal> {
+        let options = self.options;
+        let a = self.right.min(128);
+        let b = self.start.min(128);
+        let rhs = &self.rhs[..];
+        let x = &mut self.x[..];
+        stores.solve(handle, &rhs[..a], &mut x[..b], options)
     }
 }
 
 // What a solve answers: zero or the number of the question that refuses; then, zeros where it is refused, 0 where it converged and 1
-// where the iterations are used up, the iterations, and the bits of the residuals.
-#[derive(Clone, Copy)]
+// where the iterations are used up, the iterations, and the bits of the residuals. Numbers and no Result, as the list has them: an answer
+// that is due can be any six.
+#[derive(Clone, Copy, PartialEq)]
 struct SolveAnswer {
     number: u64,
     status: u64,
@@ -70,114 +69,77 @@ fn status_number(status: LinearSolverStatus) -> u64 {
     }
 }
 
-fn told_solve(solved: Result<LinearSolveReport, Refusal>) -> SolveAnswer {
-    match solved {
-        Ok(r) => {
-            let status = r.status;
-            SolveAnswer {
+impl SolveAnswer {
+    fn of(solved: Result<LinearSolveReport, Refusal>) -> SolveAnswer {
+        match solved {
+            Ok(r) => SolveAnswer {
                 number: 0,
-                status: status_number(status),
+                status: status_number(r.status),
                 iterations: r.iterations,
                 initial: float::to_bits(r.initial_residual),
                 last: float::to_bits(r.final_residual),
                 relative: float::to_bits(r.relative_residual),
-            }
+            },
+            Err(q) => SolveAnswer {
+                number: q.number,
+                status: 0,
+                iterations: 0,
+                initial: 0,
+                last: 0,
+                relative: 0,
+            },
         }
-        Err(q) => SolveAnswer {
-            number: q.number,
-            status: 0,
-            iterations: 0,
-            initial: 0,
-            last: 0,
-            relative: 0,
-        },
+    }
+
+    // Solves come after the updates: three kinds that are accepted, then one to each question.
+    fn kind(self) -> usize {
+        if self.number > 0 {
+            66 + (self.number % 32) as usize
+        } else if self.status > 0 {
+            66
+        } else if self.iterations > 0 {
+            65
+        } else {
+            64
+        }
     }
 }
 
-// The solve over so much of each array as it is to get.
-fn run_solve(
-    s: SolveCall,
-    handle: Handle,
-    words: &[u32],
-    floats: &mut [f64],
-    statistics: &mut [u64],
-    rhs: &[f64],
-    x: &mut [f64],
-) -> Result<LinearSolveReport, Refusal> {
-    let a = least(s.rhs, rhs.len());
-    let b = least(s.start, x.len());
-    let options = s.options;
-    calls::solve(
-        handle,
-        words,
-        floats,
-        statistics,
-        &rhs[..a],
-        &mut x[..b],
-        options,
-    )
-}
-
-// Solves come after the updates: three kinds that are accepted, then one to each question.
-fn solve_kind(a: SolveAnswer) -> usize {
-    if a.number > 0 {
-        66 + (a.number % 32) as usize
-    } else if a.status > 0 {
-        66
-    } else if a.iterations > 0 {
-        65
-    } else {
-        64
-    }
-}
-
-// The checksums of solution and statistics after a solve.
-#[derive(Clone, Copy)]
-struct After {
+// A solve's answer, and the checksums of the solution and the statistics that it leaves.
+#[derive(Clone, Copy, PartialEq)]
+struct Left {
+    answer: SolveAnswer,
     solution: u64,
     statistics: u64,
 }
 
-// Whether answer and checksums are those that are due, which start at `at`.
-fn same_solve(text: &[u8], at: usize, a: SolveAnswer, after: After) -> Agreed {
-    let number = reading::number(text, at);
-    let status = reading::number(text, number.next);
-    let iterations = reading::number(text, status.next);
-    let initial = reading::number(text, iterations.next);
-    let last = reading::number(text, initial.next);
-    let relative = reading::number(text, last.next);
-    let solution = reading::number(text, relative.next);
-    let statistics = reading::number(text, solution.next);
-    Agreed {
-        same: (a.number == number.value)
-            & (a.status == status.value)
-            & (a.iterations == iterations.value)
-            & (a.initial == initial.value)
-            & (a.last == last.value)
-            & (a.relative == relative.value)
-            & (after.solution == solution.value)
-            & (after.statistics == statistics.value),
-        next: statistics.next,
-        kind: solve_kind(a),
+// What is due, which stands next.
+fn due(input: &mut Reader) -> Left {
+    Left {
+        answer: SolveAnswer {
+            number: input.number(),
+            status: input.number(),
+            iterations: input.number(),
+            initial: input.number(),
+            last: input.number(),
+            relative: input.number(),
+        },
+        solution: input.number(),
+        statistics: input.number(),
     }
 }
 
-// The solve that starts at `at`.
-pub fn solve(
-    text: &[u8],
-    at: usize,
-    handle: Handle,
-    words: &[u32],
-    floats: &mut [f64],
-    statistics: &mut [u64],
-) -> Agreed {
-    let mut rhs = [0.0; 128];
-    let mut x = [0.0; 128];
-    let s = read_solve(text, at, &mut rhs, &mut x);
-    let solved = run_solve(s, handle, words, floats, statistics, &rhs, &mut x);
-    let after = After {
-        solution: stores::floats_checksum(&x, s.start),
-        statistics: stores::numbers_checksum(statistics),
+// The solve that stands next.
+pub fn solve(input: &mut Reader, handle: Handle, stores: &mut Stores) -> Told {
+    let mut call = Call::read(input);
+    let answer = SolveAnswer::of(call.make(handle, stores));
+    let left = Left {
+        answer,
+        solution: checksum(first(&call.x, call.start)),
+        statistics: checksum(stores.told()),
     };
-    same_solve(text, s.answer, told_solve(solved), after)
+    Told {
+        kind: answer.kind(),
+        same: left == due(input),
+    }
 }

@@ -1,7 +1,8 @@
 -- The float work of one level: its coefficients, its DIC data, its factor, and the values of the next level.
 -- Assumes nothing.
 use Rattle.refusal.specs.declared.Refusal.{Refusal}
-use Rattle.std.specs.Prelude.{Result}
+use Rattle.std.specs.Prelude.{Option, Some, None, Result, unwrap_or}
+use Rattle.std.specs.Option.{ForSome}
 use mathlib.Core.Path.{◌≡◌, refl, sym, ap, ◌∙◌, subst}
 use mathlib.Core.Bool.{Bool, true, false}
 use mathlib.Core.List.{List}
@@ -27,10 +28,24 @@ use Rattle.layout.specs.Parts.{kernel_in, entries_in}
 use Rattle.layout.specs.SmootherContract.{SmootherOk}
 use Rattle.update_levels.specs.Standing.{diagonal_stands, diagonals_stand}
 use Rattle.update_levels.specs.StandingContract.{bare_at}
-use Rattle.update_levels.specs.Level.{LevelOk, CoefficientsOk, FacesReady, coefficients_asked, FactorOk, coarse_at, CoarseDone}
+use Rattle.update_levels.specs.Level.{LevelOk, LevelReady, CoefficientsOk, FacesReady, coefficients_asked, FactorOk, coarse_at, CoarseDone}
 use Rattle.update_levels.proofs.diagonals.Standing.{stand_all, stand_not}
 
+-- ---- values that are given, or none
+
+-- None are given: nothing is required of them.
+pub none_given : (P : List Float → Type 0) → ForSome None P
+none_given P values e = let no : ◌≡◌ {A = ℕ} 0 1 = cc in absurd (omega arith)
+
+-- These are given.
+pub one_given : (P : List Float → Type 0) {given : List Float} → P given → ForSome (Some given) P
+one_given P {given} held values e = subst P (ap (λ (o : Option (List Float)). unwrap_or o given) e) held
+
 -- ---- what the calls require
+
+-- Of the last level nothing more is required.
+pub ready_last : {w : List ℕ} {size : ℕ} {p : Place} {coupled : ℕ} → LevelOk w size p coupled → LevelReady w size p true coupled
+ready_last ok = record { level = ok; none = λ e. let no : ◌≡◌ {A = ℕ} 0 1 = cc in absurd (omega arith) }
 
 module _ {w : List ℕ} {size : ℕ} {p : Place} {coupled : ℕ} (ok : LevelOk w size p coupled) where
   -- What the kernel requires, at or above its DIC data.

@@ -31,7 +31,7 @@ use Rattle.layout.specs.PlaceContract.{PlaceOk}
 use Rattle.index_check.proofs.sound.Facts.{Here, targets_of, sums_of, ends_of}
 use Rattle.update_levels.specs.Standing.{diagonals_stand}
 use Rattle.update_levels.specs.Update.{renew_of}
-use Rattle.update_levels.specs.Level.{Under, LevelOk, LevelReady, level_of, level_renewed, LevelDone, CoarseOk, coarse_at, FirstOk, FacesReady}
+use Rattle.update_levels.specs.Level.{Under, Always, LevelOk, LevelReady, level_of, level_renewed, LevelDone, CoarseOk, coarse_at, FacesReady}
 use Rattle.update_levels.specs.Steps.{Chain, TurnOk, turn_of, Turned, shapes_at, renew_at, RenewOk, Renewed, RestOk, StartOk}
 use Rattle.update_levels.proofs.levels.Chains.{Opened, opened}
 use Rattle.update_levels.proofs.diagonals.Outcomes.{verdict_then, told_refused}
@@ -536,13 +536,13 @@ module _ {dic : Bool} {levels first a₀ level a : ℕ} {p₀ p : Place} {w : Li
     one_left = let s = u.ok.some in omega arith
 
     -- What it requires.
-    pub underway_last : LevelReady w (length G) p true coupled
-    underway_last = last_ready u.ok u.is one_left told
+    pub underway_last : LevelOk w (length G) p coupled
+    underway_last = (last_ready u.ok u.is one_left told).level
 
     -- With it all are there.
-    pub underway_end : {E : List Float} {r : Result Unit Refusal} → Under dic (λ o. LevelDone w (part p.values p.entries G) G E o p true coupled level r)
+    pub underway_end : {E : List Float} {r : Result Unit Refusal} → Always (λ o. LevelDone w (part p.values p.entries G) G E o p true coupled level r)
         → Under dic (λ o. Renewed o (levels - first) first w (part p₀.values p₀.entries F) F E a₀ p₀.values r)
-    underway_end {E} {r} done o by = u.whole o by E r (renewed_last mine G u.ok o u.is one_left told (done o by))
+    underway_end {E} {r} done o by = u.whole o by E r (renewed_last mine G u.ok o u.is one_left told (done o))
 
 -- ---- the first level, from values that are given
 
@@ -574,6 +574,10 @@ module _ {levels image : ℕ} {w : List ℕ} (given F : List Float) (s : StartOk
           let d : Renewed o levels 0 w given E G 0 image r = rw (is, sub-zero levels, here) at (done o by) in
           record { answer = d.answer; levels = d.levels; kept = kept_on (kept_wrote loaded (omega arith)) d.kept }
 
+    -- There are as many values as its entries.
+    pub first_many : p.entries ≤ length given
+    first_many = rw is (omega (arith, s.many))
+
     -- The faces' values stand at its place.
     pub faces_ready : FacesReady w given F (locate w 0 image) → FacesReady w given F p
     faces_ready taken = rw is taken
@@ -590,17 +594,8 @@ module _ {levels image : ℕ} {w : List ℕ} (given F : List Float) (s : StartOk
 
         module _ {t : Place} (there : t ≡ locate w next p.factor) where
           -- What the turn requires.
-          pub first_ready : FirstOk w (length F) (length given) p t
-          first_ready =
-              let turn = turn_ready s.ok is more at there in
-              let many : p.entries ≤ length given = rw is (omega (arith, s.many)) in
-              record {
-                level = turn.level;
-                sums = record { table = turn.coarse.sums.table; many = many; room = turn.coarse.sums.room; near = turn.coarse.sums.near };
-                faces = turn.coarse.faces;
-                after = turn.after;
-                many = many;
-              }
+          pub first_turn : TurnOk w (length F) p t
+          first_turn = turn_ready s.ok is more at there
 
           module _ {dic : Bool} {G : List Float} {v : Result Unit Refusal} (done : Under dic (λ o. Turned w given F G o p t 0 v)) where
             -- A question of the turn refuses.

@@ -20,7 +20,7 @@ use Rattle.cholesky.specs.Triangle.{tri}
 use Rattle.hierarchy.specs.Level.{Numbers}
 use Rattle.layout.specs.declared.Place.{Place}
 use Rattle.layout.specs.Layout.{numbers_at}
-use Rattle.update_levels.specs.Level.{LevelOk, LevelReady, level_renewed, LevelDone, CoarseOk, coarse_at, CoarseDone, FirstOk}
+use Rattle.update_levels.specs.Level.{LevelOk, level_renewed, LevelDone, CoarseOk, coarse_at, CoarseDone}
 use Rattle.update_levels.specs.Steps.{TurnOk, turn_of, Turned}
 use Rattle.update_levels.proofs.diagonals.Outcomes.{told_accepted, told_refused}
 
@@ -30,17 +30,9 @@ unfolding tri
 no_tri = refl
 
 module _ {w : List ℕ} {size : ℕ} {p t : Place} (ok : TurnOk w size p t) where
-  -- What the level requires.
-  pub turn_level : LevelReady w size p false 0
-  turn_level = record { level = ok.level; none = λ e. refl }
-
   -- What the next level's values require, once the level is done.
   pub turn_coarse : {now : ℕ} → now ≡ size → CoarseOk w now p t
   turn_coarse e = subst (λ (n : ℕ). CoarseOk w n p t) (sym e) ok.coarse
-
--- The same of values that are given.
-pub first_coarse : {w : List ℕ} {size count : ℕ} {p t : Place} → FirstOk w size count p t → {now : ℕ} → now ≡ size → FirstOk w now count p t
-first_coarse {w} {size} {count} {p} {t} ok e = subst (λ (n : ℕ). FirstOk w n count p t) (sym e) ok
 
 -- A level leaves its values.
 pub values_stay : {w : List ℕ} {size : ℕ} {old F G : List Float} {o : MultigridOptions} {p : Place} {level : ℕ} {v : Result Unit Refusal} → LevelOk w size p 0

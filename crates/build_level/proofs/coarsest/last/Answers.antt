@@ -8,21 +8,21 @@ use Rattle.build_level.proofs.coarsest.last.Goals as goal
 pub coupled_in-coupled-requires : goal.coupled_in-coupled-requires
 coupled_in-coupled-requires c = standing c.requires
 
-pub returns-then-coupled-o : goal.returns-then-coupled-o
-returns-then-coupled-o c =
+pub returns-then-coupled-x : goal.returns-then-coupled-x
+returns-then-coupled-x c =
     ended_many _ c.requires c.coupled_in-coupled.ensures _
-    c.if-coupled-o.true
+    c.if-coupled-x.true
 
 pub list_coupled-requires : goal.list_coupled-requires
 list_coupled-requires c =
     list_ok c.requires c.coupled_in-coupled.ensures
-    c.if-coupled-o.false
+    c.if-coupled-x.false
 
 pub factor-requires : goal.factor-requires
 factor-requires c =
     factor_ok c.requires
     c.coupled_in-coupled.ensures
-    c.if-coupled-o.false c.list_coupled.ensures
+    c.if-coupled-x.false c.list_coupled.ensures
 
 pub triangle-size-requires : goal.triangle-size-requires
 triangle-size-requires c =
@@ -31,7 +31,7 @@ triangle-size-requires c =
       end_ok
           c.requires
           c.coupled_in-coupled.ensures
-          c.if-coupled-o.false,
+          c.if-coupled-x.false,
       c.well_formed.1.0.0,
     )
 
@@ -42,7 +42,7 @@ overflow_add-result-2 c =
       end_ok
           c.requires
           c.coupled_in-coupled.ensures
-          c.if-coupled-o.false,
+          c.if-coupled-x.false,
       c.triangle-size.ensures,
       c.well_formed.1.0.0,
     )
@@ -52,7 +52,7 @@ returns c =
     ended_made _
     c.requires
     c.coupled_in-coupled.ensures _
-    c.if-coupled-o.false
+    c.if-coupled-x.false
     c.list_coupled.ensures
     c.factor.ensures c.in_ok-factor.was
     c.triangle-size.ensures
@@ -63,6 +63,6 @@ returns-in_err-factor c =
     (ended_pivot _
     c.requires
     c.coupled_in-coupled.ensures _
-    c.if-coupled-o.false
+    c.if-coupled-x.false
     c.list_coupled.ensures
     c.factor.ensures c.in_err-factor.was)

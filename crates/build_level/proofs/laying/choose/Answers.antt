@@ -13,7 +13,7 @@ returns-then-ends_at c =
 pub pairs-requires : goal.pairs-requires
 pairs-requires c =
     graph_ok c.requires
-    c.args.given c.graph_in-g.ensures
+    c.args.x.given c.graph_in-g.ensures
 
 pub returns : goal.returns
 returns c =

@@ -29,7 +29,7 @@ pub returns-in_err-smoother_data : goal.returns-in_err-smoother_data
 returns-in_err-smoother_data c =
     rw (passed_up _ c.from_residual.ensures.1)
     (ways.descend_numbers c.requires c.fill.ensures c.needs_dic.ensures c.smoother_data.ensures
-    c.args.given c.in_err-smoother_data.was)
+    c.args.x.given c.in_err-smoother_data.was)
 
 pub returns-in_err-merged : goal.returns-in_err-merged
 returns-in_err-merged c =

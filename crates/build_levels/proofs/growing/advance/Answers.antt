@@ -4,9 +4,6 @@ use Rattle.build_levels.proofs.growing.Growing.{laid_no, place_ok, lead_ok, laid
 use borrow.Author.Rules.{rules}
 use Rattle.build_levels.proofs.growing.advance.Goals as goal
 
-pub lay-requires : goal.lay-requires
-lay-requires c = c.requires
-
 pub place_of-p-requires : goal.place_of-p-requires
 place_of-p-requires c =
     let pair = place_ok c.requires c.lay.ensures c.in_ok-faces.was (search rules) (search rules) in

@@ -7,18 +7,15 @@ use Rattle.build_levels.proofs.growing.grow.Goals as goal
 pub loop-g-init : goal.loop-g-init
 loop-g-init c = left_start c.requires
 
-pub advance-requires : goal.advance-requires
-advance-requires c = c.loop-g.invariant.frontier
-
 pub returns-in_err-g : goal.returns-in_err-g
 returns-in_err-g c =
     rw (passed_up _ c.from_residual.ensures.1) (left_refused c.loop-g.invariant c.advance.ensures c.in_err-g.was)
 
-pub returns-in-Ended : goal.returns-in-Ended
-returns-in-Ended c = left_ended c.loop-g.invariant c.advance.ensures (then_is c.in_ok-g.was c.in-Ended.is)
+pub returns-in-Break : goal.returns-in-Break
+returns-in-Break c = left_ended c.loop-g.invariant c.advance.ensures (then_is c.in_ok-g.was c.in-Break.is)
 
 pub loop-g-smaller : goal.loop-g-smaller
-loop-g-smaller c = next_fewer c.advance.ensures (then_is c.in_ok-g.was c.in-Next.is)
+loop-g-smaller c = next_fewer c.advance.ensures (then_is c.in_ok-g.was c.in-Continue.is)
 
 pub loop-g-preserved : goal.loop-g-preserved
-loop-g-preserved c = left_next c.loop-g.invariant c.advance.ensures (then_is c.in_ok-g.was c.in-Next.is)
+loop-g-preserved c = left_next c.loop-g.invariant c.advance.ensures (then_is c.in_ok-g.was c.in-Continue.is)

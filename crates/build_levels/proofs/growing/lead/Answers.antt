@@ -3,9 +3,6 @@ use Rattle.refusal.proofs.Outcome.{passed_up}
 use Rattle.build_levels.proofs.growing.Growing.{last_ok, led_last, led_last_no, descend_ok, led_refused, charged_ok, led_charged, led_short}
 use Rattle.build_levels.proofs.growing.lead.Goals as goal
 
-pub choose-count-requires : goal.choose-count-requires
-choose-count-requires c = c.requires.level
-
 pub last-requires : goal.last-requires
 last-requires c = last_ok c.requires c.choose-count.ensures
 

@@ -28,11 +28,11 @@ no_finite false e = refl
 pub returns-then-steps-eq0 : goal.returns-then-steps-eq0
 returns-then-steps-eq0 t c = laws.merge_none c.args.f.now c.requires _ _ _ c.if-steps-eq0.true
 
-pub returns-then-joined-count : goal.returns-then-joined-count
-returns-then-joined-count t c =
+pub returns-then-joined-last : goal.returns-then-joined-last
+returns-then-joined-last t c =
     laws.merge_alone c.args.f.now c.requires _ _ _
     c.if-steps-eq0.false c.pair.ensures
-    (paired c.in_ok-found.was c.in-Some.is) c.if-joined-count.true
+    (paired c.in_ok-found.was c.in-Some.is) c.if-joined-last.true
 
 pub join-made-requires : goal.join-made-requires
 join-made-requires t c =
@@ -46,7 +46,7 @@ merge-requires t c = (
   laws.merge_requires c.args.f.now c.requires _ _ _
       c.if-steps-eq0.false c.pair.ensures
       (paired c.in_ok-found.was c.in-Some.is)
-      c.if-joined-count.false c.join-made.ensures (finite_is _ c.if-not-made.false),
+      c.if-joined-last.false c.join-made.ensures (finite_is _ c.if-not-made.false),
 )
 
 pub returns : goal.returns
@@ -54,7 +54,7 @@ returns t c =
     laws.merge_on c.args.f.now c.requires _ _ _
     c.if-steps-eq0.false c.pair.ensures
     (paired c.in_ok-found.was c.in-Some.is)
-    c.if-joined-count.false c.join-made.ensures
+    c.if-joined-last.false c.join-made.ensures
     (finite_is _ c.if-not-made.false) c.merge.ensures
 
 pub returns-in_err-found : goal.returns-in_err-found
@@ -73,4 +73,4 @@ returns-then-not-made t c =
     laws.merge_bad c.args.f.now c.requires _ _ _
     c.if-steps-eq0.false c.pair.ensures
     (paired c.in_ok-found.was c.in-Some.is)
-    c.if-joined-count.false c.join-made.ensures (no_finite _ c.if-not-made.true)
+    c.if-joined-last.false c.join-made.ensures (no_finite _ c.if-not-made.true)

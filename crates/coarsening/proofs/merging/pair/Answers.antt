@@ -22,20 +22,20 @@ coupled_count-coupled-requires c =
     c.diagonals.ensures in
     laws.coupled_requires ready
 
-pub returns-then-coupled-o : goal.returns-then-coupled-o
-returns-then-coupled-o c =
+pub returns-then-coupled-x : goal.returns-then-coupled-x
+returns-then-coupled-x c =
     let start = c in
     let ready = laws.ready start.requires c.faces_in-s.ensures
     c.diagonals.ensures in
     laws.pair_few ready _ _ _ _ _ c.check_rows.ensures c.in_ok-check_rows.was
-    c.coupled_count-coupled.ensures c.if-coupled-o.true
+    c.coupled_count-coupled.ensures c.if-coupled-x.true
 
 pub pairs-joined-requires : goal.pairs-joined-requires
 pairs-joined-requires c =
     let start = c in
     let ready = laws.ready start.requires c.faces_in-s.ensures
     c.diagonals.ensures in
-    laws.graph_requires ready start.args.given c.graph_in-g.ensures
+    laws.graph_requires ready start.args.x.given c.graph_in-g.ensures
 
 pub returns-in_err-check_rows : goal.returns-in_err-check_rows
 returns-in_err-check_rows c =
@@ -54,4 +54,4 @@ returns c =
     c.in_ok-check_rows.was
     c.coupled_count-coupled.ensures
     c.graph_in-g.ensures c.pairs-joined.ensures
-    c.if-coupled-o.false
+    c.if-coupled-x.false

@@ -7,4 +7,4 @@ use Rattle.correction.proofs.transfer.add_prolonged.Given as goal
 
 abbrev pub invariant-loop-row : goal.invariant-loop-row
 invariant-loop-row l =
-    (length l.f ≡ length l.initial.f) × Left (added_step l.w l.map l.coarse l.x) l.row l.n l.f (for (added_step l.w l.map l.coarse l.x) 0 l.n l.initial.f)
+    (length l.f ≡ length l.initial.f) × Left (added_step l.w l.a.map l.coarse l.x) l.row l.a.rows l.f (for (added_step l.w l.a.map l.coarse l.x) 0 l.a.rows l.initial.f)

@@ -7,4 +7,4 @@ use Rattle.correction.proofs.transfer.gather.Given as goal
 
 abbrev pub invariant-loop-row : goal.invariant-loop-row
 invariant-loop-row l =
-    (length l.f ≡ length l.initial.f) × Left (gather_step l.w l.map l.residual l.out) l.row l.n l.f (for (gather_step l.w l.map l.residual l.out) 0 l.n l.initial.f)
+    (length l.f ≡ length l.initial.f) × Left (gather_step l.w l.a.map l.residual l.out) l.row l.a.rows l.f (for (gather_step l.w l.a.map l.residual l.out) 0 l.a.rows l.initial.f)

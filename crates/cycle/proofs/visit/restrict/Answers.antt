@@ -6,10 +6,10 @@ pub residual-requires : goal.residual-requires
 residual-requires c = c.requires
 
 pub restrict-requires : goal.restrict-requires
-restrict-requires c = restrict_ok c.requires c.residual.ensures c.residual_at-from.ensures
+restrict-requires c = rw c.aggregates-map.ensures (restrict_ok c.requires c.residual.ensures c.residual_at-from.ensures)
 
 pub fill-requires : goal.fill-requires
-fill-requires c = zeros_ok c.requires c.residual.ensures c.residual_at-from.ensures c.restrict.ensures
+fill-requires c = zeros_ok c.requires c.residual.ensures c.residual_at-from.ensures (rw c.aggregates-map.ensures at c.restrict.ensures)
 
 pub returns : goal.returns
-returns c = restricted c.requires c.residual.ensures c.residual_at-from.ensures c.restrict.ensures c.fill.ensures
+returns c = restricted c.requires c.residual.ensures c.residual_at-from.ensures (rw c.aggregates-map.ensures at c.restrict.ensures) c.fill.ensures

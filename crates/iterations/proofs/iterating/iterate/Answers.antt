@@ -9,11 +9,11 @@ loop-done-init c = iterating_start _ c.requires
 pub step-requires : goal.step-requires
 step-requires c = iterating_ok _ c.requires c.loop-done.invariant
 
-pub returns-then-last-threshold : goal.returns-then-last-threshold
-returns-then-last-threshold c = iterating_yes _ c.requires c.loop-done.invariant c.loop-done-test.true c.step.ensures c.in_ok-after.was c.if-last-threshold.true c.report.ensures
+pub returns-then-last-limits : goal.returns-then-last-limits
+returns-then-last-limits c = iterating_yes _ c.requires c.loop-done.invariant c.loop-done-test.true c.step.ensures c.in_ok-after.was c.if-last-limits.true c.report.ensures
 
 pub loop-done-preserved : goal.loop-done-preserved
-loop-done-preserved c = iterating_on _ c.requires c.loop-done.invariant c.loop-done-test.true c.step.ensures c.in_ok-after.was c.if-last-threshold.false
+loop-done-preserved c = iterating_on _ c.requires c.loop-done.invariant c.loop-done-test.true c.step.ensures c.in_ok-after.was c.if-last-limits.false
 
 pub returns-in_err-after : goal.returns-in_err-after
 returns-in_err-after c =

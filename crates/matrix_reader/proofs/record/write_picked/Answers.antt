@@ -17,17 +17,8 @@ offset_bounds-words-i c = omega (arith, c.wide-i.ensures, c.requires.below c.loo
 pub bounds-words-i : goal.bounds-words-i
 bounds-words-i c = omega (arith, c.wide-i.ensures, c.requires.below c.loop-k.k (omega arith))
 
-pub overflow_add-to : goal.overflow_add-to
-overflow_add-to c = omega (arith, c.requires.room, c.loop-k.invariant.1.size)
-
-pub put_u32-requires : goal.put_u32-requires
-put_u32-requires c = omega (arith, c.requires.room, c.loop-k.invariant.1.size)
-
 pub loop-k-preserved : goal.loop-k-preserved
 loop-k-preserved c = (omega arith, flat_on bytes4 0 4 _ (map (idx c.args.words.now) c.args.order.now) c.loop-k.invariant.1 (omega (arith, length-map c.args.order.now (idx c.args.words.now))) (picked bytes4 (idx c.args.words.now) 0 4 _ c.args.order.now c.loop-k.k (omega arith) c.wide-i.ensures c.from.ensures c.put_u32.ensures))
-
-pub shape_of-out : goal.shape_of-out
-shape_of-out c = c.loop-k.invariant.1.size
 
 pub returns : goal.returns
 returns c = picked_end bytes4 (idx c.args.words.now) 4 _ c.args.order.now (flat_end bytes4 0 4 _ (map (idx c.args.words.now) c.args.order.now) c.loop-k.invariant.1 (omega (arith, length-map c.args.order.now (idx c.args.words.now))) (omega (arith, length-map c.args.order.now (idx c.args.words.now))))

@@ -19,17 +19,8 @@ offset_bounds-floats-i c = omega (arith, c.wide-i.ensures, c.requires.below c.lo
 pub bounds-floats-i : goal.bounds-floats-i
 bounds-floats-i c = omega (arith, c.wide-i.ensures, c.requires.below c.loop-k.k (omega arith))
 
-pub overflow_add-to : goal.overflow_add-to
-overflow_add-to c = omega (arith, c.requires.room, c.loop-k.invariant.1.size)
-
-pub put_f64-requires : goal.put_f64-requires
-put_f64-requires c = omega (arith, c.requires.room, c.loop-k.invariant.1.size)
-
 pub loop-k-preserved : goal.loop-k-preserved
 loop-k-preserved c = (omega arith, flat_on float_bytes nan 8 _ (map (at c.args.floats.now) c.args.order.now) c.loop-k.invariant.1 (omega (arith, length-map c.args.order.now (at c.args.floats.now))) (picked float_bytes (at c.args.floats.now) nan 8 _ c.args.order.now c.loop-k.k (omega arith) c.wide-i.ensures refl c.put_f64.ensures))
-
-pub shape_of-out : goal.shape_of-out
-shape_of-out c = c.loop-k.invariant.1.size
 
 pub returns : goal.returns
 returns c = picked_end float_bytes (at c.args.floats.now) 8 _ c.args.order.now (flat_end float_bytes nan 8 _ (map (at c.args.floats.now) c.args.order.now) c.loop-k.invariant.1 (omega (arith, length-map c.args.order.now (at c.args.floats.now))) (omega (arith, length-map c.args.order.now (at c.args.floats.now))))

@@ -3,16 +3,8 @@ use native.Mathlib.Omega.{arith}
 use Rattle.matrix_writer.proofs.Laying.{written_one, row_count_start, row_count_few, row_count_on, row_count_end}
 use Rattle.matrix_writer.proofs.lines.count_row.Goals as goal
 
-pub range_at-first-requires : goal.range_at-first-requires
-range_at-first-requires c =
-    record { sizes_fit = c.requires.sizes_fit; rows_in = c.requires.rows_in; row_lt_rows = c.requires.row_lt_rows }
-
 pub loop-e-init : goal.loop-e-init
 loop-e-init c = row_count_start _ _ _ c.range_at-first.ensures
-
-pub count_entry-n-requires : goal.count_entry-n-requires
-count_entry-n-requires c =
-    record { sizes_fit = c.requires.sizes_fit; e_lt_entries = omega (arith, c.range_at-first.ensures.within) }
 
 pub overflow_add-n : goal.overflow_add-n
 overflow_add-n c = omega (arith, row_count_few _ _ _ c.loop-e.invariant, written_one _ _ _ _ c.count_entry-n.ensures, c.range_at-first.ensures.within)

@@ -3,8 +3,8 @@ use Rattle.matrix_writer.proofs.Laying.{CountTo}
 use Rattle.matrix_writer.specs.Turns.{written_from}
 use Rattle.matrix_writer.specs.Text.{row_length}
 use Rattle.store.specs.Region.{idx}
-use Rattle.matrix_writer.specs.Contract.{sized_matrix}
+use Rattle.matrix_writer.specs.Sized.{matrix_in}
 use Rattle.matrix_writer.proofs.lines.count_row.Given as goal
 
 abbrev pub invariant-loop-e : goal.invariant-loop-e
-invariant-loop-e l = CountTo (written_from l.symmetric (sized_matrix l.b l.rows l.entries) l.row) (row_length (sized_matrix l.b l.rows l.entries) l.row) (l.e - idx (sized_matrix l.b l.rows l.entries).offsets l.row) l.n
+invariant-loop-e l = CountTo (written_from l.source.symmetric (matrix_in l.source.arrays) l.row) (row_length (matrix_in l.source.arrays) l.row) (l.e - idx (matrix_in l.source.arrays).offsets l.row) l.n

@@ -7,12 +7,8 @@ use Rattle.matrix_writer.proofs.lines.count_written.Goals as goal
 pub loop-row-init : goal.loop-row-init
 loop-row-init c = count_start _ _
 
-pub count_row-n-requires : goal.count_row-n-requires
-count_row-n-requires c =
-    record { sizes_fit = c.requires.sizes_fit; rows_in = c.requires.rows_in; row_lt_rows = c.loop-row-test.true }
-
 pub overflow_add-n : goal.overflow_add-n
-overflow_add-n c = omega (arith, rows_fit _ _ c.requires.rows_in c.loop-row.invariant c.loop-row-test.true c.count_row-n.ensures)
+overflow_add-n c = omega (arith, rows_fit _ _ c.args.source.now.rows_in c.loop-row.invariant c.loop-row-test.true c.count_row-n.ensures)
 
 pub loop-row-preserved : goal.loop-row-preserved
 loop-row-preserved c = count_on c.loop-row.invariant c.loop-row-test.true c.count_row-n.ensures

@@ -13,8 +13,5 @@ put_byte-next-requires c = omega (arith, bytes_early c.loop-byte.invariant.1)
 pub loop-byte-preserved : goal.loop-byte-preserved
 loop-byte-preserved c = (laid_size c.put_byte-next.ensures ∙ c.loop-byte.invariant.0, bytes_on c.loop-byte.invariant.1 c.loop-byte-test.true refl c.put_byte-next.ensures)
 
-pub shape_of-out : goal.shape_of-out
-shape_of-out c = c.loop-byte.invariant.0
-
 pub returns : goal.returns
 returns c = bytes_all c.loop-byte.invariant.1 c.loop-byte-test.false

@@ -10,13 +10,10 @@ loop-row-init c = (refl, laid_start _ _)
 
 pub put_row-next-requires : goal.put_row-next-requires
 put_row-next-requires c =
-    record { sizes_fit = c.requires.sizes_fit; rows_in = c.requires.rows_in; row_lt_rows = (c.loop-row-test.true, omega (arith, rows_early _ _ c.requires.rows_in c.loop-row.invariant.1 c.loop-row-test.true)) }
+    (c.loop-row-test.true, omega (arith, rows_early _ _ c.args.source.now.rows_in c.loop-row.invariant.1 c.loop-row-test.true, c.args.source.now.arrays.fits.short))
 
 pub loop-row-preserved : goal.loop-row-preserved
 loop-row-preserved c = (laid_size c.put_row-next.ensures ∙ c.loop-row.invariant.0, laid_step c.loop-row.invariant.1 c.loop-row-test.true c.put_row-next.ensures)
-
-pub shape_of-out : goal.shape_of-out
-shape_of-out c = c.loop-row.invariant.0
 
 pub returns : goal.returns
 unfolding triplets

@@ -8,14 +8,6 @@ use Rattle.matrix_writer.proofs.questions.columns_rise.Goals as goal
 pub loop-row-init : goal.loop-row-init
 loop-row-init c = passed_start _ _
 
-pub range_at-first-requires : goal.range_at-first-requires
-range_at-first-requires c =
-    record { sizes_fit = c.requires.sizes_fit; rows_in = c.requires.rows_in; row_lt_rows = c.loop-row-test.true }
-
-pub row_rises-requires : goal.row_rises-requires
-row_rises-requires c =
-    record { sizes_fit = c.requires.sizes_fit; span = record { order = c.range_at-first.ensures.order; within = c.range_at-first.ensures.within } }
-
 pub loop-row-preserved : goal.loop-row-preserved
 loop-row-preserved c = range_on _ c.loop-row.invariant c.loop-row-test.true c.range_at-first.ensures c.row_rises.ensures c.if-not-row_rises.false
 

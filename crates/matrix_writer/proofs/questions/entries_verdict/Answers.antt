@@ -8,10 +8,6 @@ use Rattle.matrix_writer.proofs.questions.entries_verdict.Goals as goal
 pub loop-row-init : goal.loop-row-init
 loop-row-init c = asking_start _ _
 
-pub row_verdict-requires : goal.row_verdict-requires
-row_verdict-requires c =
-    record { sizes_fit = c.requires.sizes_fit; sound = c.requires.sound; row_lt_rows = c.loop-row-test.true }
-
 pub returns-in_err-row_verdict : goal.returns-in_err-row_verdict
 unfolding entries_asked
 returns-in_err-row_verdict c =

@@ -5,7 +5,7 @@ use Rattle.matrix_writer.proofs.questions.has_mirror.Goals as goal
 
 pub lower_bound-d-requires : goal.lower_bound-d-requires
 lower_bound-d-requires c =
-    record { sizes_fit = c.requires.sizes_fit; span = record { order = c.range_at-first.ensures.order; within = c.range_at-first.ensures.within }; rises = range_rises c.requires.sound c.requires.column_lt_rows.0 c.range_at-first.ensures }
+    record { span = record { order = c.range_at-first.ensures.order; within = c.range_at-first.ensures.within }; rises = range_rises c.requires.sound c.requires.column_lt_rows.0 c.range_at-first.ensures }
 
 pub returns-then-last-d : goal.returns-then-last-d
 returns-then-last-d c = mirror_past _ _ _ _ c.range_at-first.ensures c.lower_bound-d.ensures c.if-last-d.true

@@ -6,13 +6,13 @@ use Rattle.std.proofs.Common.{rules}
 use Rattle.std.proofs.lemmas.Iterator.{cases_from_all, YieldsList-from_range}
 use Rattle.csr.specs.Questions.{row_ok, entry_ok}
 use Rattle.csr.proofs.csr.Chains.{each_from}
-use Rattle.matrix_writer.specs.Contract.{sized_matrix}
+use Rattle.matrix_writer.specs.Sized.{matrix_in}
 use Rattle.matrix_writer.proofs.questions.row_rises.Goals as goal
 
 pub returns : goal.returns
 unfolding row_ok
 returns c =
-    let test = entry_ok c.args.rows (sized_matrix c.args.b.now c.args.rows c.args.entries).columns c.args.last in
+    let test = entry_ok c.args.arrays.now.rows (matrix_in c.args.arrays.now).columns c.args.last in
     let by_call = cases_from_all _ _ _ (λ x. test x ≡ true) (λ x. test x ≡ false) c.all.ensures.ran (YieldsList-from_range _ _ _ refl refl)
     (λ x q k. search (rules, tests)) (λ x q k. search (rules, tests)) in
     each_from test _ _ _ _ (λ k. refl) by_call

@@ -4,16 +4,12 @@ use Rattle.refusal.proofs.Outcome.{passed_up}
 use Rattle.matrix_writer.proofs.Record.{stands_at_lem, row_begin, row_go, row_stop, row_end}
 use Rattle.matrix_writer.proofs.questions.row_verdict.Goals as goal
 
-pub range_at-first-requires : goal.range_at-first-requires
-range_at-first-requires c =
-    record { sizes_fit = c.requires.sizes_fit; rows_in = c.requires.sound.rows_in; row_lt_rows = c.requires.row_lt_rows }
-
 pub loop-e-init : goal.loop-e-init
 loop-e-init c = row_begin _ _ _ c.range_at-first.ensures
 
 pub entry_verdict-requires : goal.entry_verdict-requires
 entry_verdict-requires c =
-    record { sizes_fit = c.requires.sizes_fit; sound = c.requires.sound; stands_in = stands_at_lem c.requires.row_lt_rows c.range_at-first.ensures c.loop-e.auto.e c.loop-e-test.true }
+    record { sound = c.requires.sound; stands_in = stands_at_lem c.requires.row_lt_rows c.range_at-first.ensures c.loop-e.auto.e c.loop-e-test.true }
 
 pub returns-in_err-entry_verdict : goal.returns-in_err-entry_verdict
 returns-in_err-entry_verdict c =

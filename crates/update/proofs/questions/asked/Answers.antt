@@ -12,7 +12,7 @@ pub take_faces-requires : goal.take_faces-requires
 take_faces-requires c =
     let at_same = c in
     let start = at_same in
-    let pair = mirrors_ready start.args.f.now start.args.offsets.now start.args.columns.now start.args.values.now start.requires
+    let pair = mirrors_ready start.args.f.now start.args.x.offsets.now start.args.x.columns.now start.args.x.values.now start.requires
     at_same.place_at-p.ensures at_same.same_pattern.ensures c.if-not-same_pattern.false in
     record { mirrors_ok = pair.0; faces_in_bounds = pair.1 }
 
@@ -21,7 +21,7 @@ returns c =
     let at_take = c in
     let at_same = at_take in
     let start = at_same in
-    asked_passed start.args.f.now start.args.offsets.now start.args.columns.now start.args.values.now start.requires
+    asked_passed start.args.f.now start.args.x.offsets.now start.args.x.columns.now start.args.x.values.now start.requires
     at_same.place_at-p.ensures at_same.same_pattern.ensures at_take.if-not-same_pattern.false
     at_take.take_faces.ensures c.if-not-take_faces.false
 
@@ -30,7 +30,7 @@ returns-then-not-take_faces c =
     let at_take = c in
     let at_same = at_take in
     let start = at_same in
-    asked_asymmetric start.args.f.now start.args.offsets.now start.args.columns.now start.args.values.now start.requires
+    asked_asymmetric start.args.f.now start.args.x.offsets.now start.args.x.columns.now start.args.x.values.now start.requires
     at_same.place_at-p.ensures at_same.same_pattern.ensures at_take.if-not-same_pattern.false
     at_take.take_faces.ensures c.if-not-take_faces.true
 
@@ -38,5 +38,5 @@ pub returns-then-not-same_pattern : goal.returns-then-not-same_pattern
 returns-then-not-same_pattern c =
     let at_same = c in
     let start = at_same in
-    asked_other start.args.f.now start.args.offsets.now start.args.columns.now start.args.values.now start.requires
+    asked_other start.args.f.now start.args.x.offsets.now start.args.x.columns.now start.args.x.values.now start.requires
     at_same.place_at-p.ensures at_same.same_pattern.ensures c.if-not-same_pattern.true

@@ -18,7 +18,7 @@ returns-in_err-asked c o by under =
     let at-start = at-asked in
     let start = at-start in
     rw (passed_up _ c.from_residual.ensures.1 ∙ sym c.in_err-asked.was)
-    (attempt_asked_no start.args.f.now start.requires o start.args.offsets.now start.args.columns.now start.args.values.now
+    (attempt_asked_no start.args.f.now start.requires o start.args.x.offsets.now start.args.x.columns.now start.args.x.values.now
     at-start.shadow_start-image.ensures at-asked.asked.ensures (rw c.in_err-asked.was refl))
 
 pub shadow-requires : goal.shadow-requires
@@ -29,9 +29,9 @@ shadow-requires c =
     let start = at-start in
     let pass : is_refused c.asked.result ≡ false = rw c.in_ok-asked.was refl in
     record {
-      shadow_ok = shadow_ready start.requires at-start.shadow_start-image.ensures start.args.offsets.now start.args.columns.now start.args.values.now
+      shadow_ok = shadow_ready start.requires at-start.shadow_start-image.ensures start.args.x.offsets.now start.args.x.columns.now start.args.x.values.now
           at-asked.asked.ensures pass at-asked.asked.ensures.kept.size;
-      faces_ready = faces_ready start.requires at-start.shadow_start-image.ensures start.args.offsets.now start.args.columns.now start.args.values.now
+      faces_ready = faces_ready start.requires at-start.shadow_start-image.ensures start.args.x.offsets.now start.args.x.columns.now start.args.x.values.now
           at-asked.asked.ensures pass;
     }
 
@@ -43,7 +43,7 @@ returns-in_err-shadow c o by under =
     let at-start = at-asked in
     let start = at-start in
     rw (passed_up _ c.from_residual-in_err-shadow.ensures.1 ∙ sym c.in_err-shadow.was)
-    (attempt_no start.args.f.now start.requires o start.args.offsets.now start.args.columns.now start.args.values.now
+    (attempt_no start.args.f.now start.requires o start.args.x.offsets.now start.args.x.columns.now start.args.x.values.now
     at-start.shadow_start-image.ensures at-asked.asked.ensures (rw c.in_ok-asked.was refl)
     (at-shadow.shadow.ensures o by) (rw c.in_err-shadow.was refl))
 
@@ -75,7 +75,7 @@ returns c o by under =
     let at-start = at-asked in
     let start = at-start in
     rw c.in_ok-shadow.was at
-    (attempt_yes start.args.f.now start.requires o start.args.offsets.now start.args.columns.now start.args.values.now
+    (attempt_yes start.args.f.now start.requires o start.args.x.offsets.now start.args.x.columns.now start.args.x.values.now
     at-start.shadow_start-image.ensures at-asked.asked.ensures (rw c.in_ok-asked.was refl)
     (at-shadow.shadow.ensures o by) (rw c.in_ok-shadow.was refl) at-commit.commit.ensures
     under at-sums.sums.ensures)

@@ -1,7 +1,8 @@
 -- `levels::renew` meets its contract: the finest level from the values that are given, and the levels after it.
 use Rattle.refusal.proofs.Outcome.{passed_up}
 use mathlib.Core.Path.{refl, sym, ◌∙◌}
-use Rattle.update_levels.proofs.levels.Renewing.{start_place, load_room, loaded_rest, loaded_done, first_words, first_next, first_ready, faces_ready, first_no, first_rest, first_on}
+use Rattle.update_levels.proofs.levels.Renewing.{start_place, load_room, loaded_rest, loaded_done, first_words, first_next, first_turn, first_many, faces_ready, first_no, first_rest, first_on}
+use Rattle.update_levels.proofs.level.Levels.{one_given}
 use Rattle.update_levels.proofs.levels.renew.Goals as goal
 
 pub place_at-p-requires : goal.place_at-p-requires
@@ -24,26 +25,31 @@ words_end-a-requires c = let start = c in first_words start.args.given.now start
 pub place_at-t-requires : goal.place_at-t-requires
 place_at-t-requires c = let start = c in first_next start.args.given.now start.args.f.now start.requires.start_ok c.place_at-p.ensures c.if-levels-lt2.false c.words_end-a.ensures
 
-pub first_turn-requires : goal.first_turn-requires
-first_turn-requires c =
+pub turn-requires : goal.turn-requires
+turn-requires c =
     let start = c in
-    record { first_ok = first_ready start.args.given.now start.args.f.now start.requires.start_ok c.place_at-p.ensures c.if-levels-lt2.false c.words_end-a.ensures c.place_at-t.ensures; faces_ready = faces_ready start.args.given.now start.args.f.now start.requires.start_ok c.place_at-p.ensures start.requires.faces_ready }
+    let given = start.args.given.now in
+    record {
+      turn_ok = first_turn given start.args.f.now start.requires.start_ok c.place_at-p.ensures c.if-levels-lt2.false c.words_end-a.ensures c.place_at-t.ensures;
+      many = one_given _ (first_many given start.args.f.now start.requires.start_ok c.place_at-p.ensures);
+      faces_ready = one_given _ (faces_ready given start.args.f.now start.requires.start_ok c.place_at-p.ensures start.requires.faces_ready);
+    }
 
-pub returns-in_err-first_turn : goal.returns-in_err-first_turn
-returns-in_err-first_turn c o by =
+pub returns-in_err-turn : goal.returns-in_err-turn
+returns-in_err-turn c o by =
     let start = c in
-    rw (passed_up _ c.from_residual.ensures.1 ∙ sym c.in_err-first_turn.was)
+    rw (passed_up _ c.from_residual.ensures.1 ∙ sym c.in_err-turn.was)
     (first_no start.args.given.now start.args.f.now start.requires.start_ok c.place_at-p.ensures c.if-levels-lt2.false c.words_end-a.ensures c.place_at-t.ensures
-    c.first_turn.ensures (rw c.in_err-first_turn.was refl) o by)
+    c.turn.ensures (rw c.in_err-turn.was refl) o by)
 
 pub renew_rest-requires-2 : goal.renew_rest-requires-2
 renew_rest-requires-2 c =
     let start = c in
     first_rest start.args.given.now start.args.f.now start.requires.start_ok c.place_at-p.ensures c.if-levels-lt2.false c.words_end-a.ensures c.place_at-t.ensures
-    c.first_turn.ensures c.first_turn.auto.f
+    c.turn.ensures c.turn.auto.f
 
 pub returns : goal.returns
 returns c o by =
     let start = c in
     first_on start.args.given.now start.args.f.now start.requires.start_ok c.place_at-p.ensures c.if-levels-lt2.false c.words_end-a.ensures c.place_at-t.ensures
-    c.first_turn.ensures (rw c.in_ok-first_turn.was refl) c.renew_rest-2.ensures o by
+    c.turn.ensures (rw c.in_ok-turn.was refl) c.renew_rest-2.ensures o by

@@ -2,6 +2,7 @@
 use Rattle.refusal.proofs.Outcome.{passed_up}
 use mathlib.Core.Path.{refl, sym, ◌∙◌}
 use Rattle.update_levels.proofs.levels.Renewing.{underway_start, underway_few, underway_header, underway_words, underway_next, underway_turn, underway_no, underway_on, underway_last, underway_end}
+use Rattle.update_levels.proofs.level.Levels.{none_given}
 use native.Mathlib.Omega.{arith}
 use borrow.Author.Rules.{rules}
 use Rattle.update_levels.proofs.levels.renew_rest.Goals as goal
@@ -20,7 +21,11 @@ place_at-t-requires c = underway_next c.loop-level.invariant c.loop-level-test.t
 
 pub turn-requires : goal.turn-requires
 turn-requires c =
-    underway_turn c.loop-level.invariant c.loop-level-test.true c.words_end-a.ensures c.place_at-t.ensures
+    record {
+      turn_ok = underway_turn c.loop-level.invariant c.loop-level-test.true c.words_end-a.ensures c.place_at-t.ensures;
+      many = none_given _;
+      faces_ready = none_given _;
+    }
 
 pub returns-in_err-turn : goal.returns-in_err-turn
 returns-in_err-turn c =
@@ -47,8 +52,8 @@ offset_bounds-w-a c = omega (arith, underway_header c.loop-level.invariant)
 pub bounds-w-a : goal.bounds-w-a
 bounds-w-a c = omega (arith, underway_header c.loop-level.invariant)
 
-pub renew_level-requires : goal.renew_level-requires
-renew_level-requires c = underway_last c.loop-level.invariant c.loop-level-test.false c.wide-coupled.ensures
+pub last_level-requires : goal.last_level-requires
+last_level-requires c = underway_last c.loop-level.invariant c.loop-level-test.false c.wide-coupled.ensures
 
 pub returns : goal.returns
-returns c = underway_end c.loop-level.invariant c.loop-level-test.false c.wide-coupled.ensures c.renew_level.ensures
+returns c = underway_end c.loop-level.invariant c.loop-level-test.false c.wide-coupled.ensures c.last_level.ensures

@@ -1,9 +1,7 @@
 -- `take_solve` meets its contract.
-use Rattle.press_run.proofs.Taking.{solve_done, solve_refused}
+use mathlib.Core.Path.{◌∙◌}
+use Rattle.press_run.proofs.Taking.{solve_kept}
 use Rattle.press_run.proofs.run.Run.take_solve.Goals as goal
 
-pub returns-in-Ok : goal.returns-in-Ok
-returns-in-Ok c = search (solve_done)
-
-pub returns-in-Err : goal.returns-in-Err
-returns-in-Err c = search (solve_refused)
+pub returns : goal.returns
+returns c = c.go_on.ensures ∙ solve_kept c.args.self c.args.solved

@@ -1,9 +1,7 @@
 -- `take_update` meets its contract.
-use Rattle.press_run.proofs.Taking.{update_done, update_refused}
+use mathlib.Core.Path.{◌∙◌}
+use Rattle.press_run.proofs.Taking.{update_kept}
 use Rattle.press_run.proofs.run.Run.take_update.Goals as goal
 
-pub returns-in-Ok : goal.returns-in-Ok
-returns-in-Ok c = search (update_done)
-
-pub returns-in-Err : goal.returns-in-Err
-returns-in-Err c = search (update_refused)
+pub returns : goal.returns
+returns c = c.go_on.ensures ∙ update_kept c.args.self c.args.updated

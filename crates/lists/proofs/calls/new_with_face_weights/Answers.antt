@@ -1,6 +1,0 @@
--- `lists::calls::new_with_face_weights` meets its contract.
-use Rattle.lists.proofs.lent.Numbering.{build_over}
-use Rattle.lists.proofs.calls.new_with_face_weights.Goals as goal
-
-pub returns : goal.returns
-returns c = search (build_over)

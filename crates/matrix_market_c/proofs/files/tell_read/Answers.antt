@@ -1,8 +1,0 @@
--- `tell_read` gives the length of the record, or the refusal.
-use Rattle.matrix_market_c.proofs.files.tell_read.Goals as goal
-
-pub returns-in-Ok : goal.returns-in-Ok
-returns-in-Ok c = rw c.in-Ok.is
-
-pub returns-in-Err : goal.returns-in-Err
-returns-in-Err c = rw c.in-Err.is

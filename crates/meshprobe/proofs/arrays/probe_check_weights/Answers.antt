@@ -1,7 +1,0 @@
--- `probe_check_weights` gives the verdict of `csr::check_weights` as a number.
-use mathlib.Core.Path.{ap, ◌∙◌}
-use Rattle.meshprobe.specs.Mesh.{answer_of}
-use Rattle.meshprobe.proofs.arrays.probe_check_weights.Goals as goal
-
-pub returns : goal.returns
-returns c = c.unplaced.ensures ∙ ap answer_of c.check_weights.ensures
