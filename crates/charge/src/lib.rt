@@ -4,6 +4,7 @@
 ghost use Rattle.std.specs.Prelude.{◌+◌, ◌*◌, ◌≡◌};
 ghost use Rattle.charge.specs.Charge.{capped, words_for, floats_for, sizes_for};
 
+use float::{saturating_add, saturating_mul};
 use options::MultigridOptions;
 
 // Elements of the stores: u32 words, f64 floats, records of statistics.
@@ -19,16 +20,16 @@ pub struct StoreSizes {
 fn priced(by_row: u64, rows: u64, by_entry: u64, entries: u64, besides: u64) -> u64
     ensures { result ≡ capped (by_row * rows + by_entry * entries + besides) }
 {
-    let of_rows = by_row.saturating_mul(rows);
-    let of_entries = by_entry.saturating_mul(entries);
-    of_rows.saturating_add(of_entries).saturating_add(besides)
+    let of_rows = saturating_mul(by_row, rows);
+    let of_entries = saturating_mul(by_entry, entries);
+    saturating_add(saturating_add(of_rows, of_entries), besides)
 }
 
 // A fixed charge, and that of so many levels.
 fn with_levels(fixed: u64, levels: u64, level: u64) -> u64
     ensures { result ≡ capped (fixed + levels * level) }
 {
-    fixed.saturating_add(levels.saturating_mul(level))
+    saturating_add(fixed, saturating_mul(levels, level))
 }
 
 // The words of so many levels.
@@ -44,13 +45,8 @@ fn words_for(rows: u64, entries: u64, levels: u64) -> u64
 fn floats_for(options: MultigridOptions, rows: u64, entries: u64, levels: u64) -> u64
     ensures { result ≡ capped (floats_for options rows entries levels) }
 {
-    let vectors = options
-        .krylov_dimension
-        .saturating_mul(2)
-        .saturating_add(12);
-    let factor = options
-        .coarsest_cells
-        .saturating_mul(options.coarsest_cells);
+    let vectors = saturating_add(12, saturating_mul(2, options.krylov_dimension));
+    let factor = saturating_mul(options.coarsest_cells, options.coarsest_cells);
     let fixed = priced(vectors, rows, 8, entries, factor);
     let level = priced(20, rows, 4, entries, 0);
     with_levels(fixed, levels, level)

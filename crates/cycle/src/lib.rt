@@ -55,7 +55,7 @@ fn count(t: &mut [u64; 512], depth: u64, counter: Counter, more: u64)
     ensures { t.new ≡ count_of (4 * depth + place_of counter) more t.old }
 {
     let i = (4 * depth + counter.place()) as usize;
-    t[i] = t[i].saturating_add(more);
+    t[i] = float::saturating_add(t[i], more);
 }
 
 // The last level: every row by its diagonal, the coupled ones by the factor, which takes no iteration.

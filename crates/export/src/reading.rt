@@ -46,7 +46,8 @@ pub fn read_options(o: OptionsForC) -> MultigridOptions
     }
 }
 
-// The handle of a struct.
+// The handle of a struct. Kept out of line: what it reads would else stand in the frames of the calls.
+#[inline(never)]
 pub fn read_handle(h: HierarchyForC) -> Handle
     ensures { result ≡ handle_of h }
 {

@@ -69,7 +69,7 @@ fn walk(w: &[u32], levels: u64) -> Result<(), Stop>
 fn controls_sound(h: Handle) -> bool
     ensures { result ≡ controls_sound h }
 {
-    options::check_controls(h.options).is_ok()
+    !refusal::refused(options::check_controls(h.options))
 }
 
 // They do, and it has no level, no row and no entry.

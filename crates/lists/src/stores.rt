@@ -1,5 +1,7 @@
 // What calls are lent, and what they leave in the stores: where the levels of a build end, and the checksums of a list.
 ghost use Rattle.std.specs.Prelude.{◌≤◌};
+ghost use Rattle.store.specs.Region.{Wrote};
+ghost use Rattle.store.specs.Vector.{filled};
 
 use crate::reading::Number;
 use crate::source::{Matrix, Source};
@@ -10,9 +12,9 @@ use solver::{LinearSolveReport, LinearSolverOptions};
 
 // The sum of the numbers so far and the sum of these sums, modulo 2^64: it tells numbers that have changed places apart.
 #[derive(Clone, Copy)]
-struct Sums {
-    sum: u64,
-    total: u64,
+pub struct Sums {
+    pub sum: u64,
+    pub total: u64,
 }
 
 impl Sums {
@@ -52,6 +54,22 @@ impl Extent {
     };
 }
 
+// What each word, float and number of the stores holds before a build.
+#[derive(Clone, Copy)]
+pub struct Noise {
+    pub word: u32,
+    pub float: f64,
+    pub number: u64,
+}
+
+impl Noise {
+    pub const LOUD: Noise = Noise {
+        word: 0xa5a5_a5a5,
+        float: -1.5e99,
+        number: 0xa5a5_a5a5_a5a5_a5a5,
+    };
+}
+
 // The two stores and the statistics of a program, and how much of each its calls are lent, where there is so much.
 #[derive(Drop)]
 pub struct Stores {
@@ -66,12 +84,24 @@ impl Stores {
     // Full of noise, so that a call that reads what it was not given shows.
     pub fn noise() -> Stores {
         Stores {
-            words: [0xa5a5_a5a5; 8192],
-            floats: [-1.5e99; 8192],
-            statistics: [0xa5a5_a5a5_a5a5_a5a5; 640],
+            words: [Noise::LOUD.word; 8192],
+            floats: [Noise::LOUD.float; 8192],
+            statistics: [Noise::LOUD.number; 640],
             lent: Extent::NONE,
             counters: 0,
         }
+    }
+
+    // Full of noise once more. A program keeps its stores from record to record and fills them in place: a new value is copied, which takes
+    // as long as a small build.
+    pub fn fill(&mut self, noise: Noise)
+        ensures words { Wrote 0 8192 (filled 8192 noise.word) self.old.words self.new.words }
+        ensures floats { Wrote 0 8192 (filled 8192 noise.float) self.old.floats self.new.floats }
+        ensures statistics { Wrote 0 640 (filled 640 noise.number) self.old.statistics self.new.statistics }
+    {
+        store::fill(&mut self.words, 0, 8192, noise.word);
+        store::fill(&mut self.floats, 0, 8192, noise.float);
+        store::fill(&mut self.statistics, 0, 640, noise.number);
     }
 
     // The statistics that are lent.

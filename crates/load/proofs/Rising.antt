@@ -16,6 +16,11 @@ between_on lo mid hi [] r a b h k = between_wide mid hi lo hi r a (omega arith) 
 between_on lo mid hi (x ∷ l) r a b h k =
     let p = h.0 in let q = h.1 in (p, omega arith, between_on (x + 1) mid hi l r (omega arith) b h.2 k)
 
+-- An element that is there or not.
+pub between_optional : (lo hi : ℕ) (there : Bool) (x : ℕ) → (there ≡ true → lo ≤ x) → (there ≡ true → x < hi) → Between lo hi (optional there x)
+between_optional lo hi true x a b = (a refl, b refl, tt)
+between_optional lo hi false x a b = tt
+
 -- Each element lies between the bounds,
 pub between_at : (lo hi k : ℕ) (l : List ℕ) → Between lo hi l → k < length l → (lo ≤ idx l k) × (idx l k < hi)
 between_at lo hi k [] h n = absurd (omega arith)

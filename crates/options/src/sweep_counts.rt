@@ -3,6 +3,7 @@ ghost use Rattle.std.specs.Prelude.{◌≡◌, min};
 ghost use Rattle.options.specs.Counts.{extra_of, pre_sweeps_of, post_sweeps_of};
 
 use crate::options::MultigridOptions;
+use float::{saturating_add, saturating_mul};
 
 // Sweeps added for each level below the second.
 fn extra_sweeps_at(o: MultigridOptions, depth: u64) -> u64
@@ -11,7 +12,7 @@ fn extra_sweeps_at(o: MultigridOptions, depth: u64) -> u64
     if depth == 0 {
         return 0;
     }
-    o.sweep_level_multiplier.saturating_mul(depth - 1)
+    saturating_mul(o.sweep_level_multiplier, depth - 1)
 }
 
 // None on the finest level, and none at all where the control is zero.
@@ -26,7 +27,7 @@ pub fn pre_sweeps_at(o: MultigridOptions, depth: u64) -> u64
     } else {
         extra_sweeps_at(o, depth)
     };
-    o.pre_sweeps.saturating_add(extra).min(o.max_sweeps)
+    saturating_add(o.pre_sweeps, extra).min(o.max_sweeps)
 }
 
 // The finest level has a count of its own; on the others the extra sweeps come even where the control is zero.
@@ -37,5 +38,5 @@ pub fn post_sweeps_at(o: MultigridOptions, depth: u64) -> u64
         return o.finest_sweeps;
     }
     let extra = extra_sweeps_at(o, depth);
-    o.post_sweeps.saturating_add(extra).min(o.max_sweeps)
+    saturating_add(o.post_sweeps, extra).min(o.max_sweeps)
 }

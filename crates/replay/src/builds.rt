@@ -1,6 +1,6 @@
 // A list of builds beside the Rust's answers.
 use lists::kinds::Answer;
-use lists::stores::{Extent, sum, view_end};
+use lists::stores::{Extent, Noise, sum, view_end};
 use lists::{Reader, Stores, kinds, reading};
 use options::Handle;
 use refusal::Refusal;
@@ -71,14 +71,14 @@ fn agrees(input: &mut Reader, a: Answer, stores: &Stores) -> bool {
 }
 
 // The next build of the list: it is counted under its answer. The stores are full of noise before.
-fn next_build(rt: &impl Input, counts: &mut [u64; 193]) -> io::Result<bool> {
+fn next_build(rt: &impl Input, stores: &mut Stores, counts: &mut [u64; 193]) -> io::Result<bool> {
     let mut text = [0u8; 65536];
     let size = reading::record(rt, &mut text)?;
     let mut input = Reader::over(&text, size);
-    let mut stores = Stores::noise();
-    let a = told(lists::from_text(&mut input, &mut stores));
+    stores.fill(Noise::LOUD);
+    let a = told(lists::from_text(&mut input, stores));
     kinds::count(counts, a);
-    Ok(agrees(&mut input, a, &stores))
+    Ok(agrees(&mut input, a, stores))
 }
 
 // The lines that the program writes for the list.
@@ -90,10 +90,11 @@ fn report(rt: &impl Print, counts: &[u64; 193], builds: u64, differences: u64) -
 // All builds of the list: a line for each kind of answer, then how many there are and how many differ.
 pub fn replay(rt: &(impl Input + Print)) -> io::Result<()> {
     let builds = reading::length(rt)?;
+    let mut stores = Stores::noise();
     let mut counts = [0u64; 193];
     let mut differences: u64 = 0;
     for _ in 0..builds {
-        if !next_build(rt, &mut counts)? {
+        if !next_build(rt, &mut stores, &mut counts)? {
             differences += 1;
         }
     }

@@ -44,7 +44,9 @@ fn sum_spreads(f: &[f64], n: usize, rhs: usize, product: usize, rowsums: usize, 
     )
 }
 
-// The factor by which the NormalizedL1 norm is divided; a sum that is a NaN gives the floor.
+// The factor by which the NormalizedL1 norm is divided; a sum that is a NaN gives the floor. Kept out of line, so that its frame does not
+// stand under those of a solve.
+#[inline(never)]
 pub fn normalization(
     f: &[f64],
     n: usize,

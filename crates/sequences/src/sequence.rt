@@ -1,5 +1,6 @@
 // A list of sequences beside the Rust's answers.
 use crate::{outcomes, recall};
+use lists::stores::Noise;
 use lists::{Reader, Stores, reading};
 use options::Handle;
 use std::io;
@@ -21,8 +22,8 @@ fn counted(calls: u64, same: bool) -> Tally {
 
 fn sum(a: Tally, b: Tally) -> Tally {
     Tally {
-        calls: a.calls.saturating_add(b.calls),
-        differences: a.differences.saturating_add(b.differences),
+        calls: float::saturating_add(a.calls, b.calls),
+        differences: float::saturating_add(a.differences, b.differences),
     }
 }
 
@@ -44,13 +45,17 @@ fn make_calls(
 
 // The next sequence of the list: a build, and calls with so much of each store as the build got. Where the build refuses there is nothing to
 // call, and that is a difference. The stores are full of noise before.
-fn next_sequence(rt: &impl Input, counts: &mut [u64; 98]) -> io::Result<Tally> {
+fn next_sequence(
+    rt: &impl Input,
+    stores: &mut Stores,
+    counts: &mut [u64; 98],
+) -> io::Result<Tally> {
     let mut text = [0u8; 65536];
     let size = reading::record(rt, &mut text)?;
     let mut input = Reader::over(&text, size);
-    let mut stores = Stores::noise();
-    Ok(match lists::from_text(&mut input, &mut stores) {
-        Ok(handle) => make_calls(&mut input, handle, &mut stores, counts),
+    stores.fill(Noise::LOUD);
+    Ok(match lists::from_text(&mut input, stores) {
+        Ok(handle) => make_calls(&mut input, handle, stores, counts),
         Err(_) => counted(0, false),
     })
 }
@@ -63,10 +68,11 @@ fn report(rt: &impl Print, counts: &[u64; 98], sequences: u64, tally: Tally) -> 
 // All sequences of the list: a line for each kind of answer, then how many there are and how often something differs.
 pub fn replay(rt: &(impl Input + Print)) -> io::Result<()> {
     let sequences = reading::length(rt)?;
+    let mut stores = Stores::noise();
     let mut counts = [0u64; 98];
     let mut tally = counted(0, true);
     for _ in 0..sequences {
-        tally = sum(tally, next_sequence(rt, &mut counts)?);
+        tally = sum(tally, next_sequence(rt, &mut stores, &mut counts)?);
     }
     report(rt, &counts, sequences, tally)
 }

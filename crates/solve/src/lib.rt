@@ -16,7 +16,10 @@ use solver::{LinearSolveReport, LinearSolverOptions, LinearSolverStatus, SolveRu
 pub mod copies;
 pub mod input;
 
-// Questions 22 and 23 on the right-hand side and the start in the store, and the iterations unless the start is good enough.
+// Questions 22 and 23 on the right-hand side and the start in the store, and the iterations unless the start is good enough. Kept out of
+// line, as the copies are and `advance` of `iterations`: with all of a solve in one frame each function that hands on the counters of the
+// levels has a copy of their 4 KB there, and a solve takes twice the stack that docs/FOR-THE-TANK-MAKER.md states.
+#[inline(never)]
 fn attempt(
     h: Handle,
     w: &[u32],

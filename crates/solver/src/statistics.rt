@@ -36,7 +36,7 @@ impl MultigridLevelStatistics {
         ensures { result ≡ add_visits more self }
     {
         MultigridLevelStatistics {
-            visits: self.visits.saturating_add(more),
+            visits: float::saturating_add(self.visits, more),
             ..self
         }
     }
@@ -46,7 +46,7 @@ impl MultigridLevelStatistics {
         ensures { result ≡ add_pre_sweeps more self }
     {
         MultigridLevelStatistics {
-            pre_sweeps: self.pre_sweeps.saturating_add(more),
+            pre_sweeps: float::saturating_add(self.pre_sweeps, more),
             ..self
         }
     }
@@ -56,7 +56,7 @@ impl MultigridLevelStatistics {
         ensures { result ≡ add_post_sweeps more self }
     {
         MultigridLevelStatistics {
-            post_sweeps: self.post_sweeps.saturating_add(more),
+            post_sweeps: float::saturating_add(self.post_sweeps, more),
             ..self
         }
     }
@@ -66,7 +66,7 @@ impl MultigridLevelStatistics {
         ensures { result ≡ add_coarse_iterations more self }
     {
         MultigridLevelStatistics {
-            coarse_iterations: self.coarse_iterations.saturating_add(more),
+            coarse_iterations: float::saturating_add(self.coarse_iterations, more),
             ..self
         }
     }

@@ -24,7 +24,9 @@ pub fn shadow(
     update_levels::renew(w, values, f, options::needs_dic(kind), levels, image)
 }
 
-// The row sums of the finest level, where the norm needs them; else zeros. They end the image.
+// The row sums of the finest level, where the norm needs them; else zeros. They end the image. Kept out of line, so that its frame does not
+// stand under those of the levels.
+#[inline(never)]
 pub fn sums(w: &[u32], f: &mut [f64], norm: MultigridResidualNorm, image: usize)
     requires { SumOk w.now (length f.old) image }
     ensures { Summed w.now f.old f.new norm image }

@@ -1,9 +1,24 @@
 -- What the library's tests of floats decide: whether x is a NaN, whether it is finite, which of two is larger. Assumes nothing.
 use mathlib.Core.Path.{◌≡◌, refl, sym, ap, ◌∙◌, subst}
 use mathlib.Core.Bool.{Bool, true, false, not, cond, ◌&&◌, ◌||◌, false≢true}
-use lib.Dec.{T}
-use lib.Ieee.{Float, nan, inf, fin, lt, is_nan}
+use Prim.Native.Nat.{ℕ, ◌*◌}
+use lib.Dec.{T, eqb, eqb_refl}
+use lib.Ieee.{Float, nan, inf, fin, up, down, lt, ne, is_nan}
+use lib.Ieee.Bits.{is_true}
 use Rattle.float.specs.Float.{is_finite, max_num}
+
+-- A number equals itself in size.
+same_size : (n : ℕ) → not (eqb n n && true) ≡ false
+same_size n = ap (λ (t : Bool). not (t && true)) (is_true (eqb n n) (eqb_refl n))
+
+-- `x != x` asks whether x is a NaN.
+pub ne_self : (x : Float) → ne x x ≡ is_nan x
+unfolding ne is_nan
+ne_self nan = refl
+ne_self (inf true) = refl
+ne_self (inf false) = refl
+ne_self (fin true m e) = same_size (m * up e * down e)
+ne_self (fin false m e) = same_size (m * up e * down e)
 
 -- Where the test says that x is no NaN, it is none.
 pub no_nan : {t : Bool} (x : Float) → t ≡ is_nan x → t ≡ false → T (not (is_nan x))

@@ -9,6 +9,7 @@ use refusal::Refusal;
 use residual_norm::measure;
 
 // The product and the residual of the solution.
+#[inline(never)]
 pub fn renew(w: &[u32], f: &mut [f64], g: Regions)
     requires { VectorsOk w.now (length f.old) g }
     ensures { Renewed w.now f.old f.new g }
@@ -48,7 +49,9 @@ fn move_solution(
     acceleration::correct(f, workspace, used, g.solution, g.residual, pair)
 }
 
-// After a cycle: the solution moved by its correction, and the norm of the true residual, question 23.
+// After a cycle: the solution moved by its correction, and the norm of the true residual, question 23. Kept out of line, as `renew` is, so that
+// its frame does not stand under those of the cycle.
+#[inline(never)]
 fn advance(
     h: Handle,
     w: &[u32],
