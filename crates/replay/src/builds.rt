@@ -90,7 +90,14 @@ fn report(rt: &impl Print, counts: &[u64; 193], builds: u64, differences: u64) -
 // All builds of the list: a line for each kind of answer, then how many there are and how many differ.
 pub fn replay(rt: &(impl Input + Print)) -> io::Result<()> {
     let builds = reading::length(rt)?;
-    let mut stores = Stores::noise();
+    // Zeros, which the first record's noise takes the place of: written out, since a function would hand over a copy.
+    let mut stores = Stores {
+        words: [0; 8192],
+        floats: [0.0; 8192],
+        statistics: [0; 640],
+        lent: Extent::NONE,
+        counters: 0,
+    };
     let mut counts = [0u64; 193];
     let mut differences: u64 = 0;
     for _ in 0..builds {

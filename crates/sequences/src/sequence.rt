@@ -1,6 +1,6 @@
 // A list of sequences beside the Rust's answers.
 use crate::{outcomes, recall};
-use lists::stores::Noise;
+use lists::stores::{Extent, Noise};
 use lists::{Reader, Stores, reading};
 use options::Handle;
 use std::io;
@@ -68,7 +68,14 @@ fn report(rt: &impl Print, counts: &[u64; 98], sequences: u64, tally: Tally) -> 
 // All sequences of the list: a line for each kind of answer, then how many there are and how often something differs.
 pub fn replay(rt: &(impl Input + Print)) -> io::Result<()> {
     let sequences = reading::length(rt)?;
-    let mut stores = Stores::noise();
+    // Zeros, which the first record's noise takes the place of: written out, since a function would hand over a copy.
+    let mut stores = Stores {
+        words: [0; 8192],
+        floats: [0.0; 8192],
+        statistics: [0; 640],
+        lent: Extent::NONE,
+        counters: 0,
+    };
     let mut counts = [0u64; 98];
     let mut tally = counted(0, true);
     for _ in 0..sequences {
